@@ -1,13 +1,13 @@
 -- Events that are added to a graph one after another.
-use Rattle.std.proofs.Common.{arith, rules, ◌≡◌, ℕ, ℤ, Bool, true, false, List, [], ◌∷◌, ◌++◌, length, map, min, max, refl, sym, ap, subst, ◌∙◌, append_assoc, append-nil}
+use Rattle.std.proofs.Common.{arith, rules, ◌≡◌, ℕ, Bool, true, false, List, [], ◌∷◌, ◌++◌, length, map, min, max, refl, sym, ap, subst, ◌∙◌, append_assoc, append-nil}
 use Rattle.std.specs.List.{All}
 use Rattle.std.proofs.lemmas.List.Elements.{All-nil, All-cons, All-append}
 use Rattle.sgb_graph.specs.Descriptions.{IsGraphOf}
-use Rattle.sgb_graph.specs.Graphs.{GraphData, HasNoFields}
-use Rattle.sgb_graph.specs.Events.{Event, HasArcsOf}
-use Rattle.sgb_graph.specs.Growth.{AddsArc, AddsEdge, AddsEvents, KeepsAllButArcs, arc_record, after_lower, first_arc, new_graph, new_vertex, with_id}
+use Rattle.sgb_graph.specs.Graphs.{GraphData, HasNoFields, arc_record}
+use Rattle.sgb_graph.specs.Events.{Event, HasArcsOf, HasEndsBelow}
+use Rattle.sgb_graph.specs.Growth.{AddsEvents, KeepsAllButArcs, after_lower, first_arc, new_graph, new_vertex, with_event, with_id}
 use Rattle.sgb_graph.specs.Made.{no_fields, plain}
-use Rattle.sgb_graph.proofs.EventLemmas.{arc_more, edge_more, new_has_none}
+use Rattle.sgb_graph.proofs.EventLemmas.{event_keeps, event_more, new_has_none}
 
 -- nothing is added
 pub KeepsAll-same : (g : GraphData) → KeepsAllButArcs g g
@@ -30,25 +30,21 @@ KeepsAll-then a b c h k = record {
 pub adds-then : (directed : Bool) (a b c : GraphData) (es fs : List Event) → AddsEvents directed a b es → AddsEvents directed b c fs → AddsEvents directed a c (es ++ fs)
 adds-then directed a b c es fs h k = grind (arith, append_assoc, KeepsAll-then)
 
--- one arc
-pub adds-arc : (old new : GraphData) (u v : ℕ) (len : ℤ) → AddsArc old new u v len → AddsEvents true old new (record { from = u; to = v; len = len } ∷ [])
-adds-arc old new u v len h = record {
-  arcs = λ before g. arc_more before _ old new g h;
-  arc_fields = λ g. subst (All HasNoFields) (sym h.records) (All-append HasNoFields old.records _ g (All-cons HasNoFields _ [] (refl, refl) (All-nil HasNoFields)));
-  rest = h.rest;
-}
+-- the records of one event use no fields
+event_fields : (directed : Bool) (g : GraphData) (e : Event) → All HasNoFields g.records → All HasNoFields (with_event directed g e).records
+event_fields true g e old = All-append HasNoFields g.records _ old (All-cons HasNoFields _ [] (refl, refl) (All-nil HasNoFields))
+event_fields false g e old =
+    let lower = arc_record (max e.from e.to) (after_lower (length g.records) g.vertices e.from e.to) e.len in
+    let higher = arc_record (min e.from e.to) (first_arc g.vertices (max e.from e.to)) e.len in
+    All-append HasNoFields g.records (lower ∷ higher ∷ []) old (All-cons HasNoFields lower (higher ∷ []) (refl, refl) (All-cons HasNoFields higher [] (refl, refl) (All-nil HasNoFields)))
 
--- one edge
-pub adds-edge : (old new : GraphData) (u v : ℕ) (len : ℤ) → AddsEdge old new u v len → AddsEvents false old new (record { from = u; to = v; len = len } ∷ [])
-adds-edge old new u v len h =
-    let lower = arc_record (max u v) (after_lower (length old.records) old.vertices u v) len in
-    let higher = arc_record (min u v) (first_arc old.vertices (max u v)) len in
-    let both : All HasNoFields (lower ∷ higher ∷ []) = All-cons HasNoFields lower (higher ∷ []) (refl, refl) (All-cons HasNoFields higher [] (refl, refl) (All-nil HasNoFields)) in
-    record {
-      arcs = λ before g. edge_more before _ old new g h;
-      arc_fields = λ g. subst (All HasNoFields) (sym h.records) (All-append HasNoFields old.records (lower ∷ higher ∷ []) g both);
-      rest = h.rest;
-    }
+-- one event
+pub adds-event : (directed : Bool) (g : GraphData) (e : Event) → HasEndsBelow (length g.vertices) e → AddsEvents directed g (with_event directed g e) (e ∷ [])
+adds-event directed g e below = record {
+  arcs = λ before has. event_more directed before e g has below;
+  arc_fields = event_fields directed g e;
+  rest = event_keeps directed g e;
+}
 
 -- a graph that has some of the events already, where the others are still to come
 pub record AddsUpTo (directed : Bool) (old now : GraphData) (coming all : List Event) : Type 0 where

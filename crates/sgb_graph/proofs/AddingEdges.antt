@@ -1,140 +1,128 @@
 -- A graph with one edge more.
-use Rattle.std.proofs.Common.{◌≡◌, ◌≢◌, ◌+◌, ◌≤◌, ◌<◌, ℕ, suc, ℤ, min, max, true, List, [], ◌∷◌, ◌++◌, length, Option, Some, refl, ap, sym, ◌∙◌, inl, inr, arith}
-use Rattle.std.specs.Prelude.{slice_get}
+use Rattle.std.proofs.Common.{rules, ◌≡◌, ◌≢◌, ◌+◌, ◌≤◌, ◌<◌, ◌==◌, ℕ, suc, ℤ, min, max, true, List, [], ◌∷◌, ◌++◌, length, Option, Some, refl, ap, sym, subst, ◌∙◌, inl, inr, arith}
+use Rattle.std.specs.Prelude.{slice_get, if◌then◌else◌}
 use Rattle.std.proofs.lemmas.Bool.{lt-ltb, eq-eqb, ne_eqb, cases_eq}
 use Rattle.std.proofs.lemmas.List.{length-append}
-use Rattle.sgb_graph.specs.Graphs.{GraphData, chain_of}
+use Rattle.std.proofs.lemmas.List.Sums.{AllPass-from_list_all}
+use Rattle.sgb_graph.specs.Graphs.{GraphData, ListsEnd, chain_of, ends_of, arc_record}
 use Rattle.sgb_graph.specs.Sound.{chain_fits}
-use Rattle.sgb_graph.specs.Growth.{IsKept, HasPlainArcs, AddsEdge, arc_record, after_lower, at_place, first_arc, link}
-use Rattle.sgb_graph.specs.inner.Growth.{with_arcs, with_ends}
+use Rattle.sgb_graph.specs.Growth.{IsKept, HasPlainArcs, KeepsAllButArcs, after_lower, first_arc, link, with_edge, with_first}
+use Rattle.sgb_graph.specs.declared.fields.Vertex.{Vertex}
 use Rattle.sgb_graph.specs.declared.fields.ArcRec.{ArcRec}
 use Rattle.sgb_graph.specs.declared.fields.Link.{Link}
-use Rattle.sgb_graph.proofs.Lists.{slice_get-at_place_other, slice_get-after, length-at_place}
+use Rattle.sgb_graph.proofs.Lists.{slice_get-at_place_other, slice_get-after, length-at_place, map-at_place}
 use Rattle.sgb_graph.proofs.Fitting.{chain_fits_more}
 use Rattle.sgb_graph.proofs.Chains.{ends_step, links_step, leads_step}
-use Rattle.sgb_graph.proofs.Growing.{HasParts, parts_of, all_good_more, grown, chain_kept, lists_end}
-use Rattle.sgb_graph.proofs.AddedEvents.{KeepsAll-then}
-use Rattle.sgb_graph.proofs.AddingArcs.{IsLead, chain_of_vertex, first_is, grown_kept, keeps_all, lead_of, plain_fit, put_chain, put_good}
+use Rattle.sgb_graph.proofs.Growing.{parts_of, all_good_more, chain_kept, lists_end, lists_end_more}
+use Rattle.sgb_graph.proofs.AddingArcs.{IsLead, chain_of_vertex, first_is, grown_kept, lead_of, led_by, plain_fit, put_chain, put_ends, put_good}
 
--- the graph with two records between low and high, the lower of them before the one given
-abbrev pub with_pair : GraphData → ℕ → ℕ → Option ℕ → ℤ → GraphData
-with_pair g low high after far =
-    grown g (g.m + 2) (with_ends (length g.records) low high g.vertices)
-    (arc_record high after far ∷ arc_record low (first_arc g.vertices high) far ∷ [])
+-- all but the arcs stays where there is one edge more
+pub edge_keeps : (g : GraphData) (u v : ℕ) (far : ℤ) → KeepsAllButArcs g (with_edge g u v far)
+edge_keeps g u v far = search (rules, length-at_place, map-at_place)
 
--- the higher one after the lower one
-higher_is : (records : List ArcRec) (r s : ArcRec) → slice_get (records ++ r ∷ s ∷ []) (length records + 1) ≡ Some s
-higher_is records r s = slice_get-after records (r ∷ s ∷ []) 1
+-- the two new records
+abbrev lower : GraphData → ℕ → ℕ → ℤ → ArcRec
+lower g u v far = arc_record (max u v) (after_lower (length g.records) g.vertices u v) far
 
--- the higher record, in so many steps, is in front of the chain of high
-higher_lead : (steps : ℕ) (g : GraphData) (low high : ℕ) (after : Option ℕ) (far : ℤ) → HasParts g → high < length g.vertices → length g.records ≤ steps → IsLead steps (g.records ++ arc_record high after far ∷ arc_record low (first_arc g.vertices high) far ∷ []) (length g.records + 1) low far (chain_of g high)
-higher_lead steps g low high after far has below le =
-    let lower = arc_record high after far in
-    let higher = arc_record low (first_arc g.vertices high) far in
-    lead_of steps g (lower ∷ higher ∷ []) high (length g.records + 1) low far has below le (higher_is g.records lower higher)
+abbrev higher : GraphData → ℕ → ℕ → ℤ → ArcRec
+higher g u v far = arc_record (min u v) (first_arc g.vertices (max u v)) far
 
--- the lower record is in front of the chain of low
-lower_of_two : (g : GraphData) (low high : ℕ) (far : ℤ) → HasParts g → low < length g.vertices → IsLead (suc (length g.records)) (g.records ++ arc_record high (first_arc g.vertices low) far ∷ arc_record low (first_arc g.vertices high) far ∷ []) (length g.records) high far (chain_of g low)
-lower_of_two g low high far has below =
-    let lower = arc_record high (first_arc g.vertices low) far in
-    let higher = arc_record low (first_arc g.vertices high) far in
-    lead_of (suc (length g.records)) g (lower ∷ higher ∷ []) low (length g.records) high far has below (omega arith) (first_is g.records (higher ∷ []) lower)
+-- the chain that follows the lower one: where the edge is a loop, the higher one is its first
+abbrev pub chain_after : GraphData → ℕ → ℕ → ℤ → List Link
+chain_after g u v far = if u == v then link (length g.records + 1) (min u v) far ∷ chain_of g (max u v) else chain_of g (min u v)
 
--- or of the higher one, where that follows it
-lower_of_loop : (g : GraphData) (low high : ℕ) (far : ℤ) → HasParts g → high < length g.vertices → IsLead (suc (length g.records)) (g.records ++ arc_record high (Some (length g.records + 1)) far ∷ arc_record low (first_arc g.vertices high) far ∷ []) (length g.records) high far (link (length g.records + 1) low far ∷ chain_of g high)
-lower_of_loop g low high far has below =
-    let m = length g.records in
-    let lower = arc_record high (Some (m + 1)) far in
-    let higher = arc_record low (first_arc g.vertices high) far in
-    let all = g.records ++ lower ∷ higher ∷ [] in
-    let lead = higher_lead m g low high (Some (m + 1)) far has below (omega arith) in
-    let is = first_is g.records (higher ∷ []) lower in
+-- a record before one that is in front of a chain
+lead_before : (g : GraphData) (steps : ℕ) (records : List ArcRec) (k v next tip : ℕ) (far : ℤ) (chain : List Link) → slice_get records k ≡ Some (arc_record v (Some next) far) → IsLead g steps records next tip far chain → IsLead g (suc steps) records k v far (link next tip far ∷ chain)
+lead_before g steps records k v next tip far chain is lead =
+    let r = arc_record v (Some next) far in
     record {
-      ends = ends_step (suc m) all m lower is ∙ lead.ends;
-      leads = leads_step (suc m) all m lower is refl lead.leads;
-      links = links_step (suc m) all m lower is ∙ ap (λ ls. link m high far ∷ ls) lead.links;
+      ends = ends_step (suc steps) records k r is ∙ lead.ends;
+      leads = λ all. leads_step (suc steps) records k r is refl (lead.leads all);
+      links = links_step (suc steps) records k r is ∙ ap (λ ls. link k v far ∷ ls) lead.links;
     }
 
--- what the graph with such a pair has, of which the lower record is in front of this chain
-record IsPair (g : GraphData) (low high : ℕ) (after : Option ℕ) (far : ℤ) (tail : List Link) : Type 0 where
-  kept : IsKept (with_pair g low high after far)
-  lower : chain_of (with_pair g low high after far) low ≡ link (length g.records) high far ∷ tail
-  higher : high ≢ low → chain_of (with_pair g low high after far) high ≡ link (length g.records + 1) low far ∷ chain_of g high
-  others : (w : ℕ) → w ≢ low → w ≢ high → chain_of (with_pair g low high after far) w ≡ chain_of g w
+-- the records of an edge, each in front of its chain
+record HasLeads (g : GraphData) (u v : ℕ) (far : ℤ) : Type 0 where
+  long : length (with_edge g u v far).records ≡ suc (suc (length g.records))
+  fits : chain_fits (length g.records + 2) (after_lower (length g.records) g.vertices u v) ≡ true
+  high : IsLead g (suc (length g.records)) (with_edge g u v far).records (length g.records + 1) (min u v) far (chain_of g (max u v))
+  low : IsLead g (suc (length g.records)) (with_edge g u v far).records (length g.records) (max u v) far (chain_after g u v far)
 
--- so it has, where both records lead to vertices
-pair_put : (g : GraphData) (low high : ℕ) (after : Option ℕ) (far : ℤ) (tail : List Link) → IsKept g → HasPlainArcs g → low < length g.vertices → high < length g.vertices → chain_fits (length g.records + 2) after ≡ true
-    → IsLead (suc (length g.records)) (g.records ++ arc_record high after far ∷ arc_record low (first_arc g.vertices high) far ∷ []) (length g.records) high far tail → IsPair g low high after far tail
-pair_put g low high after far tail kept plain low_in high_in after_fits down =
-    let has = parts_of g kept.graph in
-    let n = length g.vertices in
+edge_leads : (g : GraphData) (u v : ℕ) (far : ℤ) → ListsEnd g → u < length g.vertices → v < length g.vertices → HasLeads g u v far
+edge_leads g u v far all u_in v_in =
     let m = length g.records in
-    let higher = arc_record low (first_arc g.vertices high) far in
-    let more = arc_record high after far ∷ higher ∷ [] in
-    let all = g.records ++ more in
-    let long : length all ≡ suc (suc m) = omega (arith, length-append g.records more) in
-    let up = higher_lead (suc m) g low high after far has high_in (omega arith) in
-    let nodes = at_place (with_arcs (Some (m + 1))) high g.vertices in
-    let many = length-at_place (with_arcs (Some (m + 1))) high g.vertices in
-    let good = put_good n (suc m) (m + 1) high low g.kinds all far (chain_of g high) g.vertices long (omega arith) up (all_good_more g more has) in
-    let after_higher = chain_fits_more m (length all) (first_arc g.vertices high) (omega arith) (chain_of_vertex g high has high_in).fits in
-    let after_lower = chain_fits_more (m + 2) (length all) after (omega arith) after_fits in
-    record {
-      kept = grown_kept g (with_ends m low high g.vertices) more kept (length-at_place (with_arcs (Some m)) low nodes ∙ many)
-          (put_good n (suc m) m low high g.kinds all far tail nodes long (omega arith) down good) (record {
-            fit = plain_fit n (length all) g.kinds high after far (higher ∷ []) high_in after_lower plain (plain_fit n (length all) g.kinds low _ far [] low_in after_higher plain refl);
-            ends = λ k low_k below. elim (cases_eq k m) [ inl at ↦ rw (at, long) down.ends | inr other ↦ let at : k ≡ m + 1 = omega (arith, long) in rw (at, long) up.ends ];
-          });
-      lower = put_chain (with_pair g low high after far) nodes (suc m) m low high far tail (omega (arith, many)) refl long down;
-      higher = λ other. put_chain (with_pair g low high after far) g.vertices (suc m) (m + 1) high low far (chain_of g high) high_in (slice_get-at_place_other (with_arcs (Some m)) low high nodes other) long up;
-      others = λ w not_low not_high. chain_kept g (g.m + 2) (with_ends m low high g.vertices) more w has
-          (slice_get-at_place_other (with_arcs (Some m)) low w nodes not_low ∙ slice_get-at_place_other (with_arcs (Some (m + 1))) high w g.vertices not_high);
-    }
-
--- the graph with an edge between u and v
-abbrev pub with_edge : GraphData → ℕ → ℕ → ℤ → GraphData
-with_edge g u v far = with_pair g (min u v) (max u v) (after_lower (length g.records) g.vertices u v) far
-
--- a pair at the ends of an edge is that edge
-pair_joins : (g : GraphData) (u v : ℕ) (far : ℤ) (tail : List Link) → u < length g.vertices → v < length g.vertices → (u ≡ v → tail ≡ link (length g.records + 1) (min u v) far ∷ chain_of g (max u v)) → (u ≢ v → tail ≡ chain_of g (min u v))
-    → IsPair g (min u v) (max u v) (after_lower (length g.records) g.vertices u v) far tail → AddsEdge g (with_edge g u v far) u v far × IsKept (with_edge g u v far)
-pair_joins g u v far tail u_in v_in of_loop of_two pair =
-    let new = with_edge g u v far in
-    let m = length g.records in
-    let nodes = at_place (with_arcs (Some (m + 1))) (max u v) g.vertices in (
-      record {
-        count = refl;
-        records = refl;
-        loop = λ same.
-            let least : min u v ≡ u = omega arith in
-            ap (chain_of new) (sym least) ∙ pair.lower ∙ ap (λ ls. link m (max u v) far ∷ ls) (of_loop same)
-            ∙ ap (λ (w : ℕ). link m w far ∷ link (m + 1) (min u v) far ∷ chain_of g w) (omega arith) ∙ ap (λ w. link m u far ∷ link (m + 1) w far ∷ chain_of g u) least;
-        smaller = λ other. pair.lower ∙ ap (λ ls. link m (max u v) far ∷ ls) (of_two other);
-        greater = λ other. pair.higher (λ e. other (omega arith));
-        others = λ w not_u not_v. pair.others w (λ e. omega arith) (λ e. omega arith);
-        within = (u_in, v_in);
-        ends = lists_end new (parts_of new pair.kept.graph);
-        rest = KeepsAll-then _ _ new (keeps_all g g.m (Some (m + 1)) (max u v) g.records) (keeps_all (record g { vertices = nodes }) new.m (Some m) (min u v) new.records);
-      },
-      pair.kept,
-    )
-
--- it is a graph with one edge more
-pub edge_added : (g : GraphData) (u v : ℕ) (far : ℤ) → IsKept g → HasPlainArcs g → u < length g.vertices → v < length g.vertices → AddsEdge g (with_edge g u v far) u v far × IsKept (with_edge g u v far)
-edge_added g u v far kept plain u_in v_in =
-    let m = length g.records in
-    let has = parts_of g kept.graph in
-    let low_in : min u v < length g.vertices = omega arith in
-    let high_in : max u v < length g.vertices = omega arith in
+    let r = lower g u v far in
+    let s = higher g u v far in
+    let whole = g.records ++ r ∷ s ∷ [] in
+    let up : (steps : ℕ) → m ≤ steps → IsLead g steps whole (m + 1) (min u v) far (chain_of g (max u v)) =
+    λ steps le. lead_of steps g (r ∷ s ∷ []) (max u v) (m + 1) (min u v) far all (omega arith) le (slice_get-after g.records (r ∷ s ∷ []) 1) in
+    let first : (o : Option ℕ) → r.next ≡ o → slice_get whole m ≡ Some (arc_record (max u v) o far) =
+    λ o after. first_is g.records (s ∷ []) r ∙ ap (λ t. Some (arc_record (max u v) t far)) after in
+    let known : chain_fits (m + 2) r.next ≡ true → IsLead g (suc m) whole m (max u v) far (chain_after g u v far) → HasLeads g u v far =
+    λ fits low. record { long = omega (arith, length-append g.records (r ∷ s ∷ [])); fits = fits; high = up (suc m) (omega arith); low = low } in
     elim (cases_eq u v) [
       | inl same ↦
-          let after : after_lower m g.vertices u v ≡ Some (m + 1) = rw (eq-eqb u v same) refl in
-          let tail = link (m + 1) (min u v) far ∷ chain_of g (max u v) in
-          pair_joins g u v far tail u_in v_in (λ _. refl) (λ other. absurd (other same))
-          (pair_put g (min u v) (max u v) _ far tail kept plain low_in high_in (rw after (lt-ltb (m + 1) (m + 2) (omega arith))) (rw after (lower_of_loop g (min u v) (max u v) far has high_in)))
+          let after : r.next ≡ Some (m + 1) = rw (eq-eqb u v same) refl in
+          let chain : link (m + 1) (min u v) far ∷ chain_of g (max u v) ≡ chain_after g u v far = rw (eq-eqb u v same) refl in
+          known (rw after (lt-ltb (m + 1) (m + 2) (omega arith)))
+          (subst (IsLead g (suc m) whole m (max u v) far) chain (lead_before g m whole m (max u v) (m + 1) (min u v) far (chain_of g (max u v)) (first (Some (m + 1)) after) (up m (omega arith))))
       | inr other ↦
-          let after : after_lower m g.vertices u v ≡ first_arc g.vertices (min u v) = rw (ne_eqb u v other) refl in
-          let fits = chain_fits_more m (m + 2) (first_arc g.vertices (min u v)) (omega arith) (chain_of_vertex g (min u v) has low_in).fits in
-          pair_joins g u v far (chain_of g (min u v)) u_in v_in (λ same. absurd (other same)) (λ _. refl)
-          (pair_put g (min u v) (max u v) _ far _ kept plain low_in high_in (rw after fits) (rw after (lower_of_two g (min u v) (max u v) far has low_in)))
+          let start = first_arc g.vertices (min u v) in
+          let after : r.next ≡ start = rw (ne_eqb u v other) refl in
+          let chain : chain_of g (min u v) ≡ chain_after g u v far = rw (ne_eqb u v other) refl in
+          known (rw after (chain_fits_more m (m + 2) start (omega arith) (chain_of_vertex g (min u v) all (omega arith)).fits))
+          (subst (IsLead g (suc m) whole m (max u v) far) chain (lead_of (suc m) g (r ∷ s ∷ []) (min u v) m (max u v) far all (omega arith) (omega arith) (first start after)))
     ]
+
+-- which lists the graph with one edge more has
+pub record HasEdgePut (g : GraphData) (u v : ℕ) (far : ℤ) : Type 0 where
+  pub loop : u ≡ v → chain_of (with_edge g u v far) u ≡ link (length g.records) u far ∷ link (length g.records + 1) u far ∷ chain_of g u
+  pub smaller : u ≢ v → chain_of (with_edge g u v far) (min u v) ≡ link (length g.records) (max u v) far ∷ chain_of g (min u v)
+  pub greater : u ≢ v → chain_of (with_edge g u v far) (max u v) ≡ link (length g.records + 1) (min u v) far ∷ chain_of g (max u v)
+  pub others : (w : ℕ) → w ≢ u → w ≢ v → chain_of (with_edge g u v far) w ≡ chain_of g w
+  pub ends : ListsEnd (with_edge g u v far)
+
+-- where those of the graph end
+pub edge_put : (g : GraphData) (u v : ℕ) (far : ℤ) → ListsEnd g → u < length g.vertices → v < length g.vertices → HasEdgePut g u v far
+edge_put g u v far all u_in v_in =
+    let new = with_edge g u v far in
+    let m = length g.records in
+    let more = lower g u v far ∷ higher g u v far ∷ [] in
+    let half = with_first (m + 1) (max u v) g.vertices in
+    let many = length-at_place (led_by (m + 1)) (max u v) g.vertices in
+    let at = edge_leads g u v far all u_in v_in in
+    let down = put_chain new g half (suc m) m (min u v) (max u v) far (chain_after g u v far) (omega (arith, many)) refl at.long at.low in
+    record {
+      loop = λ same.
+          let least : min u v ≡ u = omega arith in
+          let most : max u v ≡ u = omega arith in
+          ap (chain_of new) (sym least) ∙ down ∙ rw (eq-eqb u v same, least, most) refl;
+      smaller = λ other. down ∙ rw (ne_eqb u v other) refl;
+      greater = λ other. put_chain new g g.vertices (suc m) (m + 1) (max u v) (min u v) far (chain_of g (max u v)) (omega arith) (slice_get-at_place_other (led_by m) (min u v) (max u v) half (λ e. omega arith)) at.long at.high;
+      others = λ w not_u not_v. chain_kept g new.m new.vertices more w all
+          (slice_get-at_place_other (led_by m) (min u v) w half (λ e. omega arith) ∙ slice_get-at_place_other (led_by (m + 1)) (max u v) w g.vertices (λ e. omega arith));
+      ends = AllPass-from_list_all (λ (x : Vertex). ends_of new.records x.arcs) new.vertices
+          (put_ends (suc m) m (min u v) new.records half at.long at.low.ends (put_ends (suc m) (m + 1) (max u v) new.records g.vertices at.long at.high.ends (lists_end_more g more all)));
+    }
+
+-- it is kept where the graph is
+pub edge_kept : (g : GraphData) (u v : ℕ) (far : ℤ) → IsKept g → HasPlainArcs g → u < length g.vertices → v < length g.vertices → IsKept (with_edge g u v far)
+edge_kept g u v far kept plain u_in v_in =
+    let has = parts_of g kept.graph in
+    let all = lists_end g has in
+    let n = length g.vertices in
+    let m = length g.records in
+    let r = lower g u v far in
+    let s = higher g u v far in
+    let more = r ∷ s ∷ [] in
+    let whole = g.records ++ more in
+    let half = with_first (m + 1) (max u v) g.vertices in
+    let at = edge_leads g u v far all u_in v_in in
+    let good = put_good n (suc m) (m + 1) (max u v) g.kinds whole g.vertices at.long (omega (arith, at.long)) (at.high.leads has.leads) (all_good_more g more has) in
+    let after_higher = chain_fits_more m (length whole) (first_arc g.vertices (max u v)) (omega (arith, at.long)) (chain_of_vertex g (max u v) all (omega arith)).fits in
+    let after_lower = chain_fits_more (m + 2) (length whole) r.next (omega (arith, at.long)) at.fits in
+    grown_kept g (with_first m (min u v) half) more kept (length-at_place (led_by m) (min u v) half ∙ length-at_place (led_by (m + 1)) (max u v) g.vertices)
+    (put_good n (suc m) m (min u v) g.kinds whole half at.long (omega (arith, at.long)) (at.low.leads has.leads) good) (record {
+      fit = plain_fit n (length whole) g.kinds (max u v) r.next far (s ∷ []) (omega arith) after_lower plain (plain_fit n (length whole) g.kinds (min u v) s.next far [] (omega arith) after_higher plain refl);
+      ends = λ k low_k below. elim (cases_eq k m) [ inl here ↦ rw (here, at.long) at.low.ends | inr other ↦ let here : k ≡ m + 1 = omega (arith, at.long) in rw (here, at.long) at.high.ends ];
+    })

@@ -1,13 +1,14 @@
 -- Parts that were checked: what fits, and the graph that they make up.
 use Rattle.std.proofs.Common.{◌≡◌, ◌&&◌, ℕ, Bool, true, List, [], ◌∷◌, length, slice_index_or, refl, ap, sym, ◌∙◌, arith}
-use Rattle.std.specs.Prelude.{Ok, Err, if◌then◌else◌}
+use Rattle.std.specs.Prelude.{Ok, Err, nat_le}
 use Rattle.std.specs.List.{list_all, zip}
 use Rattle.std.proofs.Math.Bool.{and-true}
-use Rattle.std.proofs.lemmas.Bool.{and_parts, and_from, cases_Bool}
+use Rattle.std.proofs.lemmas.Bool.{and_parts, cases_Bool}
+use Rattle.sgb_vec.specs.Limits.{most_vertices}
 use Rattle.sgb_vec.specs.declared.panics.Panic.TheVariants.{Syntax}
 use Rattle.sgb_graph.specs.Graphs.{GraphData, ends_of}
-use Rattle.sgb_graph.specs.Sound.{IsGraph, util_fits, utils_fit, fields_fit, chains_end}
-use Rattle.sgb_graph.specs.Parts.{is_graph, checked}
+use Rattle.sgb_graph.specs.Sound.{IsGraph, util_fits, utils_fit, fields_fit, chains_end, is_sound}
+use Rattle.sgb_graph.specs.Parts.{checked}
 use Rattle.sgb_graph.specs.declared.fields.Kind.{Kind}
 use Rattle.sgb_graph.specs.declared.fields.Util.{Util}
 use Rattle.sgb_graph.proofs.Lists.{list_all-weaker}
@@ -34,18 +35,14 @@ both_fit n m kinds d a b long first second =
 pub lists_end : (g : GraphData) → fields_fit g ≡ true → chains_end g.records ≡ true → list_all (λ x. ends_of g.records x.arcs) g.vertices ≡ true
 lists_end g fits ends = grind (arith, and_parts, list_all-weaker, first_ends)
 
--- parts that pass the check are a graph
-pub is_graph_from : (g : GraphData) → is_graph g ≡ true → IsGraph g
-is_graph_from g e = grind (arith, and_parts)
-
--- and a graph passes it
-pub passes_graph : (g : GraphData) → IsGraph g → is_graph g ≡ true
-passes_graph g is = grind (arith, and_from)
-
--- so parts that make up a graph are that graph
+-- parts that make up a graph are that graph
 pub graph_is_checked : (g : GraphData) → IsGraph g → checked g ≡ Ok g
-graph_is_checked g is = ap (λ passes. if passes then Ok g else Err Syntax) (passes_graph g is)
+graph_is_checked g is = rw (is.vertices_fit, is.fields, is.lists) refl
 
--- and others are refused
+-- parts that pass the check are one
+passes_graph : (g : GraphData) → (nat_le (length g.vertices) most_vertices && fields_fit g && is_sound g) ≡ true → IsGraph g
+passes_graph g e = grind (arith, and_parts)
+
+-- so others are refused
 pub other_is_refused : (g : GraphData) → (IsGraph g → ⊥) → checked g ≡ Err Syntax
-other_is_refused g other = grind (arith, cases_Bool, is_graph_from)
+other_is_refused g other = grind (arith, cases_Bool, passes_graph)

@@ -8,11 +8,11 @@ use Rattle.std.proofs.lemmas.List.{length-map}
 use Rattle.std.proofs.lemmas.List.FromFn.{length-enumerate_from}
 use Rattle.std.proofs.lemmas.Option.{slice_get_within, get_or_from_slice_get}
 use Rattle.sgb_vec.proofs.Lists.{All-flat_map, Contains-cases, Contains-first, Contains-none, Contains-other}
-use Rattle.sgb_graph.specs.Graphs.{GraphData, HasNoFields, ends_from, ends_of, link_of, links_of, vertex_of}
+use Rattle.sgb_graph.specs.Graphs.{GraphData, HasNoFields, arc_record, ends_from, ends_of, link_of, links_of, vertex_of}
 use Rattle.sgb_graph.specs.Events.{Event, HasEndsBelow, Record, all_records, list_of, records_of}
 use Rattle.sgb_graph.specs.Descriptions.{Description, IsGraphOf}
-use Rattle.sgb_graph.specs.Made.{first_number, graph_described, number_after, record_in, records_of_events, vertex_with, vertices_of}
-use Rattle.sgb_graph.specs.Growth.{link, record_from}
+use Rattle.sgb_graph.specs.Made.{first_number, graph_described, number_after, records_of_events, vertices_of}
+use Rattle.sgb_graph.specs.Growth.{link}
 use Rattle.sgb_graph.specs.declared.fields.Ref.TheVariants.{At}
 use Rattle.sgb_graph.specs.declared.fields.Util.{Util}
 use Rattle.sgb_graph.specs.declared.fields.Vertex.{Vertex}
@@ -20,6 +20,7 @@ use Rattle.sgb_graph.specs.declared.fields.ArcRec.{ArcRec}
 use Rattle.sgb_graph.specs.declared.fields.Link.{Link}
 use Rattle.sgb_graph.proofs.AddingArcs.{element_at}
 use Rattle.sgb_graph.proofs.Chains.{IsStep, ends_none, ends_step, links_of_none, links_step, links_within, numbers_none, step_of}
+use Rattle.sgb_graph.proofs.EventLemmas.{record_from}
 use Rattle.sgb_graph.proofs.Growing.{chain_at}
 use Rattle.sgb_graph.proofs.ListMembers.{AreApart, apart_on_list, each_on_list, only_on_list, short_list}
 
@@ -53,6 +54,14 @@ after_is (a ∷ links) records (Some k) l r ends e has is =
         by_place : (a ≡ l) ⊎ Contains links l → number_after l.number links ≡ r.next
         by_place (inl same) = absurd (other (ap (λ (x : Link). x.number) same))
         by_place (inr there) = later there is
+
+-- the vertex with this name and these fields, whose list of arcs is the one given
+abbrev vertex_with : List ℕ → List Util → List Link → Vertex
+vertex_with text fields links = record { name = text; arcs = first_number links; util = fields }
+
+-- record number k, which says what the row says and stands in the list given
+abbrev record_in : List Link → ℕ → Record → ArcRec
+record_in links k row = arc_record row.tip (number_after k links) row.len
 
 -- vertices by their names, fields and first records
 vertices_are : (lists : ℕ → List Link) (k : ℕ) (vertices : List Vertex) → ((i : ℕ) (x : Vertex) → slice_get vertices i ≡ Some x → x.arcs ≡ first_number (lists (k + i)))

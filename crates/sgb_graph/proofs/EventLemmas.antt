@@ -5,15 +5,17 @@ use Rattle.std.specs.List.{All}
 use Rattle.std.specs.Option.{option_map, option_map_or}
 use Rattle.std.proofs.lemmas.Bool.{eq-eqb, ne_eqb, cases_eq}
 use Rattle.std.proofs.lemmas.List.{append-nil, append_assoc, map-append, length-append, length-map}
-use Rattle.std.proofs.lemmas.List.Elements.{All-nil, All-cons, All-append, All-map}
+use Rattle.std.proofs.lemmas.List.Elements.{All-nil, All-cons, All-append, All-map, All-tail}
 use Rattle.std.proofs.lemmas.List.Concat.{flat_map-append}
 use Rattle.std.proofs.lemmas.Option.{slice_get-map}
 use Rattle.sgb_graph.specs.Graphs.{GraphData, ListsEnd, chain_of, ends_of, links_of}
 use Rattle.sgb_graph.specs.Events.{Event, Record, HasArcsOf, HasEndsBelow, all_records, links_at, list_from, list_of, records_of}
-use Rattle.sgb_graph.specs.Growth.{AddsArc, AddsEdge, ArcsLead, EdgesLead, link, new_graph, new_vertex, record_from}
+use Rattle.sgb_graph.specs.Growth.{KeepsAllButArcs, link, new_graph, new_vertex, with_event, with_events}
 use Rattle.sgb_graph.specs.declared.fields.Ref.TheVariants.{At}
 use Rattle.sgb_graph.specs.declared.fields.Vertex.{Vertex}
 use Rattle.sgb_graph.proofs.Chains.{ends_none, links_of_none}
+use Rattle.sgb_graph.proofs.AddingArcs.{HasArcPut, arc_keeps, arc_put}
+use Rattle.sgb_graph.proofs.AddingEdges.{HasEdgePut, edge_keeps, edge_put}
 
 -- the list of no event, and of one more in front
 pub list_none : (directed : Bool) (k v : ℕ) → list_from directed k [] v ≡ []
@@ -105,6 +107,10 @@ new_has_none directed names = record {
     none_at : (v : ℕ) → chain_of (new_graph names) v ≡ []
     none_at v = ap (λ o. option_map_or (λ (x : Vertex). links_of [] x.arcs) o []) (slice_get-map new_vertex names v) ∙ by_name (slice_get names v)
 
+-- what the record of an arc from u to v says
+abbrev pub record_from : ℕ → ℕ → ℤ → Record
+record_from u v far = record { start = u; tip = v; len = far }
+
 -- the link of a record where it starts at this vertex, and none where it does not
 pub link_here : (w k : ℕ) (r : Record) (records : List Record) → w ≡ r.start → links_at w k (r ∷ records) ≡ link k r.tip r.len ∷ links_at w (k + 1) records
 link_here w k r records same = rw (eq-eqb r.start w (sym same)) refl
@@ -130,72 +136,76 @@ neither_here : (k u v w : ℕ) (far : ℤ) → w ≢ u → w ≢ v → links_at 
 neither_here k u v w far not_u not_v = no_link_here w k (record_from u v far) (record_from v u far ∷ []) not_u ∙ no_link_here w (k + 1) (record_from v u far) [] not_v
 
 -- a new arc adds the record of its event
-arc_adds : (old new : GraphData) (e : Event) → AddsArc old new e.from e.to e.len → AddsRecords true old new e
-arc_adds old new e adds = record {
-  count = adds.count;
-  tips = ap (map (λ r. r.tip)) adds.records ∙ map-append (λ r. r.tip) old.records _;
-  lengths = ap (map (λ r. r.len)) adds.records ∙ map-append (λ r. r.len) old.records _;
+arc_adds : (g : GraphData) (e : Event) → ListsEnd g → HasEndsBelow (length g.vertices) e → AddsRecords true g (with_event true g e) e
+arc_adds g e all below = record {
+  count = refl;
+  tips = map-append (λ r. r.tip) g.records _;
+  lengths = map-append (λ r. r.len) g.records _;
   lists = λ w. at_vertex w (cases_eq w e.from);
-  within = adds.within;
-  ends = adds.ends;
-  size = adds.rest.size;
+  within = below;
+  ends = has.ends;
+  size = (arc_keeps g e.from e.to e.len).size;
 }
   where
-    at_vertex : (w : ℕ) → (w ≡ e.from) ⊎ (w ≡ e.from → ⊥) → chain_of new w ≡ links_at w (length old.records) (records_of true e) ++ chain_of old w
-    at_vertex w (inl here) = rw here (adds.chain ∙ sym (ap (λ ls. ls ++ chain_of old e.from) (link_here e.from (length old.records) (record_from e.from e.to e.len) [] refl)))
-    at_vertex w (inr other) = adds.others w other ∙ sym (ap (λ ls. ls ++ chain_of old w) (no_link_here w (length old.records) (record_from e.from e.to e.len) [] other))
+    has : HasArcPut g e.from e.to e.len
+    has = arc_put g e.from e.to e.len all below.0
+
+    at_vertex : (w : ℕ) → (w ≡ e.from) ⊎ (w ≡ e.from → ⊥) → chain_of (with_event true g e) w ≡ links_at w (length g.records) (records_of true e) ++ chain_of g w
+    at_vertex w (inl here) = rw here (has.chain ∙ sym (ap (λ ls. ls ++ chain_of g e.from) (link_here e.from (length g.records) (record_from e.from e.to e.len) [] refl)))
+    at_vertex w (inr other) = has.others w other ∙ sym (ap (λ ls. ls ++ chain_of g w) (no_link_here w (length g.records) (record_from e.from e.to e.len) [] other))
 
 -- a new edge adds the two records of its event
-edge_adds : (old new : GraphData) (e : Event) → AddsEdge old new e.from e.to e.len → AddsRecords false old new e
-edge_adds old new e adds = record {
-  count = adds.count;
-  tips = ap (map (λ r. r.tip)) adds.records ∙ map-append (λ r. r.tip) old.records _;
-  lengths = ap (map (λ r. r.len)) adds.records ∙ map-append (λ r. r.len) old.records _;
+edge_adds : (g : GraphData) (e : Event) → ListsEnd g → HasEndsBelow (length g.vertices) e → AddsRecords false g (with_event false g e) e
+edge_adds g e all below = record {
+  count = refl;
+  tips = map-append (λ r. r.tip) g.records _;
+  lengths = map-append (λ r. r.len) g.records _;
   lists = λ w. at_vertex w (cases_eq w (min e.from e.to)) (cases_eq w (max e.from e.to));
-  within = adds.within;
-  ends = adds.ends;
-  size = adds.rest.size;
+  within = below;
+  ends = has.ends;
+  size = (edge_keeps g e.from e.to e.len).size;
 }
   where
-    at_vertex : (w : ℕ) → (w ≡ min e.from e.to) ⊎ (w ≡ min e.from e.to → ⊥) → (w ≡ max e.from e.to) ⊎ (w ≡ max e.from e.to → ⊥) → chain_of new w ≡ links_at w (length old.records) (records_of false e) ++ chain_of old w
+    has : HasEdgePut g e.from e.to e.len
+    has = edge_put g e.from e.to e.len all below.0 below.1
+
+    at_vertex : (w : ℕ) → (w ≡ min e.from e.to) ⊎ (w ≡ min e.from e.to → ⊥) → (w ≡ max e.from e.to) ⊎ (w ≡ max e.from e.to → ⊥) → chain_of (with_event false g e) w ≡ links_at w (length g.records) (records_of false e) ++ chain_of g w
     at_vertex w (inl is_low) (inl is_high) =
         let same : e.from ≡ e.to = omega arith in
         let here : w ≡ e.from = omega arith in
         let least : min e.from e.to ≡ e.from = omega arith in
         let most : max e.from e.to ≡ e.from = omega arith in
-        rw (here, least, most) (adds.loop same ∙ sym (ap (λ ls. ls ++ chain_of old e.from) (two_here (length old.records) e.from e.len)))
+        ap (chain_of (with_event false g e)) here ∙ has.loop same ∙ rw (here, least, most) (sym (ap (λ ls. ls ++ chain_of g e.from) (two_here (length g.records) e.from e.len)))
     at_vertex w (inl is_low) (inr not_high) =
-        rw is_low (adds.smaller (λ same. omega arith) ∙ sym (ap (λ ls. ls ++ chain_of old (min e.from e.to)) (first_here (length old.records) (min e.from e.to) (max e.from e.to) e.len (λ same. omega arith))))
+        rw is_low (has.smaller (λ same. omega arith) ∙ sym (ap (λ ls. ls ++ chain_of g (min e.from e.to)) (first_here (length g.records) (min e.from e.to) (max e.from e.to) e.len (λ same. omega arith))))
     at_vertex w (inr not_low) (inl is_high) =
-        rw is_high (adds.greater (λ same. omega arith) ∙ sym (ap (λ ls. ls ++ chain_of old (max e.from e.to)) (second_here (length old.records) (min e.from e.to) (max e.from e.to) e.len (λ same. omega arith))))
+        rw is_high (has.greater (λ same. omega arith) ∙ sym (ap (λ ls. ls ++ chain_of g (max e.from e.to)) (second_here (length g.records) (min e.from e.to) (max e.from e.to) e.len (λ same. omega arith))))
     at_vertex w (inr not_low) (inr not_high) =
-        adds.others w (λ same. omega arith) (λ same. omega arith)
-        ∙ sym (ap (λ ls. ls ++ chain_of old w) (neither_here (length old.records) (min e.from e.to) (max e.from e.to) w e.len not_low not_high))
+        has.others w (λ same. omega arith) (λ same. omega arith)
+        ∙ sym (ap (λ ls. ls ++ chain_of g w) (neither_here (length g.records) (min e.from e.to) (max e.from e.to) w e.len not_low not_high))
 
--- one event more: the arc that was added last
-pub arc_more : (events : List Event) (e : Event) (old new : GraphData) → HasArcsOf true events old → AddsArc old new e.from e.to e.len → HasArcsOf true (events ++ e ∷ []) new
-arc_more events e old new has adds = records_added true events e old new has (arc_adds old new e adds)
+-- so does one event more
+event_adds : (directed : Bool) (g : GraphData) (e : Event) → ListsEnd g → HasEndsBelow (length g.vertices) e → AddsRecords directed g (with_event directed g e) e
+event_adds true g e all below = arc_adds g e all below
+event_adds false g e all below = edge_adds g e all below
 
--- or the edge
-pub edge_more : (events : List Event) (e : Event) (old new : GraphData) → HasArcsOf false events old → AddsEdge old new e.from e.to e.len → HasArcsOf false (events ++ e ∷ []) new
-edge_more events e old new has adds = records_added false events e old new has (edge_adds old new e adds)
+-- the graph with it has the events that it had, and that one
+pub event_more : (directed : Bool) (events : List Event) (e : Event) (g : GraphData) → HasArcsOf directed events g → HasEndsBelow (length g.vertices) e → HasArcsOf directed (events ++ e ∷ []) (with_event directed g e)
+event_more directed events e g has below = records_added directed events e g (with_event directed g e) has (event_adds directed g e has.ends below)
+
+-- all but the arcs stays
+pub event_keeps : (directed : Bool) (g : GraphData) (e : Event) → KeepsAllButArcs g (with_event directed g e)
+event_keeps true g e = arc_keeps g e.from e.to e.len
+event_keeps false g e = edge_keeps g e.from e.to e.len
 
 -- all events, one by one
-arcs_lead : (done events : List Event) (old new : GraphData) → HasArcsOf true done old → ArcsLead old events new → HasArcsOf true (done ++ events) new
-arcs_lead done [] old new has same = rw (append-nil done, same) has
-arcs_lead done (e ∷ events) old new has run =
-    rw (← append_assoc done (e ∷ []) events) (arcs_lead (done ++ e ∷ []) events run.0 new (arc_more done e old run.0 has run.1) run.2)
-
--- the same with edges
-edges_lead : (done events : List Event) (old new : GraphData) → HasArcsOf false done old → EdgesLead old events new → HasArcsOf false (done ++ events) new
-edges_lead done [] old new has same = rw (append-nil done, same) has
-edges_lead done (e ∷ events) old new has run =
-    rw (← append_assoc done (e ∷ []) events) (edges_lead (done ++ e ∷ []) events run.0 new (edge_more done e old run.0 has run.1) run.2)
+events_more : (directed : Bool) (done events : List Event) (g : GraphData) → HasArcsOf directed done g → All (HasEndsBelow (length g.vertices)) events → HasArcsOf directed (done ++ events) (with_events directed g events)
+events_more directed done [] g has below = rw (append-nil done) has
+events_more directed done (e ∷ events) g has below =
+    rw (← append_assoc done (e ∷ []) events) (events_more directed (done ++ e ∷ []) events (with_event directed g e) (event_more directed done e g has (below 0 e (omega arith)))
+    (subst (λ n. All (HasEndsBelow n) events) (sym (event_keeps directed g e).size) (All-tail (HasEndsBelow (length g.vertices)) e events below)))
 
 -- from a new graph on
-pub arcs_made : (names : List (List ℕ)) (events : List Event) (g : GraphData) → ArcsLead (new_graph names) events g → HasArcsOf true events g
-arcs_made names events g run = arcs_lead [] events (new_graph names) g (new_has_none true names) run
-
--- the same with edges
-pub edges_made : (names : List (List ℕ)) (events : List Event) (g : GraphData) → EdgesLead (new_graph names) events g → HasArcsOf false events g
-edges_made names events g run = edges_lead [] events (new_graph names) g (new_has_none false names) run
+pub events_made : (directed : Bool) (names : List (List ℕ)) (events : List Event) → All (HasEndsBelow (length names)) events → HasArcsOf directed events (with_events directed (new_graph names) events)
+events_made directed names events below =
+    events_more directed [] events (new_graph names) (new_has_none directed names) (subst (λ n. All (HasEndsBelow n) events) (sym (length-map names new_vertex)) below)

@@ -1,4 +1,5 @@
 -- Worked examples of the definitions, each with the value that the published programs give.
+pub mod Added
 pub mod Checked
 pub mod Draws
 pub mod Ids

@@ -1,12 +1,12 @@
--- A graph with more records at the end is one, and keeps the chains that stay.
+-- A graph with more records at the end is one, and one whose lists end keeps the chains that stay.
 use Rattle.std.proofs.Common.{◌≡◌, ◌≤◌, ◌<◌, ℕ, Bool, true, ◌&&◌, List, [], ◌∷◌, ◌++◌, length, Option, Some, None, refl, ap, ◌∙◌, inl, inr, arith}
 use Rattle.std.specs.Prelude.{slice_get, nat_le}
 use Rattle.std.specs.Option.{option_map_or}
-use Rattle.std.specs.List.{All, list_all}
+use Rattle.std.specs.List.{list_all}
 use Rattle.std.proofs.lemmas.Bool.{and_parts, and_from, ltb-true, cases_lt}
 use Rattle.std.proofs.lemmas.List.{length-append}
-use Rattle.std.proofs.lemmas.List.Elements.{All-nil, All-cons}
 use Rattle.std.proofs.lemmas.List.Folds.{list_all-append}
+use Rattle.std.proofs.lemmas.List.Sums.{AllPass-from_list_all, list_all-from_AllPass}
 use Rattle.sgb_vec.specs.Limits.{most_vertices}
 use Rattle.sgb_graph.specs.Graphs.{GraphData, ListsEnd, ends_of, links_of, chain_of}
 use Rattle.sgb_graph.specs.Sound.{IsGraph, arc_kinds, chains_end, vertex_kinds, graph_kinds, chain_fits, utils_fit, lists_lead_to_vertices, vertex_fits, record_fits}
@@ -127,31 +127,33 @@ refilled g kinds own vertices kept same arcs fits all leads =
       count = kept.count;
     }
 
--- the chain of a vertex that stays
-pub chain_kept : (g : GraphData) (count : ℕ) (vertices : List Vertex) (more : List ArcRec) (w : ℕ) → HasParts g → slice_get vertices w ≡ slice_get g.vertices w → chain_of (grown g count vertices more) w ≡ chain_of g w
-chain_kept g count vertices more w has same = by_vertex (slice_get g.vertices w) refl
-  where
-    longer : length g.records ≤ length (g.records ++ more)
-    longer = omega (arith, length-append g.records more)
+-- the list of each vertex of a graph ends
+pub lists_end : (g : GraphData) → HasParts g → ListsEnd g
+lists_end g has =
+    AllPass-from_list_all (λ (x : Vertex). ends_of g.records x.arcs) g.vertices
+    (list_all-weaker (vertex_fits_in (length g.vertices) (length g.records) g.kinds) (λ x. ends_of g.records x.arcs) g.vertices
+    (λ x fits. first_ends g.records x.arcs has.ends (and_parts (chain_fits (length g.records) x.arcs) (utils_fit (length g.vertices) (length g.records) (vertex_kinds g.kinds) x.util) fits).0) has.vertices)
 
-    by_vertex : (o : Option Vertex) → slice_get g.vertices w ≡ o → chain_of (grown g count vertices more) w ≡ chain_of g w
-    by_vertex None is = rw (same, is) refl
-    by_vertex (Some x) is =
-        let fits = list_all-get (vertex_fits_in (length g.vertices) (length g.records) g.kinds) g.vertices w x has.vertices is in
-        let start = (and_parts (chain_fits (length g.records) x.arcs) (utils_fit (length g.vertices) (length g.records) (vertex_kinds g.kinds) x.util) fits).0 in
-        rw (same, is) (links_kept (length (g.records ++ more)) g.records more x.arcs longer (first_ends g.records x.arcs has.ends start))
+-- so it does in a graph whose lists end
+pub end_at : (g : GraphData) (w : ℕ) (x : Vertex) → ListsEnd g → slice_get g.vertices w ≡ Some x → ends_of g.records x.arcs ≡ true
+end_at g w x ends is = list_all-get (λ (y : Vertex). ends_of g.records y.arcs) g.vertices w x (list_all-from_AllPass (λ (y : Vertex). ends_of g.records y.arcs) g.vertices ends) is
 
 -- the chain of a vertex by its first record
 pub chain_at : (g : GraphData) (w : ℕ) (x : Vertex) → slice_get g.vertices w ≡ Some x → chain_of g w ≡ links_of g.records x.arcs
 chain_at g w x is = ap (λ o. option_map_or (λ (v : Vertex). links_of g.records v.arcs) o []) is
 
--- the list of each vertex of a graph ends
-pub lists_end : (g : GraphData) → HasParts g → ListsEnd g
-lists_end g has = each g.vertices has.vertices
+-- the chain of a vertex that stays
+pub chain_kept : (g : GraphData) (count : ℕ) (vertices : List Vertex) (more : List ArcRec) (w : ℕ) → ListsEnd g → slice_get vertices w ≡ slice_get g.vertices w → chain_of (grown g count vertices more) w ≡ chain_of g w
+chain_kept g count vertices more w ends same = by_vertex (slice_get g.vertices w) refl
   where
-    each : (vertices : List Vertex) → list_all (vertex_fits_in (length g.vertices) (length g.records) g.kinds) vertices ≡ true → All (λ (x : Vertex). ends_of g.records x.arcs ≡ true) vertices
-    each [] fit = All-nil (λ (x : Vertex). ends_of g.records x.arcs ≡ true)
-    each (x ∷ vertices) fit =
-        let parts = and_parts (vertex_fits_in (length g.vertices) (length g.records) g.kinds x) (list_all (vertex_fits_in (length g.vertices) (length g.records) g.kinds) vertices) fit in
-        let start = and_parts (chain_fits (length g.records) x.arcs) (utils_fit (length g.vertices) (length g.records) (vertex_kinds g.kinds) x.util) parts.0 in
-        All-cons (λ (y : Vertex). ends_of g.records y.arcs ≡ true) x vertices (first_ends g.records x.arcs has.ends start.0) (each vertices parts.1)
+    by_vertex : (o : Option Vertex) → slice_get g.vertices w ≡ o → chain_of (grown g count vertices more) w ≡ chain_of g w
+    by_vertex None is = rw (same, is) refl
+    by_vertex (Some x) is =
+        rw (same, is) (links_kept (length (g.records ++ more)) g.records more x.arcs (omega (arith, length-append g.records more)) (end_at g w x ends is))
+
+-- the lists of the old vertices end among more records
+pub lists_end_more : (g : GraphData) (more : List ArcRec) → ListsEnd g → list_all (λ x. ends_of (g.records ++ more) x.arcs) g.vertices ≡ true
+lists_end_more g more ends =
+    list_all-weaker (λ (x : Vertex). ends_of g.records x.arcs) (λ x. ends_of (g.records ++ more) x.arcs) g.vertices
+    (λ x h. ends_kept (length (g.records ++ more)) g.records more x.arcs (omega (arith, length-append g.records more)) h)
+    (list_all-from_AllPass (λ (x : Vertex). ends_of g.records x.arcs) g.vertices ends)

@@ -4,9 +4,8 @@ use Rattle.std.proofs.lemmas.Int.{to_z-of_z}
 use mir.Syntax.{w64}
 use mir.Val.{SFits, of_z, to_z}
 use Rattle.sgb_graph.specs.inner.Columns.{util_kind}
-use Rattle.sgb_graph.specs.Graphs.{GraphData, ends_of, links_of, vertex_of}
-use Rattle.sgb_graph.specs.Growth.{AddsArc, AddsEdge, HasPlainArcs, IsKept, after_lower, arc_record, at_place, first_arc, link}
-use Rattle.sgb_graph.specs.inner.Growth.{with_arcs, with_ends}
+use Rattle.sgb_graph.specs.Graphs.{GraphData, ends_of, links_of, vertex_of, arc_record}
+use Rattle.sgb_graph.specs.Growth.{after_lower, first_arc, link, with_arc, with_edge, with_first}
 use Rattle.sgb_graph.specs.inner.Kept.{kept_graph}
 use Rattle.sgb_graph.specs.inner.KeptRecords.{KeptRecords}
 use Rattle.sgb_graph.specs.inner.KeptVertices.{KeptVertices}
@@ -16,28 +15,22 @@ use Rattle.sgb_graph.specs.declared.fields.Kind.TheVariants.{I, Z}
 use Rattle.sgb_graph.specs.declared.fields.Util.{Util}
 use Rattle.sgb_graph.specs.declared.fields.Util.TheVariants.{Int}
 use Rattle.sgb_graph.proofs.Chains.{step_of}
-use Rattle.sgb_graph.proofs.AddingArcs.{arc_added}
-use Rattle.sgb_graph.proofs.AddingEdges.{edge_added}
 
 -- one arc more, where vertices and records are known to be those, and its length passes through words of 64 bits
-pub arc_kept : (g : GraphData) (text : List ℕ) (count : ℕ) (own : List Util) (vertices nodes : KeptVertices) (records arcs : KeptRecords) (u v : ℕ) (far : ℤ) → SFits w64 far
-    → kept_graph text count own vertices records ≡ g → IsKept (kept_graph text count own vertices records) → HasPlainArcs g → u < length g.vertices → v < length g.vertices
-    → nodes ≡ record vertices { items = at_place (with_arcs (Some (length records.items))) u vertices.items }
+pub arc_made : (g : GraphData) (text : List ℕ) (count : ℕ) (own : List Util) (vertices nodes : KeptVertices) (records arcs : KeptRecords) (u v : ℕ) (far : ℤ) → SFits w64 far
+    → kept_graph text count own vertices records ≡ g
+    → nodes ≡ record vertices { items = with_first (length records.items) u vertices.items }
     → arcs ≡ record records { items = records.items ++ arc_record v (first_arc vertices.items u) (to_z w64 (of_z w64 far)) ∷ [] }
-    → AddsArc g (kept_graph text (count + 1) own nodes arcs) u v far × IsKept (kept_graph text (count + 1) own nodes arcs)
-arc_kept g text count own vertices nodes records arcs u v far fits view kept plain u_in v_in are_nodes are_arcs =
-    rw (are_nodes, are_arcs, to_z-of_z w64 far fits, ← view)
-    (arc_added (kept_graph text count own vertices records) u v far kept (rw (← view) at plain) (rw (← view) at u_in) (rw (← view) at v_in))
+    → kept_graph text (count + 1) own nodes arcs ≡ with_arc g u v far
+arc_made g text count own vertices nodes records arcs u v far fits view are_nodes are_arcs = rw (are_nodes, are_arcs, to_z-of_z w64 far fits, ← view) refl
 
 -- one edge more
-pub edge_kept : (g : GraphData) (text : List ℕ) (count : ℕ) (own : List Util) (vertices nodes : KeptVertices) (records arcs : KeptRecords) (u v : ℕ) (far : ℤ) → SFits w64 far
-    → kept_graph text count own vertices records ≡ g → IsKept (kept_graph text count own vertices records) → HasPlainArcs g → u < length g.vertices → v < length g.vertices
-    → nodes ≡ record vertices { items = with_ends (length records.items) (min u v) (max u v) vertices.items }
+pub edge_made : (g : GraphData) (text : List ℕ) (count : ℕ) (own : List Util) (vertices nodes : KeptVertices) (records arcs : KeptRecords) (u v : ℕ) (far : ℤ) → SFits w64 far
+    → kept_graph text count own vertices records ≡ g
+    → nodes ≡ record vertices { items = with_first (length records.items) (min u v) (with_first (length records.items + 1) (max u v) vertices.items) }
     → arcs ≡ record records { items = records.items ++ arc_record (max u v) (after_lower (length records.items) vertices.items u v) (to_z w64 (of_z w64 far)) ∷ arc_record (min u v) (first_arc vertices.items (max u v)) (to_z w64 (of_z w64 far)) ∷ [] }
-    → AddsEdge g (kept_graph text (count + 2) own nodes arcs) u v far × IsKept (kept_graph text (count + 2) own nodes arcs)
-edge_kept g text count own vertices nodes records arcs u v far fits view kept plain u_in v_in are_nodes are_arcs =
-    rw (are_nodes, are_arcs, to_z-of_z w64 far fits, ← view)
-    (edge_added (kept_graph text count own vertices records) u v far kept (rw (← view) at plain) (rw (← view) at u_in) (rw (← view) at v_in))
+    → kept_graph text (count + 2) own nodes arcs ≡ with_edge g u v far
+edge_made g text count own vertices nodes records arcs u v far fits view are_nodes are_arcs = rw (are_nodes, are_arcs, to_z-of_z w64 far fits, ← view) refl
 
 -- the kinds of own fields, of which the first becomes a number
 pub uu_kinds_of : (value : ℤ) (own : List Util) → map util_kind (set own 0 (Int value)) ≡ set (map util_kind own) 0 I

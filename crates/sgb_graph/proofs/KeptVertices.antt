@@ -10,9 +10,8 @@ use mir.Val.{SFits, to_z, of_z}
 use Rattle.std.proofs.lemmas.List.{length-map, length_push, length-replicate, length-set, map-append, map-set, get_or-set_other, take_all, take_more, take_more_set}
 use Rattle.std.proofs.lemmas.Option.{get_or_from_slice_get, slice_get-map, slice_get_within}
 use Rattle.sgb_graph.specs.inner.Columns.{HoldsMany, column_kind, values}
-use Rattle.sgb_graph.specs.Growth.{at_place, first_arc, new_vertex, number_or_zero, put_numbers, some_numbers, with_numbers, with_some_numbers}
+use Rattle.sgb_graph.specs.Growth.{at_place, first_arc, new_vertex, number_or_zero, put_numbers, some_numbers, with_first, with_numbers, with_some_numbers}
 use Rattle.sgb_graph.specs.Parts.{vertex_with_ints}
-use Rattle.sgb_graph.specs.inner.Growth.{with_arcs}
 use Rattle.sgb_graph.specs.inner.KeptRecords.{kept_number}
 use Rattle.sgb_graph.specs.inner.KeptVertices.{AreColumns, AreKept, KeptVertices, HasNumber, HaveValues, HoldNumbers, TakeNumbers, bare_named, bare_vertex, field_columns, field_kinds, ints_inside, kept_items, kept_vertices, number_at, numbers_kind, numbers_values, rows, with_fields, with_row}
 use Rattle.sgb_graph.specs.Made.{no_fields}
@@ -156,17 +155,18 @@ pub first_kept : (v k : ℕ) (ps : List PlainVertex) (p : PlainVertex) (f : Fiel
 first_kept v k ps p f here kept = search (rules, columns_kept, length-set, same_columns, here)
 
 -- is what is seen
-pub first_put : (v k : ℕ) (first : Option ℕ) (ps : List PlainVertex) (p : PlainVertex) (f : Fields) → v < length ps → p ≡ get_or ps v p → kept_number k ≡ first → kept_items (set ps v (record p { arcs = k })) f ≡ at_place (with_arcs first) v (kept_items ps f)
-first_put v k first ps p f below here is =
+pub first_put : (v k j : ℕ) (ps : List PlainVertex) (p : PlainVertex) (f : Fields) → v < length ps → p ≡ get_or ps v p → kept_number k ≡ Some j → kept_items (set ps v (record p { arcs = k })) f ≡ with_first j v (kept_items ps f)
+first_put v k j ps p f below here is =
     let q : PlainVertex = record p { arcs = k } in
-    let same : bare_vertex q ≡ with_arcs first (bare_vertex p) = ap (λ o. with_arcs o (bare_vertex p)) is in
+    let led : Vertex → Vertex = λ x. record x { arcs = Some j } in
+    let same : bare_vertex q ≡ led (bare_vertex p) = ap (λ o. record (bare_vertex p) { arcs = o }) is in
     let within : v < length (map bare_vertex ps) = omega (arith, length-map ps bare_vertex) in
     let there : bare_vertex p ≡ get_or (map bare_vertex ps) v (bare_vertex p) = ap bare_vertex here ∙ sym (get_or-map bare_vertex ps v p) in
-    let bare : map bare_vertex (set ps v q) ≡ at_place (with_arcs first) v (map bare_vertex ps) =
-    map-set bare_vertex ps v q ∙ (ap (set (map bare_vertex ps) v) same ∙ at_place-is_set (with_arcs first) v (map bare_vertex ps) (bare_vertex p) within there) in
-    same_table (map bare_vertex (set ps v q)) (at_place (with_arcs first) v (map bare_vertex ps)) (length (set ps v q)) (length ps)
+    let bare : map bare_vertex (set ps v q) ≡ with_first j v (map bare_vertex ps) =
+    map-set bare_vertex ps v q ∙ (ap (set (map bare_vertex ps) v) same ∙ at_place-is_set led v (map bare_vertex ps) (bare_vertex p) within there) in
+    same_table (map bare_vertex (set ps v q)) (with_first j v (map bare_vertex ps)) (length (set ps v q)) (length ps)
     (field_columns (set ps v q) f) (field_columns ps f) bare (length-set ps v q) (same_columns v ps p q f here refl)
-    ∙ combined-at_first put_fields (with_arcs first) (with_arcs first) v (map bare_vertex ps) (rows (length ps) (field_columns ps f)) (λ x fields. refl)
+    ∙ combined-at_first put_fields led led v (map bare_vertex ps) (rows (length ps) (field_columns ps f)) (λ x fields. refl)
 
 -- the numbers of the first k vertices are taken, all else stays
 pub record TakenSoFar (place k : ℕ) (old new : List PlainVertex) (found : List Util) : Type 0 where

@@ -10,11 +10,11 @@ use Rattle.std.proofs.lemmas.List.Elements.{Contains-get_or, filter-append, Cont
 use Rattle.std.proofs.lemmas.List.Sums.{count_by-le-length, length-filter}
 use Rattle.sgb_vec.proofs.Lists.{AllPairs-append, Contains-cases, Contains-first, Contains-none, Contains-other}
 use Rattle.sgb_graph.specs.Events.{Event, Record, all_records, links_at, list_from, list_of, records_of}
-use Rattle.sgb_graph.specs.Growth.{link, record_from}
+use Rattle.sgb_graph.specs.Growth.{link}
 use Rattle.sgb_graph.specs.declared.fields.Link.{Link}
 use Rattle.sgb_vec.proofs.Lists.{slice_get-left}
 use Rattle.sgb_graph.proofs.Lists.{slice_get-prefix, slice_get-after}
-use Rattle.sgb_graph.proofs.EventLemmas.{list_none, list_first, link_here, no_link_here}
+use Rattle.sgb_graph.proofs.EventLemmas.{list_none, list_first, link_here, no_link_here, record_from}
 
 -- each record that starts at a vertex has its link there
 each_link : (k j : ℕ) (records : List Record) (r : Record) → slice_get records j ≡ Some r → Contains (links_at r.start k records) (link (k + j) r.tip r.len)

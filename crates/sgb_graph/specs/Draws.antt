@@ -31,14 +31,10 @@ y_number seed (suc (suc k)) = difference (difference (y_number seed k) (y_number
 abbrev pub first_x : ℕ → ℕ → ℕ
 first_x seed i = y_number seed (21 * i % 55)
 
--- one more in front of the numbers, newest first: the 55th before it less the 24th before it
-abbrev pub with_next : List ℕ → List ℕ
-with_next xs = difference (slice_index xs 54) (slice_index xs 23) ∷ xs
-
--- X(55 + k), X(54 + k), .., X(1)
+-- X(55 + k), X(54 + k), .., X(1): each after the first 55 is the 55th before it less the 24th before it
 unfoldable pub back_to_first : ℕ → ℕ → List ℕ
 back_to_first seed zero = map (λ i. first_x seed i) (reverse (range_with_len 1 55))
-back_to_first seed (suc k) = with_next (back_to_first seed k)
+back_to_first seed (suc k) = let xs = back_to_first seed k in difference (slice_index xs 54) (slice_index xs 23) ∷ xs
 
 -- X(n) for n from 1 on
 abbrev pub x_number : ℕ → ℕ → ℕ

@@ -1,10 +1,10 @@
 -- Graphs as data, and the lists of arcs that hang from their vertices [GB_GRAPH].
-use Rattle.std.specs.Prelude.{◌≡◌, ℕ, zero, suc, Bool, true, false, List, [], ◌∷◌, length, All, IsTrue, Option, slice_get}
+use Rattle.std.specs.Prelude.{◌≡◌, ℕ, zero, suc, ℤ, Bool, true, false, List, [], ◌∷◌, length, All, IsTrue, Option, slice_get}
 use Rattle.std.specs.List.{flat_map}
 use Rattle.std.specs.Option.{option_map_or}
 use Rattle.sgb_graph.specs.declared.fields.Kind.{Kind}
 use Rattle.sgb_graph.specs.declared.fields.Ref.{Ref}
-use Rattle.sgb_graph.specs.declared.fields.Ref.TheVariants.{Null, One, At}
+use Rattle.sgb_graph.specs.declared.fields.Ref.TheVariants.{At}
 use Rattle.sgb_graph.specs.declared.fields.Util.{Util}
 use Rattle.sgb_graph.specs.declared.fields.Util.TheVariants.{Nothing}
 use Rattle.sgb_graph.specs.declared.fields.Vertex.{Vertex}
@@ -24,6 +24,10 @@ pub record GraphData : Type 0 where
 -- the fields of an arc record hold nothing
 abbrev pub HasNoFields : ArcRec → Type 0
 HasNoFields r = (r.a ≡ Nothing) × (r.b ≡ Nothing)
+
+-- a record that leads to v, before the one given, with no utility fields
+abbrev pub arc_record : ℕ → Option ℕ → ℤ → ArcRec
+arc_record v after far = record { tip = At v; next = after; len = far; a = Nothing; b = Nothing }
 
 -- the numbers of the records from the first one on by next; at most as many as the fuel says
 unfoldable pub numbers_from : ℕ → List ArcRec → Option ℕ → List ℕ
@@ -47,8 +51,7 @@ ends_of records first = ends_from (length records) records first
 -- the vertex of a tip
 abbrev pub vertex_of : Ref → ℕ
 vertex_of (At v) = v
-vertex_of Null = 0
-vertex_of One = 0
+vertex_of _ = 0
 
 -- the arc of the record of this number
 abbrev pub link_of : List ArcRec → ℕ → List Link

@@ -1,15 +1,14 @@
 -- How a graph is made and grows, step by step [GB_GRAPH, gb_new_graph, gb_new_arc and gb_new_edge].
-use Rattle.std.specs.Prelude.{◌≡◌, ◌≢◌, ◌≤◌, ◌<◌, ◌+◌, ◌++◌, ◌^◌, ◌==◌, ℕ, zero, suc, ℤ, pos, min, max, List, [], ◌∷◌, length, map, All, codes, decimal, Option, Some, None, slice_get, slice_set, Bool, true, false, if◌then◌else◌}
+use Rattle.std.specs.Prelude.{◌≡◌, ◌≤◌, ◌+◌, ◌++◌, ◌^◌, ◌==◌, ℕ, zero, suc, ℤ, pos, min, max, List, [], ◌∷◌, length, map, fold, All, codes, decimal, Option, Some, None, slice_get, slice_set, Bool, true, false, if◌then◌else◌}
 use Rattle.std.specs.Option.{option_and_then}
-use Rattle.sgb_graph.specs.Graphs.{GraphData, HasNoFields, ListsEnd, chain_of}
-use Rattle.sgb_graph.specs.Events.{Event, HasArcsOf, Record}
+use Rattle.sgb_graph.specs.Graphs.{GraphData, HasNoFields, arc_record}
+use Rattle.sgb_graph.specs.Events.{Event, HasArcsOf}
 use Rattle.sgb_graph.specs.Made.{no_kinds, no_fields}
 use Rattle.sgb_graph.specs.Sound.{IsGraph, arc_kinds}
 use Rattle.sgb_graph.specs.declared.fields.Kind.{Kind}
 use Rattle.sgb_graph.specs.declared.fields.Kind.TheVariants.{Z, I}
-use Rattle.sgb_graph.specs.declared.fields.Ref.TheVariants.{At}
 use Rattle.sgb_graph.specs.declared.fields.Util.{Util}
-use Rattle.sgb_graph.specs.declared.fields.Util.TheVariants.{Nothing, Int, Vertex as VertexField, Str, Chain}
+use Rattle.sgb_graph.specs.declared.fields.Util.TheVariants.{Nothing, Int}
 use Rattle.sgb_graph.specs.declared.fields.Vertex.{Vertex}
 use Rattle.sgb_graph.specs.declared.fields.ArcRec.{ArcRec}
 use Rattle.sgb_graph.specs.declared.fields.Link.{Link}
@@ -46,17 +45,9 @@ at_place f (suc k) (x ∷ xs) = x ∷ at_place f k xs
 abbrev pub first_arc : List Vertex → ℕ → Option ℕ
 first_arc vertices v = option_and_then (λ x. x.arcs) (slice_get vertices v)
 
--- a record that leads to v, before the one given, with no utility fields
-abbrev pub arc_record : ℕ → Option ℕ → ℤ → ArcRec
-arc_record v after far = record { tip = At v; next = after; len = far; a = Nothing; b = Nothing }
-
 -- the arc of record number k to v
 abbrev pub link : ℕ → ℕ → ℤ → Link
 link k v far = record { number = k; tip = v; len = far }
-
--- what the record of an arc from u to v says
-abbrev pub record_from : ℕ → ℕ → ℤ → Record
-record_from u v far = record { start = u; tip = v; len = far }
 
 -- the utility fields of arcs hold nothing
 abbrev pub HasPlainArcs : GraphData → Type 0
@@ -71,38 +62,41 @@ pub record KeepsAllButArcs (old new : GraphData) : Type 0 where
   pub names : map (λ x. x.name) new.vertices ≡ map (λ x. x.name) old.vertices
   pub fields : map (λ x. x.util) new.vertices ≡ map (λ x. x.util) old.vertices
 
--- the new graph has one arc more, from u to v: it is the last record and the first on the list of u
-pub record AddsArc (old new : GraphData) (u v : ℕ) (len : ℤ) : Type 0 where
-  pub count : new.m ≡ old.m + 1
-  pub records : new.records ≡ old.records ++ arc_record v (first_arc old.vertices u) len ∷ []
-  pub chain : chain_of new u ≡ link (length old.records) v len ∷ chain_of old u
-  pub others : (w : ℕ) → w ≢ u → chain_of new w ≡ chain_of old w
-  pub within : (u < length old.vertices) × (v < length old.vertices)
-  pub ends : ListsEnd new
-  pub rest : KeepsAllButArcs old new
+-- the vertices with record k as the first on the list of vertex u
+abbrev pub with_first : ℕ → ℕ → List Vertex → List Vertex
+with_first k u vertices = at_place (λ x. record x { arcs = Some k }) u vertices
+
+-- the graph with one arc more, from u to v: it is the last record and the first on the list of u, before what
+-- was the first
+abbrev pub with_arc : GraphData → ℕ → ℕ → ℤ → GraphData
+with_arc g u v len = record g {
+  m = g.m + 1;
+  vertices = with_first (length g.records) u g.vertices;
+  records = g.records ++ arc_record v (first_arc g.vertices u) len ∷ [];
+}
 
 -- what follows the lower record, number k, of a new edge: where it is a loop, the higher one
 abbrev pub after_lower : ℕ → List Vertex → ℕ → ℕ → Option ℕ
 after_lower k vertices u v = if u == v then Some (k + 1) else first_arc vertices (min u v)
 
--- the new graph has one edge more, between u and v: it is the last two records. The lower one is the first on
--- the list of the smaller end, the higher one on that of the other; on the list of a loop it follows the lower
-pub record AddsEdge (old new : GraphData) (u v : ℕ) (len : ℤ) : Type 0 where
-  pub count : new.m ≡ old.m + 2
-  pub records : new.records ≡ old.records
-      ++ arc_record (max u v) (after_lower (length old.records) old.vertices u v) len ∷ arc_record (min u v) (first_arc old.vertices (max u v)) len ∷ []
-  pub loop : u ≡ v → chain_of new u ≡ link (length old.records) u len ∷ link (length old.records + 1) u len ∷ chain_of old u
-  pub smaller : u ≢ v → chain_of new (min u v) ≡ link (length old.records) (max u v) len ∷ chain_of old (min u v)
-  pub greater : u ≢ v → chain_of new (max u v) ≡ link (length old.records + 1) (min u v) len ∷ chain_of old (max u v)
-  pub others : (w : ℕ) → w ≢ u → w ≢ v → chain_of new w ≡ chain_of old w
-  pub within : (u < length old.vertices) × (v < length old.vertices)
-  pub ends : ListsEnd new
-  pub rest : KeepsAllButArcs old new
+-- the graph with one edge more, between u and v: it is the last two records. The lower one is the first on the
+-- list of the smaller end, the higher one on that of the other; on the list of a loop it follows the lower
+abbrev pub with_edge : GraphData → ℕ → ℕ → ℤ → GraphData
+with_edge g u v len = let k = length g.records in record g {
+  m = g.m + 2;
+  vertices = with_first k (min u v) (with_first (k + 1) (max u v) g.vertices);
+  records = g.records
+      ++ arc_record (max u v) (after_lower k g.vertices u v) len ∷ arc_record (min u v) (first_arc g.vertices (max u v)) len ∷ [];
+}
 
--- the new graph has one event more, from u to v: an arc where directed, else an edge
-abbrev pub AddsEvent : Bool → GraphData → GraphData → ℕ → ℕ → ℤ → Type 0
-AddsEvent true old new u v len = AddsArc old new u v len
-AddsEvent false old new u v len = AddsEdge old new u v len
+-- the graph with one event more: an arc where directed, else an edge
+abbrev pub with_event : Bool → GraphData → Event → GraphData
+with_event true g e = with_arc g e.from e.to e.len
+with_event false g e = with_edge g e.from e.to e.len
+
+-- with these events, one after another
+abbrev pub with_events : Bool → GraphData → List Event → GraphData
+with_events directed g events = fold (with_event directed) g events
 
 -- the new graph is the old one with the arcs of these events after those that it had
 pub record AddsEvents (directed : Bool) (old new : GraphData) (events : List Event) : Type 0 where
@@ -110,17 +104,10 @@ pub record AddsEvents (directed : Bool) (old new : GraphData) (events : List Eve
   pub arc_fields : All HasNoFields old.records → All HasNoFields new.records
   pub rest : KeepsAllButArcs old new
 
--- the value is an integer
-abbrev pub is_number : Util → Bool
-is_number (Int i) = true
-is_number Nothing = false
-is_number (VertexField r) = false
-is_number (Str s) = false
-is_number (Chain first) = false
-
 -- an integer stays, anything else becomes 0
 abbrev pub number_or_zero : Util → Util
-number_or_zero util = if is_number util then util else Int (pos 0)
+number_or_zero (Int i) = Int i
+number_or_zero _ = Int (pos 0)
 
 -- the utility fields of a vertex with a number in each of x, y, z (places 3, 4, 5): 0 where there was none
 abbrev pub some_numbers : List Util → List Util
@@ -157,13 +144,3 @@ with_uu value g = record g { kinds = slice_set g.kinds 8 I; util = slice_set g.u
 -- the graph with another id
 abbrev pub with_id : List ℕ → GraphData → GraphData
 with_id text g = record g { id = text }
-
--- new arcs, one for each event in order, lead from the old graph to the new one
-abbrev pub ArcsLead : GraphData → List Event → GraphData → Type 0
-ArcsLead old [] new = new ≡ old
-ArcsLead old (e ∷ events) new = (next : GraphData) × AddsArc old next e.from e.to e.len × ArcsLead next events new
-
--- the same with new edges
-abbrev pub EdgesLead : GraphData → List Event → GraphData → Type 0
-EdgesLead old [] new = new ≡ old
-EdgesLead old (e ∷ events) new = (next : GraphData) × AddsEdge old next e.from e.to e.len × EdgesLead next events new

@@ -1,5 +1,5 @@
 -- The parts of a graph that a file brings, and the graph that they make up [GB_SAVE, restore_graph].
-use Rattle.std.specs.Prelude.{◌++◌, ◌&&◌, ℕ, ℤ, Bool, List, [], ◌∷◌, length, nat_le, Option, Result, Ok, Err, if◌then◌else◌}
+use Rattle.std.specs.Prelude.{◌++◌, ◌&&◌, ℕ, ℤ, List, [], ◌∷◌, length, nat_le, Option, Result, Ok, Err, if◌then◌else◌}
 use Rattle.sgb_vec.specs.Limits.{most_vertices}
 use Rattle.sgb_vec.specs.declared.panics.Panic.{Panic}
 use Rattle.sgb_vec.specs.declared.panics.Panic.TheVariants.{Syntax}
@@ -21,14 +21,6 @@ vertex_with_ints text first x y z = with_numbers x y z (record (new_vertex text)
 abbrev pub with_record : ArcRec → GraphData → GraphData
 with_record r g = record g { records = g.records ++ r ∷ [] }
 
--- there are not too many vertices, and all fields fit their kinds
-abbrev pub parts_fit : GraphData → Bool
-parts_fit g = nat_le (length g.vertices) most_vertices && fields_fit g
-
--- the parts make up a graph: not too many vertices, fields that fit their kinds, and sound lists
-abbrev pub is_graph : GraphData → Bool
-is_graph g = nat_le (length g.vertices) most_vertices && fields_fit g && is_sound g
-
--- the graph that the parts make up: these parts, or none
+-- the graph that the parts make up: these parts, where they are one (`IsGraph`), or none
 abbrev pub checked : GraphData → Result GraphData Panic
-checked g = if is_graph g then Ok g else Err Syntax
+checked g = if nat_le (length g.vertices) most_vertices && fields_fit g && is_sound g then Ok g else Err Syntax

@@ -7,7 +7,7 @@ use Rattle.sgb_graph.specs.Graphs.{GraphData, ends_of, numbers_of}
 use Rattle.sgb_graph.specs.declared.fields.Kind.{Kind}
 use Rattle.sgb_graph.specs.declared.fields.Kind.TheVariants.{Z, I, V, S, A}
 use Rattle.sgb_graph.specs.declared.fields.Ref.{Ref}
-use Rattle.sgb_graph.specs.declared.fields.Ref.TheVariants.{Null, One, At}
+use Rattle.sgb_graph.specs.declared.fields.Ref.TheVariants.{At}
 use Rattle.sgb_graph.specs.declared.fields.Util.{Util}
 use Rattle.sgb_graph.specs.declared.fields.Util.TheVariants.{Nothing, Int, Vertex as VertexField, Str, Chain}
 use Rattle.sgb_graph.specs.declared.fields.Vertex.{Vertex}
@@ -32,8 +32,7 @@ chains_end records = list_all (λ k. ends_of records (Some k)) (range_with_len 0
 -- this is a vertex
 abbrev pub is_vertex : Ref → Bool
 is_vertex (At v) = true
-is_vertex Null = false
-is_vertex One = false
+is_vertex _ = false
 
 -- the record of this number leads to a vertex
 abbrev pub leads_to_vertex : List ArcRec → ℕ → Bool
@@ -50,9 +49,8 @@ is_sound g = chains_end g.records && lists_lead_to_vertices g.vertices g.records
 
 -- one of n vertices, or none
 abbrev pub ref_fits : ℕ → Ref → Bool
-ref_fits n Null = true
-ref_fits n One = true
 ref_fits n (At v) = nat_lt v n
+ref_fits n _ = true
 
 -- one of m arc records, or none
 abbrev pub chain_fits : ℕ → Option ℕ → Bool

@@ -7,7 +7,7 @@ pub mod Draws
 pub mod Fitting
 -- a generator from cycle to cycle
 pub mod Flips
--- vertices whose lists begin elsewhere, and fields that hold integers
+-- fields that hold integers
 pub mod Growth
 -- jumps over many random numbers
 pub mod Jumps

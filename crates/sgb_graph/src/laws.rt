@@ -1,12 +1,12 @@
-ghost use Rattle.std.specs.Prelude.{◌≡◌, ℕ, ◌-◌, ◌*◌, ◌%◌, ◌<◌, ◌≤◌, ◌==◌, ◌++◌, [], ◌∷◌, Bool, true, false, List, length, Some, Ok, Err, slice_get, Contains, count_by, IsTrue, All, ◌↔◌};
-ghost use Rattle.sgb_graph.specs.Graphs.{GraphData};
+ghost use Rattle.std.specs.Prelude.{◌≡◌, ◌≢◌, ℕ, ℤ, min, max, ◌+◌, ◌-◌, ◌*◌, ◌%◌, ◌<◌, ◌≤◌, ◌==◌, ◌++◌, [], ◌∷◌, Bool, true, false, List, length, Some, Ok, Err, slice_get, Contains, count_by, IsTrue, All, ◌↔◌};
+ghost use Rattle.sgb_graph.specs.Graphs.{GraphData, ListsEnd, chain_of};
 ghost use Rattle.sgb_vec.specs.declared.panics.Panic.TheVariants.{Syntax};
-ghost use Rattle.sgb_graph.specs.Descriptions.{IsGraphOf};
+ghost use Rattle.sgb_graph.specs.Descriptions.{Description, IsGraphOf};
 ghost use Rattle.sgb_graph.specs.Parts.{checked};
 ghost use Rattle.sgb_graph.specs.Sound.{IsGraph};
-ghost use Rattle.sgb_graph.specs.Made.{DescribedIs, DescribedIsOnly, plain};
-ghost use Rattle.sgb_graph.specs.Events.{Event, HasArcsOf, Record, all_records, list_of};
-ghost use Rattle.sgb_graph.specs.Growth.{AddsArc, AddsEdge, AddsEvents, ArcsLead, EdgesLead, link, new_graph, record_from, with_id};
+ghost use Rattle.sgb_graph.specs.Made.{graph_described, plain};
+ghost use Rattle.sgb_graph.specs.Events.{Event, HasArcsOf, HasEndsBelow, Record, all_records, list_of};
+ghost use Rattle.sgb_graph.specs.Growth.{AddsEvents, KeepsAllButArcs, link, new_graph, with_arc, with_edge, with_events, with_id};
 ghost use Rattle.sgb_graph.specs.declared.fields.Link.{Link};
 ghost use Rattle.sgb_graph.specs.IdTexts.{is_id_text};
 ghost use Rattle.sgb_vec.specs.Names.{IsTextByte};
@@ -35,24 +35,59 @@ pub fn uniform_draw_law()
         → (last ≡ used_draw seed m k) × (number ≡ draw seed last % m) }
 {}
 
+/// A new arc is in front of the list of its start; the other lists stay, each list ends as before, and all but the arcs
+/// is as it was (GB_GRAPH, gb_new_arc).
+pub fn new_arc_law()
+    ensures chain { (g : GraphData) (u v : ℕ) (len : ℤ) → ListsEnd g → u < length g.vertices
+        → chain_of (with_arc g u v len) u ≡ link (length g.records) v len ∷ chain_of g u }
+    ensures others { (g : GraphData) (u v w : ℕ) (len : ℤ) → ListsEnd g → u < length g.vertices
+        → w ≢ u → chain_of (with_arc g u v len) w ≡ chain_of g w }
+    ensures ends { (g : GraphData) (u v : ℕ) (len : ℤ) → ListsEnd g → u < length g.vertices
+        → ListsEnd (with_arc g u v len) }
+    ensures rest { (g : GraphData) (u v : ℕ) (len : ℤ) → KeepsAllButArcs g (with_arc g u v len) }
+{}
+
+/// A new edge is in front of the lists of its ends, the lower record on that of the smaller one; a loop is twice in front
+/// of its list, the lower record first. The other lists stay, each list ends as before, and all but the arcs is as it was
+/// (GB_GRAPH, gb_new_edge).
+pub fn new_edge_law()
+    ensures loops { (g : GraphData) (u : ℕ) (len : ℤ) → ListsEnd g → u < length g.vertices
+        → chain_of (with_edge g u u len) u
+        ≡ link (length g.records) u len ∷ link (length g.records + 1) u len ∷ chain_of g u }
+    ensures smaller { (g : GraphData) (u v : ℕ) (len : ℤ) → ListsEnd g → u < length g.vertices
+        → v < length g.vertices → u ≢ v → chain_of (with_edge g u v len) (min u v)
+        ≡ link (length g.records) (max u v) len ∷ chain_of g (min u v) }
+    ensures greater { (g : GraphData) (u v : ℕ) (len : ℤ) → ListsEnd g → u < length g.vertices
+        → v < length g.vertices → u ≢ v → chain_of (with_edge g u v len) (max u v)
+        ≡ link (length g.records + 1) (min u v) len ∷ chain_of g (max u v) }
+    ensures others { (g : GraphData) (u v w : ℕ) (len : ℤ) → ListsEnd g → u < length g.vertices
+        → v < length g.vertices → w ≢ u → w ≢ v
+        → chain_of (with_edge g u v len) w ≡ chain_of g w }
+    ensures ends { (g : GraphData) (u v : ℕ) (len : ℤ) → ListsEnd g → u < length g.vertices
+        → v < length g.vertices → ListsEnd (with_edge g u v len) }
+    ensures rest { (g : GraphData) (u v : ℕ) (len : ℤ) → KeepsAllButArcs g (with_edge g u v len) }
+{}
+
 /// New arcs, one for each event in order, leave the graph of the events (GB_GRAPH, gb_new_arc).
 pub fn arcs_law()
     ensures none { (names : List (List ℕ)) → HasArcsOf true [] (new_graph names) }
-    ensures more { (events : List Event) (e : Event) (old new : GraphData)
-        → HasArcsOf true events old → AddsArc old new e.from e.to e.len
-        → HasArcsOf true (events ++ e ∷ []) new }
-    ensures all { (names : List (List ℕ)) (events : List Event) (g : GraphData)
-        → ArcsLead (new_graph names) events g → HasArcsOf true events g }
+    ensures more { (events : List Event) (e : Event) (g : GraphData)
+        → HasArcsOf true events g → HasEndsBelow (length g.vertices) e
+        → HasArcsOf true (events ++ e ∷ []) (with_arc g e.from e.to e.len) }
+    ensures all { (names : List (List ℕ)) (events : List Event)
+        → All (HasEndsBelow (length names)) events
+        → HasArcsOf true events (with_events true (new_graph names) events) }
 {}
 
 /// New edges, one for each event in order, leave the graph of the events (GB_GRAPH, gb_new_edge).
 pub fn edges_law()
     ensures none { (names : List (List ℕ)) → HasArcsOf false [] (new_graph names) }
-    ensures more { (events : List Event) (e : Event) (old new : GraphData)
-        → HasArcsOf false events old → AddsEdge old new e.from e.to e.len
-        → HasArcsOf false (events ++ e ∷ []) new }
-    ensures all { (names : List (List ℕ)) (events : List Event) (g : GraphData)
-        → EdgesLead (new_graph names) events g → HasArcsOf false events g }
+    ensures more { (events : List Event) (e : Event) (g : GraphData)
+        → HasArcsOf false events g → HasEndsBelow (length g.vertices) e
+        → HasArcsOf false (events ++ e ∷ []) (with_edge g e.from e.to e.len) }
+    ensures all { (names : List (List ℕ)) (events : List Event)
+        → All (HasEndsBelow (length names)) events
+        → HasArcsOf false events (with_events false (new_graph names) events) }
 {}
 
 /// Events that are added one after another add all of them, in order; added to a new graph they make the graph of
@@ -77,7 +112,8 @@ pub fn lists_law()
         → Contains (list_of directed events r.start) (link k r.tip r.len) }
     ensures only { (directed : Bool) (events : List Event) (v : ℕ) (l : Link)
         → Contains (list_of directed events v) l
-        → slice_get (all_records directed events) l.number ≡ Some (record_from v l.tip l.len) }
+        → slice_get (all_records directed events) l.number
+        ≡ Some (record { start = v; tip = l.tip; len = l.len }) }
     ensures once { (directed : Bool) (events : List Event) (v : ℕ)
         → length (list_of directed events v)
         ≡ count_by (λ r. r.start == v) (all_records directed events) }
@@ -85,8 +121,10 @@ pub fn lists_law()
 
 /// A description makes one graph, and no other graph is the one that it describes.
 pub fn described_law()
-    ensures only { DescribedIsOnly }
-    ensures is { DescribedIs }
+    ensures only { (d : Description) (g : GraphData) → IsGraphOf d g → g ≡ graph_described d }
+    ensures is { (d : Description)
+        → All (HasEndsBelow (length d.names)) d.events → length d.fields ≡ length d.names
+        → IsGraphOf d (graph_described d) }
 {}
 
 /// A text passes the test for ids exactly where each of its bytes may stand in a string (GB_SAVE).

@@ -33,8 +33,8 @@ pub use flips::Flip;
 pub use graphs::{Arcs, Graph};
 pub use ids::{Id, IdWriter, compound_id, double_compound_id};
 pub use laws::{
-    arcs_law, described_law, edges_law, events_law, id_texts_law, lists_law, parts_law,
-    random_numbers_law, uniform_draw_law,
+    arcs_law, described_law, edges_law, events_law, id_texts_law, lists_law, new_arc_law,
+    new_edge_law, parts_law, random_numbers_law, uniform_draw_law,
 };
 pub use names::Names;
 pub use parts::Parts;

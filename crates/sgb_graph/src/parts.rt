@@ -1,8 +1,9 @@
-ghost use Rattle.std.specs.Prelude.{◌≡◌, ◌≤◌, ◌^◌, [], false, Err, OnOk, OnErr, IfOk, IsOkUnless};
+ghost use Rattle.std.specs.Prelude.{◌≡◌, ◌≤◌, ◌^◌, [], false, Err, OnOk, OnErr, IfOk, IsOkUnless, ◌&&◌, nat_le, length};
 ghost use Rattle.sgb_graph.specs.Growth.{graph_data};
 ghost use Rattle.sgb_vec.specs.Results.{IsValue};
-ghost use Rattle.sgb_graph.specs.Parts.{checked, parts_fit, vertex_with_ints, with_record, with_vertex};
-ghost use Rattle.sgb_graph.specs.Sound.{IsGraph};
+ghost use Rattle.sgb_graph.specs.Parts.{checked, vertex_with_ints, with_record, with_vertex};
+ghost use Rattle.sgb_vec.specs.Limits.{most_vertices};
+ghost use Rattle.sgb_graph.specs.Sound.{IsGraph, fields_fit};
 
 // Whether vertices and records fit kinds and numbers.
 mod fitting;
@@ -128,7 +129,8 @@ impl Parts {
     pub fn check(self) -> Result<Graph, Panic>
         ensures value { IsValue (checked self) result }
         ensures graph { IfOk result IsGraph }
-        ensures unfit { parts_fit self ≡ false → result ≡ Err Panic.Syntax }
+        ensures unfit { (nat_le (length self.vertices) most_vertices && fields_fit self) ≡ false
+            → result ≡ Err Panic.Syntax }
     {
         if !self.kept.are_all(&self.more_vertices, &self.more_records) {
             return Err(Panic::Syntax);

@@ -3,7 +3,7 @@ ghost use Rattle.std.specs.Prelude.{◌≡◌, ◌<◌, ◌+◌, ◌++◌, ◌^�
 ghost use Rattle.sgb_graph.specs.Columns.{arc_seen};
 ghost use Rattle.sgb_graph.specs.Sound.{util_fits};
 ghost use Rattle.sgb_graph.specs.inner.Columns.{column_kind, util_kind, values};
-ghost use Rattle.sgb_graph.specs.Growth.{arc_record};
+ghost use Rattle.sgb_graph.specs.Graphs.{arc_record};
 ghost use Rattle.std.specs.List.{list_all};
 ghost use Rattle.sgb_graph.specs.inner.Fitting.{record_fits_by};
 ghost use Rattle.sgb_graph.specs.inner.KeptRecords.{kept_number, plain_fits};

@@ -7,9 +7,8 @@ ghost use Rattle.sgb_graph.specs.Columns.{util_seen, vertex_seen};
 ghost use Rattle.sgb_graph.specs.Sound.{chain_fits, util_fits};
 ghost use Rattle.sgb_graph.specs.inner.Columns.{HoldsMany, util_kind, values};
 ghost use Rattle.sgb_graph.specs.inner.Fitting.{vertex_fits_by};
-ghost use Rattle.sgb_graph.specs.Growth.{at_place, first_arc, new_vertex, number_or_zero, with_numbers, with_some_numbers};
+ghost use Rattle.sgb_graph.specs.Growth.{at_place, first_arc, new_vertex, number_or_zero, with_first, with_numbers, with_some_numbers};
 ghost use Rattle.sgb_graph.specs.Parts.{vertex_with_ints};
-ghost use Rattle.sgb_graph.specs.inner.Growth.{with_arcs};
 ghost use Rattle.sgb_graph.specs.inner.KeptRecords.{kept_number};
 ghost use Rattle.sgb_graph.specs.inner.KeptVertices.{AreKept, HoldNumbers, TakeNumbers, bare_named, bare_vertex, columns_fit, field_columns, field_kinds, ints_alone, ints_inside, kinds_of_vertices, numbers_values};
 ghost use Rattle.sgb_graph.specs.declared.fields.Kind.{Kind};
@@ -190,7 +189,7 @@ impl Vertices {
         requires vertex { v < length self.old.items }
         requires small { number + 1 < 2 ^ 64 }
         ensures { self.new ≡ record self.old
-            { items = at_place (with_arcs (Some number)) v self.old.items } }
+            { items = with_first number v self.old.items } }
     {
         self.plain[v as usize].arcs = keep_number(Some(number));
     }

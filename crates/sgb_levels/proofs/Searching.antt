@@ -9,7 +9,7 @@ use Rattle.sgb_graph.specs.Graphs.{GraphData, chain_of}
 use Rattle.sgb_graph.specs.Growth.{IsKept, first_arc}
 use Rattle.sgb_graph.specs.declared.fields.Link.{Link}
 use Rattle.sgb_graph.proofs.AddingArcs.{chain_of_vertex}
-use Rattle.sgb_graph.proofs.Growing.{parts_of}
+use Rattle.sgb_graph.proofs.Growing.{lists_end, parts_of}
 use Rattle.sgb_graph.proofs.Tips.{tips_below}
 use Rattle.sgb_levels.specs.Distances.{AreDistances, HasArc, IsDistanceIfAny, IsPath, IsWalk, end_of, tips_from}
 use Rattle.sgb_levels.specs.inner.Marks.{all_marked, marked, marks}
@@ -94,7 +94,7 @@ tips_within g kept v below =
     let some : 0 < n = omega (arith, below) in
     let parts = parts_of g kept.graph in
     let within = tips_below (length g.records) n (length g.records) g.kinds g.records (first_arc g.vertices v) some parts.records in
-    All-map (λ t. t < n) (λ l. l.tip) (chain_of g v) (subst (All (λ (l : Link). l.tip < n)) (sym (chain_of_vertex g v parts below).chain) within)
+    All-map (λ t. t < n) (λ l. l.tip) (chain_of g v) (subst (All (λ (l : Link). l.tip < n)) (sym (chain_of_vertex g v (lists_end g parts) below).chain) within)
 
 all_tips_within : (g : GraphData) → IsKept g → (vs : List ℕ) → All (λ v. v < length g.vertices) vs → All (λ t. t < length g.vertices) (flat_map (tips_from g) vs)
 all_tips_within g kept [] within = All-nil (λ t. t < length g.vertices)

@@ -8,7 +8,8 @@ use Rattle.std.proofs.lemmas.List.{append-nil, reverse-append}
 use Rattle.std.proofs.lemmas.List.Elements.{All-nil, All-cons, All-head, All-tail, All-append, All-weaker}
 use Rattle.sgb_graph.specs.Graphs.{GraphData}
 use Rattle.sgb_graph.specs.Events.{Event, Record, HasArcsOf, links_at, list_from, records_of}
-use Rattle.sgb_graph.specs.Growth.{link, record_from}
+use Rattle.sgb_graph.specs.Growth.{link}
+use Rattle.sgb_graph.proofs.EventLemmas.{record_from}
 use Rattle.sgb_graph.specs.declared.fields.Link.{Link}
 use Rattle.sgb_ops.specs.Taken.{is_loop_with, each_edge_once, taken, lower_record, edges_up_from}
 use Rattle.sgb_ops.specs.inner.TakenArcs.{IsStep, taken_after, without_other}

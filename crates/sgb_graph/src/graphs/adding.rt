@@ -1,7 +1,7 @@
 //! New arcs and edges (GB_GRAPH, gb_new_arc and gb_new_edge).
 ghost use Rattle.std.specs.Prelude.{◌≡◌, ◌<◌, ◌+◌, ◌++◌, [], ◌∷◌, length, min, max, ◌^◌, Some, IfSome, OnOk, OnErr, IsOkUnless};
-ghost use Rattle.sgb_graph.specs.Growth.{AddsArc, AddsEdge, HasPlainArcs, after_lower, arc_record, at_place, first_arc};
-ghost use Rattle.sgb_graph.specs.inner.Growth.{with_arcs, with_ends};
+ghost use Rattle.sgb_graph.specs.Graphs.{ListsEnd, arc_record};
+ghost use Rattle.sgb_graph.specs.Growth.{HasPlainArcs, KeepsAllButArcs, after_lower, first_arc, with_arc, with_edge, with_first};
 ghost use Rattle.sgb_graph.specs.declared.fields.Kind.TheVariants.{Z};
 
 use super::Graph;
@@ -19,7 +19,9 @@ impl Graph {
         requires from { u < length self.old.vertices }
         requires to { v < length self.old.vertices }
         requires plain { HasPlainArcs self.old }
-        ensures ok { OnOk result (AddsArc self.old self.new u v len) }
+        ensures ok { OnOk result (self.new ≡ with_arc self.old u v len) }
+        ensures rest { OnOk result (KeepsAllButArcs self.old self.new) }
+        ensures ends { ListsEnd self.old }
         ensures err { OnErr result (self.new ≡ self.old) }
         ensures memory { IsOkUnless result Panic.NoRoom }
     {
@@ -37,7 +39,9 @@ impl Graph {
         requires from { u < length self.old.vertices }
         requires to { v < length self.old.vertices }
         requires plain { HasPlainArcs self.old }
-        ensures ok { OnOk result (AddsEdge self.old self.new u v len) }
+        ensures ok { OnOk result (self.new ≡ with_edge self.old u v len) }
+        ensures rest { OnOk result (KeepsAllButArcs self.old self.new) }
+        ensures ends { ListsEnd self.old }
         ensures err { OnErr result (self.new ≡ self.old) }
         ensures memory { IsOkUnless result Panic.NoRoom }
     {
@@ -70,8 +74,7 @@ fn put_arc(
     requires plain { (records.old.a ≡ Z) × (records.old.b ≡ Z) }
     ensures nodes { OnOk result (vertices.new
         ≡ record vertices.old {
-          items = at_place (with_arcs (Some (length records.old.items))) u
-              vertices.old.items;
+          items = with_first (length records.old.items) u vertices.old.items;
         }) }
     ensures arcs { OnOk result (records.new
         ≡ record records.old {
@@ -102,8 +105,8 @@ fn put_edge(
     requires plain { (records.old.a ≡ Z) × (records.old.b ≡ Z) }
     ensures nodes { OnOk result (vertices.new
         ≡ record vertices.old {
-          items = with_ends (length records.old.items) (min u v) (max u v)
-              vertices.old.items;
+          items = with_first (length records.old.items) (min u v)
+              (with_first (length records.old.items + 1) (max u v) vertices.old.items);
         }) }
     ensures arcs { OnOk result (records.new
         ≡ record records.old {

@@ -1,6 +1,6 @@
 //! New events, each an arc or an edge (GB_GRAPH, gb_new_arc and gb_new_edge).
 ghost use Rattle.std.specs.Prelude.{◌≡◌, ◌<◌, [], ◌∷◌, length, OnOk, OnErr, IsOkUnless};
-ghost use Rattle.sgb_graph.specs.Growth.{AddsEvent, AddsEvents, HasPlainArcs};
+ghost use Rattle.sgb_graph.specs.Growth.{AddsEvents, HasPlainArcs, with_event};
 
 use super::Graph;
 use sgb_vec::Panic;
@@ -16,7 +16,8 @@ impl Graph {
         requires plain { HasPlainArcs self.old }
         ensures ok { OnOk result (AddsEvents directed self.old self.new
             (record { from = u; to = v; len = len } ∷ [])) }
-        ensures one { OnOk result (AddsEvent directed self.old self.new u v len) }
+        ensures one { OnOk result (self.new ≡ with_event directed self.old
+            (record { from = u; to = v; len = len })) }
         ensures err { OnErr result (self.new ≡ self.old) }
         ensures memory { IsOkUnless result Panic.NoRoom }
     {

@@ -5,7 +5,7 @@ ghost use Rattle.std.specs.List.{list_all};
 ghost use Rattle.sgb_vec.specs.Limits.{most_vertices};
 ghost use Rattle.sgb_graph.specs.Growth.{graph_data};
 ghost use Rattle.sgb_vec.specs.Results.{IsValue};
-ghost use Rattle.sgb_graph.specs.Parts.{checked, parts_fit, vertex_with_ints, with_record, with_vertex};
+ghost use Rattle.sgb_graph.specs.Parts.{checked, vertex_with_ints, with_record, with_vertex};
 ghost use Rattle.sgb_graph.specs.Sound.{IsGraph, chain_fits, fields_fit, graph_kinds, is_sound, record_fits, utils_fit, vertex_fits, vertex_kinds};
 ghost use Rattle.sgb_graph.specs.inner.Fitting.{most, record_may_fit, vertex_may_fit};
 ghost use Rattle.sgb_graph.specs.inner.KeptVertices.{ints_alone};
@@ -152,7 +152,8 @@ impl KeptParts {
     pub(super) fn check(self) -> Result<Graph, Panic>
         ensures value { IsValue (checked self) result }
         ensures graph { IfOk result IsGraph }
-        ensures unfit { parts_fit self ≡ false → result ≡ Err Panic.Syntax }
+        ensures unfit { (nat_le (length self.vertices) most_vertices && fields_fit self) ≡ false
+            → result ≡ Err Panic.Syntax }
     {
         if !self.fit() || !self.are_sound()? {
             return Err(Panic::Syntax);

@@ -1,4 +1,6 @@
-use Rattle.sgb_graph.proofs.KeptGraphs.{edge_kept, plain_kinds}
+use Rattle.sgb_graph.proofs.AddingEdges.{edge_keeps, edge_kept}
+use Rattle.sgb_graph.proofs.Growing.{lists_end, parts_of}
+use Rattle.sgb_graph.proofs.KeptGraphs.{edge_made, plain_kinds}
 use Rattle.sgb_graph.proofs.graphs.Graph.new_edge.Goals as goal
 
 pub put_edge-requires-clause-plain : goal.put_edge-requires-clause-plain
@@ -6,8 +8,17 @@ put_edge-requires-clause-plain c = plain_kinds _ _ (rw (← c.self.view_is) at c
 
 pub invariant_of-self-2 : goal.invariant_of-self-2
 invariant_of-self-2 c =
-    (edge_kept _ _ _ _ _ _ _ _ _ _ _ c.ranges.len c.self.view_is c.self.invariant c.requires.plain c.requires.from c.requires.to c.in_ok-put_edge.ensures.nodes c.in_ok-put_edge.ensures.arcs).1
+    let made = edge_made _ _ _ _ _ _ _ _ _ _ _ c.ranges.len c.self.view_is c.in_ok-put_edge.ensures.nodes c.in_ok-put_edge.ensures.arcs in
+    rw made (edge_kept _ _ _ _ (rw c.self.view_is at c.self.invariant) c.requires.plain c.requires.from c.requires.to)
+
+pub returns-in_err-put_edge-clause-ends : goal.returns-in_err-put_edge-clause-ends
+returns-in_err-put_edge-clause-ends c = lists_end _ (parts_of _ (rw c.self.view_is at c.self.invariant).graph)
 
 pub returns-clause-ok : goal.returns-clause-ok
-returns-clause-ok c =
-    (edge_kept _ _ _ _ _ _ _ _ _ _ _ c.ranges.len c.self.view_is c.self.invariant c.requires.plain c.requires.from c.requires.to c.in_ok-put_edge.ensures.nodes c.in_ok-put_edge.ensures.arcs).0
+returns-clause-ok c = edge_made _ _ _ _ _ _ _ _ _ _ _ c.ranges.len c.self.view_is c.in_ok-put_edge.ensures.nodes c.in_ok-put_edge.ensures.arcs
+
+pub returns-clause-rest : goal.returns-clause-rest
+returns-clause-rest c = rw (returns-clause-ok c) (edge_keeps _ _ _ _)
+
+pub returns-clause-ends : goal.returns-clause-ends
+returns-clause-ends c = lists_end _ (parts_of _ (rw c.self.view_is at c.self.invariant).graph)

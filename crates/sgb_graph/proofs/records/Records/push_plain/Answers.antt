@@ -1,6 +1,6 @@
 use Rattle.std.proofs.Common.{◌∷◌, [], ◌++◌, ap, ◌∙◌, rules, w64}
 use Rattle.std.proofs.lemmas.Int.{to_z-of_z}
-use Rattle.sgb_graph.specs.Growth.{arc_record}
+use Rattle.sgb_graph.specs.Graphs.{arc_record}
 use Rattle.sgb_graph.specs.inner.KeptRecords.{KeptRecords, kept_records}
 use Rattle.sgb_graph.proofs.KeptRecords.{kept_records-push_plain, record_with-is}
 use Rattle.sgb_graph.proofs.records.Records.push_plain.Goals as goal

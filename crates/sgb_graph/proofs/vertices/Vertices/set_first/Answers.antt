@@ -1,6 +1,5 @@
-use Rattle.std.proofs.Common.{◌<◌, ap, length, Some, arith}
-use Rattle.sgb_graph.specs.Growth.{at_place}
-use Rattle.sgb_graph.specs.inner.Growth.{with_arcs}
+use Rattle.std.proofs.Common.{◌<◌, ap, length, arith}
+use Rattle.sgb_graph.specs.Growth.{with_first}
 use Rattle.sgb_graph.specs.inner.KeptVertices.{KeptVertices}
 use Rattle.sgb_graph.proofs.KeptVertices.{first_kept, first_put, length-kept}
 use Rattle.sgb_graph.proofs.vertices.Vertices.set_first.Goals as goal
@@ -18,5 +17,5 @@ returns c =
     let ps = c.self.inside.plain.items in
     let fields = c.self.inside.fields in
     let below : c.args.v < length ps = omega (arith, c.requires.vertex, length-kept ps fields c.args.self.now c.self.invariant c.self.view_is) in
-    let put = first_put c.args.v c.keep_number.result (Some c.args.number) ps c.index_mut.result.now fields below c.index_mut.ensures.value c.keep_number.ensures in
-    rw (put) (ap (λ (g : KeptVertices). record g { items = at_place (with_arcs (Some c.args.number)) c.args.v g.items }) c.self.view_is)
+    let put = first_put c.args.v c.keep_number.result c.args.number ps c.index_mut.result.now fields below c.index_mut.ensures.value c.keep_number.ensures in
+    rw (put) (ap (λ (g : KeptVertices). record g { items = with_first c.args.number c.args.v g.items }) c.self.view_is)
