@@ -11,8 +11,8 @@ use Rattle.sgb_expr.specs.Numbers.{IsNumber}
 use Rattle.sgb_vec.specs.Digits.{leading_digits}
 use Rattle.sgb_vec.proofs.NamedNumbers.{first_byte}
 use Rattle.sgb_expr.specs.inner.Readings.{number_of_digits, number_at}
-use Rattle.sgb_expr.proofs.Readers.{next, Found, Wrong, Reads, no_ok, ok_same}
-use Rattle.sgb_expr.proofs.Words.{err_same}
+use Rattle.sgb_text.proofs.Readers.{next, Found, Wrong, Reads, no_ok, ok_same}
+use Rattle.sgb_text.proofs.Words.{err_same}
 
 -- the text does not begin with a digit in the radix
 abbrev pub NoDigit : ℕ → List ℕ → Type 0

@@ -3,20 +3,20 @@ use Rattle.std.proofs.Common.{◌≡◌, ◌≤◌, ◌<◌, ◌&&◌, ℕ, zero
 use Rattle.std.proofs.lemmas.Bool.{and_parts, cases_lt}
 use Rattle.sgb_expr.specs.Expression.{Expression}
 use Rattle.sgb_expr.specs.Expressions.{IsNested}
-use Rattle.sgb_expr.specs.Languages.{Then}
+use Rattle.sgb_text.specs.Languages.{Then}
 use Rattle.sgb_expr.specs.Names.{name_opening}
 use Rattle.sgb_expr.specs.inner.Names.{all_names, all_generator_names, generator_openings, openings}
 use Rattle.sgb_expr.specs.Operations.{IsCallOf, IsGenerator}
-use Rattle.sgb_expr.specs.inner.Readings.{then_read, word_at}
+use Rattle.sgb_text.proofs.Readings.{then_read, word_at}
 use Rattle.sgb_expr.specs.inner.Reading.{arguments_with, expression_at, nested_at}
 use Rattle.sgb_expr.specs.declared.names.GeneratorName.{GeneratorName}
 use Rattle.sgb_expr.specs.declared.names.GeneratorName.TheVariants.{Board, Simplex, Subsets, Complete, Transitive, Empty, Circuit, Cycle, DisjointSubsets, Petersen}
 use Rattle.sgb_expr.specs.declared.names.FormName.{FormName}
 use Rattle.sgb_expr.specs.declared.names.FormName.TheVariants.{Generator, Complement, Gunion, Intersection, Lines, Product, Induced, BiComplete, Wheel, Stdin}
-use Rattle.sgb_expr.proofs.Readers.{Reads, bind_of, bind_stops, reads_then, reads_as, reads_is}
-use Rattle.sgb_expr.proofs.Words.{Anything, IsWord, reads_words}
+use Rattle.sgb_text.proofs.Readers.{Anything, Reads, bind_of, bind_stops, reads_then, reads_as, reads_is}
+use Rattle.sgb_text.proofs.Words.{IsWord, reads_words}
 use Rattle.sgb_expr.proofs.GeneratorReaders.{reads_generator}
-use Rattle.sgb_expr.proofs.Lengths.{Within, no_longer, bind_agrees}
+use Rattle.sgb_text.proofs.Lengths.{Within, no_longer, bind_agrees}
 use Rattle.sgb_expr.proofs.EntryReaders.{Inside, is_lettered, lettered_more, lettered_some}
 use Rattle.sgb_expr.proofs.Forms.{form_of}
 

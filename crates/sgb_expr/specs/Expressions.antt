@@ -1,7 +1,7 @@
 -- The expressions that name a graph, in GraphBase's official names; which texts are too large to be read.
 use Rattle.std.specs.Prelude.{◌≡◌, ◌≤◌, ◌<◌, ◌+◌, ◌⊎◌, ◌==◌, ℕ, zero, suc, List, ◌++◌, length, take, count_by, Result, Ok, Err}
 use Rattle.sgb_expr.specs.Expression.{Expression, expression_of}
-use Rattle.sgb_expr.specs.Languages.{IsLongestPrefixOf, IsNoWord}
+use Rattle.sgb_text.specs.Languages.{IsLongestPrefixOf, IsNoWord}
 use Rattle.sgb_expr.specs.Operations.{IsGenerator, IsCallOf}
 use Rattle.sgb_expr.specs.Names.{name_opening}
 use Rattle.sgb_expr.specs.declared.expressions.Expr.{Expr}

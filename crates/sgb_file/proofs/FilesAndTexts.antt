@@ -9,21 +9,24 @@ use Rattle.std.proofs.lemmas.Bool.Decides.{nat_tests, Decides-eqb}
 use Rattle.std.proofs.lemmas.Grind.{flat_map-append}
 use Rattle.std.proofs.lemmas.List.Folds.{list_all-append}
 use Rattle.std.proofs.lemmas.List.Elements.{All-head, All-tail, All-cons, All-nil}
+use Rattle.sgb_text.proofs.Findings.{Found, after_prefix, prefix_is, was_given, was_mapped, was_chosen, was_either}
 use Rattle.sgb_vec.specs.Limits.{most_vertices}
 use Rattle.sgb_graph.specs.Graphs.{GraphData}
+use Rattle.sgb_graph.specs.Sound.{arc_kinds}
+use Rattle.sgb_graph.specs.declared.fields.Kind.{Kind}
+use Rattle.sgb_graph.specs.declared.fields.Kind.TheVariants.{Z, A, I, V}
+use Rattle.sgb_graph.specs.declared.fields.Util.{Util}
+use Rattle.sgb_text.specs.Languages.{Each}
 use Rattle.sgb_file.specs.FileLines.{lines_of_text, clean_lines, text_of_lines}
 use Rattle.sgb_file.specs.Checksum.{has_star, checksum_of_lines}
-use Rattle.sgb_file.specs.inner.ReadFields.{Found, after_prefix}
-use Rattle.sgb_file.specs.Fields.{is_decimal_digit, number_of, most_number_digits}
-use Rattle.sgb_file.specs.Files.{Head, IsFirstLine, IsComment, IsChecksumLine, IsRecord, IsArcRecord, AreRecords, AreRecordsOf, head_of}
+use Rattle.sgb_file.specs.Fields.{Counts, is_decimal_digit, number_of, most_number_digits}
+use Rattle.sgb_file.specs.Files.{Head, IsFirstLine, IsComment, IsChecksumLine, AreMoreFields, IsRecordOf, IsArcRecord, AreRecordsOf, Opens, AreRecordLines, IsClosed, head_of}
 use Rattle.sgb_file.specs.inner.ReadRecords.{records_at}
 use Rattle.sgb_file.specs.inner.ReadFiles.{Opening, leading_number, head_of_line, opening_of, checksum_in_line, checksum_agrees, line_closes, closes}
-use Rattle.sgb_file.specs.Refused.{Opens, AreRecordLines, IsClosed}
 use Rattle.sgb_file.proofs.LineLemmas.{is_one_line, is_within_line, lines_again, lines_read, clean_are_one_line}
-use Rattle.sgb_file.proofs.FoundParts.{prefix_is, was_given, was_mapped, was_chosen, was_either}
 use Rattle.sgb_file.proofs.NumberReading.{at_most_passes, number_says}
 use Rattle.sgb_file.proofs.FirstLines.{IsLeading, leading_found, leading_says, first_line_found, kinds_read}
-use Rattle.sgb_file.proofs.RecordsAndTexts.{reads_records}
+use Rattle.sgb_file.proofs.RecordsAndTexts.{finds_records}
 
 -- and a first line is read as one
 first_line_read : (head : Head) (line : List ℕ) → IsFirstLine head line → head_of_line line ≡ Some head
@@ -153,23 +156,28 @@ pub record EndsLine (text : List ℕ) : Type 0 where
 ends_too : (before text : List ℕ) → EndsLine text → EndsLine (before ++ text)
 ends_too before text h = record { front = before ++ h.front; whole = ap (λ x. before ++ x) h.whole ∙ sym (append_assoc before h.front (10 ∷ [])) }
 
-record_ends : (texts : List (List ℕ)) (whole : List ℕ) → IsRecord texts whole → EndsLine whole
-record_ends [] whole h = absurd h
-record_ends (text ∷ []) whole h = record { front = text; whole = h }
-record_ends (text ∷ next ∷ texts) whole h = subst EndsLine (sym h.4) (ends_too text (h.0 ++ h.1) (ends_too h.0 h.1 (record_ends (next ∷ texts) h.1 h.3)))
+more_end : (counts : Counts) (kinds : List Kind) (us : List Util) (whole : List ℕ) → AreMoreFields counts kinds whole us → EndsLine whole
+more_end counts [] us whole h = record { front = []; whole = h.0 }
+more_end counts (Z ∷ kinds) us whole h = more_end counts kinds h.0 whole h.1
+more_end counts (kind ∷ kinds) us whole h =
+    let c = h.5 in
+    subst EndsLine (sym (h.3 ∙ ap (λ x. h.0 ++ x) c.3)) (ends_too h.0 (c.0 ++ c.1) (ends_too c.0 c.1 (more_end counts kinds c.5.0 c.1 c.5.1)))
 
-records_end : {X : Type 0} (IsOne : X → List ℕ → Type 0) → ((x : X) (whole : List ℕ) → IsOne x whole → EndsLine whole)
-    → (xs : List X) (whole : List ℕ) → AreRecords IsOne xs whole → (line : List ℕ) → EndsLine (line ++ 10 ∷ whole)
+record_ends : (counts : Counts) (kind : Kind) (kinds : List Kind) (us : List Util) (whole : List ℕ) → IsRecordOf counts kind kinds whole us → EndsLine whole
+record_ends counts kind kinds us whole h = subst EndsLine (sym h.3) (ends_too h.0 h.1 (more_end counts kinds h.5.0 h.1 h.5.1))
+
+records_end : {X : Type 0} (IsOne : List ℕ → X → Type 0) → ((x : X) (whole : List ℕ) → IsOne whole x → EndsLine whole)
+    → (xs : List X) (whole : List ℕ) → Each IsOne whole xs → (line : List ℕ) → EndsLine (line ++ 10 ∷ whole)
 records_end IsOne ends [] whole h line = record { front = line; whole = ap (λ x. line ++ 10 ∷ x) h }
 records_end IsOne ends (x ∷ xs) whole h line =
-    let one = ends x h.0 h.2 in
-    let further = records_end IsOne ends xs h.1 h.3 (line ++ 10 ∷ one.front) in
-    let split : whole ≡ one.front ++ 10 ∷ h.1 = h.4 ∙ ap (λ y. y ++ h.1) one.whole ∙ append_assoc one.front (10 ∷ []) h.1 in
+    let one = ends x h.0 h.3 in
+    let further = records_end IsOne ends xs h.1 h.4 (line ++ 10 ∷ one.front) in
+    let split : whole ≡ one.front ++ 10 ∷ h.1 = h.2 ∙ ap (λ y. y ++ h.1) one.whole ∙ append_assoc one.front (10 ∷ []) h.1 in
     subst EndsLine (append_assoc line (10 ∷ one.front) (10 ∷ h.1) ∙ ap (λ y. line ++ 10 ∷ y) (sym split)) further
 
 pub all_records_end : (g : GraphData) (whole : List ℕ) → AreRecordsOf g whole → EndsLine whole
 all_records_end g whole h =
-    let arcs = records_end (IsArcRecord (head_of g)) (λ r t is. record_ends is.0 t is.2) g.records h.arcs h.arc_records (codes "* Arcs") in
+    let arcs = records_end (IsArcRecord (head_of g)) (λ r t is. record_ends (head_of g).counts V (A ∷ I ∷ arc_kinds g.kinds) _ t is) g.records h.arcs h.arc_records (codes "* Arcs") in
     subst EndsLine (sym h.parts) (ends_too h.own (codes "* Vertices\n" ++ (h.vertices ++ (codes "* Arcs\n" ++ h.arcs)))
     (ends_too (codes "* Vertices\n") (h.vertices ++ (codes "* Arcs\n" ++ h.arcs)) (ends_too h.vertices (codes "* Arcs\n" ++ h.arcs) arcs)))
 
@@ -254,13 +262,13 @@ pub records_read : (head : Head) (g : GraphData) (records following lines : List
     → records_at head (text_of_lines lines) ≡ Some (record { value = g; rest = text_of_lines following })
 records_read head g records following lines h =
     ap (records_at head) (ap text_of_lines h.parts ∙ flat_map-append (λ l. l ++ 10 ∷ []) records following)
-    ∙ (reads_records head).again g (text_of_lines records) (text_of_lines following) (record { counted = h.counted; are = h.say }) tt
+    ∙ (finds_records head).again (text_of_lines records) (text_of_lines following) g (record { counted = h.counted; are = h.say }) tt
 
 -- the lines of the records that were found
 pub lines_found : (head : Head) (lines : List (List ℕ)) (found : Found GraphData) → list_all is_one_line lines ≡ true → records_at head (text_of_lines lines) ≡ Some found
     → (records : List (List ℕ)) × AreRecordLines head found.value records (lines_of_text found.rest) lines
 lines_found head lines found one_lines e =
-    let r = (reads_records head).finds (text_of_lines lines) found e in
+    let r = (finds_records head).found (text_of_lines lines) found e in
     let cut = cut_lines lines r.word r.rest one_lines r.parts (all_records_end r.value r.word r.says.are) in
     subst (λ (x : Found GraphData). (records : List (List ℕ)) × AreRecordLines head x.value records (lines_of_text x.rest) lines) r.made
     (cut.records, record { counted = r.says.counted; say = subst (λ x. AreRecordsOf r.value x) (sym cut.text_is) r.says.are; parts = cut.parts })

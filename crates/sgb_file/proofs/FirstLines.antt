@@ -9,15 +9,14 @@ use Rattle.std.proofs.lemmas.Bool.Decides.{Decides-eqb}
 use Rattle.std.proofs.lemmas.List.{drop_all, drop_more, take-append-drop, length-map, length-take}
 use Rattle.std.proofs.lemmas.List.Folds.{length-prefix_len}
 use Rattle.std.proofs.lemmas.List.Sums.{prefix_len_stops}
+use Rattle.sgb_text.proofs.Findings.{Found, after_prefix, prefix_is, taken_and_left, was_given, was_mapped, was_let_through}
 use Rattle.sgb_vec.specs.Limits.{most_vertices}
 use Rattle.sgb_graph.specs.declared.fields.Kind.{Kind}
 use Rattle.sgb_graph.specs.declared.fields.Kind.TheVariants.{Z, I, V, S, A}
-use Rattle.sgb_file.specs.inner.ReadFields.{Found, after_prefix}
 use Rattle.sgb_file.specs.Fields.{is_decimal_digit, number_of, most_number_digits}
 use Rattle.sgb_file.specs.Files.{Head, IsFirstLine, BeginsWithNoDigit}
 use Rattle.sgb_file.specs.inner.ReadFiles.{kind_of_letter, kinds_at, leading_number, head_of_line}
 use Rattle.sgb_file.specs.Saving.{letter_of}
-use Rattle.sgb_file.proofs.FoundParts.{prefix_is, taken_and_left, was_given, was_mapped, was_let_through}
 use Rattle.sgb_file.proofs.NumberReading.{at_most, number_says}
 
 -- the kind of a letter is written by it

@@ -2,8 +2,12 @@
 -- another, and one or the other.
 use Rattle.std.proofs.Common.{◌≡◌, ℕ, ◌≤◌, ◌⊎◌, List, [], ◌∷◌, ◌++◌, length, min, Option, Some, None, Result, Ok, Err, refl, sym, ◌∙◌, ap, subst, inl, inr, append_assoc, append-nil, arith, length-append}
 use Rattle.std.proofs.lemmas.Bool.{cases_lt}
-use Rattle.sgb_expr.specs.Languages.{Begins, Then, As, Or}
-use Rattle.sgb_expr.specs.inner.Readings.{◌>>=◌, then_read, read_as, either}
+use Rattle.sgb_text.specs.Languages.{Begins, Cons, Then, As, Or}
+use Rattle.sgb_text.proofs.Readings.{◌>>=◌, then_read, read_as, either}
+
+-- anything
+abbrev pub Anything : List ℕ → Type 0
+Anything text = Unit {0}
 
 -- the first byte of a text
 abbrev pub next : List ℕ → Option ℕ
@@ -182,6 +186,12 @@ reads_as {V} {W} f {Word} {Tail} {read} r = record {
       ∙ ap (λ (u : W). Ok (u, tail)) (sym is.2);
   some = let a = r.some in (a.0, f a.1, (a.1, a.2, refl));
 }
+
+-- a value and others after it
+pub reads_cons : {V : Type 0} {First : List ℕ → V → Type 0} {Others : List ℕ → List V → Type 0} {Tail After : List ℕ → Type 0} {first : List ℕ → Result (V × List ℕ) ℕ} {others : List ℕ → Result (List V × List ℕ) ℕ}
+    → Reads First Tail first → Reads Others After others → ((word tail : List ℕ) (values : List V) → Others word values → After tail → Tail (word ++ tail))
+    → Reads (Cons First Others) After (then_read first (λ value. read_as (λ values. value ∷ values) others))
+reads_cons {V} f g follows = reads_then f (λ value. reads_as (λ (values : List V). value ∷ values) g) (λ value word tail values w t. follows word tail w.0 w.1 t)
 
 -- two cuts of one text, the first no longer than the second
 pub cut_in : (a u b v : List ℕ) → a ++ u ≡ b ++ v → length v ≤ length u → (x : List ℕ) × (b ≡ a ++ x) × (u ≡ x ++ v)
