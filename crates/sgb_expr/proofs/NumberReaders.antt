@@ -6,7 +6,7 @@ use Rattle.sgb_expr.specs.Numbers.{IsNumber, IsInteger, IsBits, most_digits, mos
 use Rattle.sgb_text.specs.Languages.{After, As, Or}
 use Rattle.sgb_text.proofs.Readings.{◌>>=◌, fixed_at}
 use Rattle.sgb_expr.specs.inner.Readings.{number_at, signed_at, integer_at, bits_after, bits_at}
-use Rattle.sgb_text.proofs.Readers.{next, next_after, Found, Wrong, Reads, bind_stops, cut_after, cut_in, reads_as, reads_or, reads_is, reads_before}
+use Rattle.sgb_text.proofs.Readers.{next, next_after, IsFound, Wrong, Reads, bind_stops, cut_after, cut_in, reads_as, reads_or, reads_is, reads_before}
 use Rattle.sgb_text.proofs.Words.{Parts, fixed_again, fixed_cases, fixed_stops, reads_after}
 use Rattle.sgb_expr.proofs.Digits.{NoDigit, none_again, none_there, reads_number, no_digit_same, zero_is_number}
 
@@ -82,7 +82,7 @@ bits_here : (text : List ℕ) (r : Result (List ℕ) ℕ) → fixed_at (codes "0
 bits_here text r e = ap (λ (s : Result (List ℕ) ℕ). bits_after s text) e
 
 -- hexadecimal bits
-bits_hex_found : (text rest after : List ℕ) (value : ℕ) → text ≡ codes "0x" ++ rest → Found (IsNumber 16 most_hex_digits) (number_at 16 most_hex_digits) rest value after → Found IsBits bits_at text value after
+bits_hex_found : (text rest after : List ℕ) (value : ℕ) → text ≡ codes "0x" ++ rest → IsFound (IsNumber 16 most_hex_digits) (number_at 16 most_hex_digits) rest value after → IsFound IsBits bits_at text value after
 bits_hex_found text rest after value whole f = record {
   word = codes "0x" ++ f.word;
   whole = whole ∙ ap (λ u. codes "0x" ++ u) f.whole ∙ sym (append_assoc (codes "0x") f.word after);
@@ -93,7 +93,7 @@ bits_hex_found text rest after value whole f = record {
 }
 
 -- decimal ones
-bits_decimal_found : (text after : List ℕ) (value left : ℕ) → Parts (codes "0x") text left → Found Decimal (number_at 10 most_digits) text value after → Found IsBits bits_at text value after
+bits_decimal_found : (text after : List ℕ) (value left : ℕ) → Parts (codes "0x") text left → IsFound Decimal (number_at 10 most_digits) text value after → IsFound IsBits bits_at text value after
 bits_decimal_found text after value left p f = record {
   word = f.word;
   whole = f.whole;

@@ -30,15 +30,12 @@ use Rattle.sgb_file.proofs.RecordsAndTexts.{finds_records}
 
 -- and a first line is read as one
 first_line_read : (head : Head) (line : List ℕ) → IsFirstLine head line → head_of_line line ≡ Some head
-first_line_read head line h =
-    let third = codes "V," ++ (h.m ++ (codes "A)" ++ h.anything)) in
-    let second = codes "," ++ (h.n ++ third) in
-    let few = at_most_passes head.counts.vertices most_vertices h.few in
-    ap head_of_line h.form
-    ∙ rw (kinds_read head.kinds second h.fourteen)
-    (rw (leading_says h.n third head.counts.vertices h.n_says refl)
-    (rw (leading_says h.m (codes "A)" ++ h.anything) head.counts.arcs h.m_says refl)
-    (rw few refl)))
+first_line_read head line (n, m, anything, n_says, m_says, fourteen, few, form) =
+    let third = codes "V," ++ (m ++ (codes "A)" ++ anything)) in
+    let passes = at_most_passes head.counts.vertices most_vertices few in
+    ap head_of_line form
+    ∙ rw (kinds_read head.kinds (codes "," ++ (n ++ third)) fourteen)
+    (rw (leading_says n third head.counts.vertices n_says refl) (rw (leading_says m (codes "A)" ++ anything) head.counts.arcs m_says refl) (rw passes refl)))
 
 -- comments and a first line open a file
 comment_is_passed : (line : List ℕ) → IsComment line → head_of_line line ≡ None
@@ -46,7 +43,7 @@ comment_is_passed line h = by_head (head_of_line line) refl
   where
     by_head : (o : Option Head) → head_of_line line ≡ o → o ≡ None
     by_head None e = refl
-    by_head (Some head) e = absurd (h.other head (first_line_found line head e))
+    by_head (Some head) e = absurd (h.1 head (first_line_found line head e))
 
 pub opening_read : (head : Head) (comments : List (List ℕ)) (first : List ℕ) (lines : List (List ℕ)) → All IsComment comments → IsFirstLine head first
     → opening_of (comments ++ first ∷ lines) ≡ Some (record { head = head; lines = lines })
@@ -54,17 +51,14 @@ unfolding opening_of
 opening_read head [] first lines h says = rw (first_line_read head first says) refl
 opening_read head (line ∷ comments) first lines h says =
     let comment = All-head IsComment line comments h in
-    rw (comment_is_passed line comment) (rw comment.star (opening_read head comments first lines (All-tail IsComment line comments h) says))
+    rw (comment_is_passed line comment) (rw comment.0 (opening_read head comments first lines (All-tail IsComment line comments h) says))
 
 -- comments, a first line, and the lines after it
 abbrev pub IsOpened : List (List ℕ) → Opening → Type 0
 IsOpened lines opening = (comments : List (List ℕ)) × (first : List ℕ) × All IsComment comments × IsFirstLine opening.head first × (lines ≡ comments ++ first ∷ opening.lines)
 
 comment_found : (line : List ℕ) → head_of_line line ≡ None → has_star line ≡ true → IsComment line
-comment_found line none star = record {
-  star = star;
-  other = λ head says. let is = first_line_read head line says in absurd cc;
-}
+comment_found line none star = (star, λ head says. let is = first_line_read head line says in absurd cc)
 
 pub opening_found : (lines : List (List ℕ)) (opening : Opening) → opening_of lines ≡ Some opening → IsOpened lines opening
 unfolding opening_of
@@ -99,14 +93,8 @@ minus_first (b ∷ text) h = ap (λ c. c ∷ text) ((Decides-eqb b 45).0 h)
 -- a line with a number that agrees is a checksum's
 agreeing_line : (sum : ℕ) (line text : List ℕ) (found : Found ℕ) → IsLeading text found
     → ((found.value ≡ sum) × (line ≡ codes "* Checksum " ++ text)) ⊎ (((0 < found.value) ⊎ (found.value ≡ sum)) × (line ≡ codes "* Checksum -" ++ text)) → IsChecksumLine sum line
-agreeing_line sum line text found l h = record {
-  digits = l.digits;
-  anything = found.rest;
-  k = found.value;
-  says = l.says;
-  ends = l.ends;
-  form = subst (λ (t : List ℕ). ((found.value ≡ sum) × (line ≡ codes "* Checksum " ++ t)) ⊎ (((0 < found.value) ⊎ (found.value ≡ sum)) × (line ≡ codes "* Checksum -" ++ t))) l.parts h;
-}
+agreeing_line sum line text found l h =
+    (l.digits, found.rest, found.value, l.says, l.ends, subst (λ (t : List ℕ). ((found.value ≡ sum) × (line ≡ codes "* Checksum " ++ t)) ⊎ (((0 < found.value) ⊎ (found.value ≡ sum)) × (line ≡ codes "* Checksum -" ++ t))) l.parts h)
 
 -- a line that is read as an agreeing checksum's is one
 checksum_found : (line : List ℕ) (c : ℤ) (lines : List (List ℕ)) → checksum_in_line line ≡ Some c → checksum_agrees c lines ≡ true → IsChecksumLine (checksum_of_lines lines) line
@@ -137,16 +125,12 @@ abbrev pub Closes : List (List ℕ) → List ℕ → Type 0
 Closes lines line = option_map_or (λ c. checksum_agrees c lines) (checksum_in_line line) false ≡ true
 
 pub checksum_read : (line : List ℕ) (lines : List (List ℕ)) → IsChecksumLine (checksum_of_lines lines) line → Closes lines line
-checksum_read line lines h = by_form h.form
-  where
-    by_form : ((h.k ≡ checksum_of_lines lines) × (line ≡ codes "* Checksum " ++ (h.digits ++ h.anything)))
-        ⊎ (((0 < h.k) ⊎ (h.k ≡ checksum_of_lines lines)) × (line ≡ codes "* Checksum -" ++ (h.digits ++ h.anything))) → Closes lines line
-    by_form (inl (same, parts)) =
-        ap (λ l. option_map_or (λ c. checksum_agrees c lines) (checksum_in_line l) false) parts
-        ∙ rw (digits_no_minus h.digits h.anything h.k h.says) (rw (leading_says h.digits h.anything h.k h.says h.ends) ((Decides-eqb h.k (checksum_of_lines lines)).1 same))
-    by_form (inr (agrees, parts)) =
-        ap (λ l. option_map_or (λ c. checksum_agrees c lines) (checksum_in_line l) false) parts
-        ∙ rw (leading_says h.digits h.anything h.k h.says h.ends) (minus_passes h.k lines agrees)
+checksum_read line lines (digits, anything, k, says, ends, inl (same, parts)) =
+    ap (λ l. option_map_or (λ c. checksum_agrees c lines) (checksum_in_line l) false) parts
+    ∙ rw (digits_no_minus digits anything k says) (rw (leading_says digits anything k says ends) ((Decides-eqb k (checksum_of_lines lines)).1 same))
+checksum_read line lines (digits, anything, k, says, ends, inr (agrees, parts)) =
+    ap (λ l. option_map_or (λ c. checksum_agrees c lines) (checksum_in_line l) false) parts
+    ∙ rw (leading_says digits anything k says ends) (minus_passes k lines agrees)
 
 -- a text that ends with a newline
 pub record EndsLine (text : List ℕ) : Type 0 where
@@ -237,7 +221,7 @@ closed_found records (last ∷ others) e = by_checksum (checksum_in_line last) r
   where
     by_checksum : (o : Option ℤ) → checksum_in_line last ≡ o → option_map_or (λ c. checksum_agrees c records) o false ≡ true → IsClosed records (last ∷ others)
     by_checksum None here e = absurd cc
-    by_checksum (Some c) here e = record { last = last; others = others; parts = refl; says = checksum_found last c records here e }
+    by_checksum (Some c) here e = (last, others, refl, checksum_found last c records here e)
 
 pub closes_by : (opening : Opening) (records : List (List ℕ)) (rest : List ℕ) → opening.lines ≡ records ++ lines_of_text rest → closes opening rest ≡ line_closes records (lines_of_text rest)
 closes_by opening records rest e = search (rules, before_following, records)

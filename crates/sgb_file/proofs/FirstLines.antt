@@ -108,17 +108,17 @@ first_line_found line head e =
     let m_is = leading_found third.first m.first m.here in
     let after_letters = ap (λ x. codes "," ++ x) (n_is.parts ∙ ap (λ x. n_is.digits ++ x) (prefix_is (codes "V,") n.first.rest third.first third.here
     ∙ ap (λ x. codes "V," ++ x) (m_is.parts ∙ ap (λ x. m_is.digits ++ x) (prefix_is (codes "A)") m.first.rest anything.first anything.here)))) in
-    subst (λ (h : Head). IsFirstLine h line) through.1 (record {
-      n = n_is.digits;
-      m = m_is.digits;
-      anything = anything.first;
-      form = prefix_is (codes "* GraphBase graph (util_types ") line letters.first letters.here
-          ∙ ap (λ x. codes "* GraphBase graph (util_types " ++ x) (k.1 ∙ ap (λ x. map letter_of kinds.first.value ++ x) (prefix_is (codes ",") kinds.first.rest second.first second.here ∙ after_letters));
-      fourteen = k.0;
-      n_says = n_is.says;
-      m_says = m_is.says;
-      few = at_most n.first.value most_vertices through.0;
-    })
+    subst (λ (h : Head). IsFirstLine h line) through.1 (
+      n_is.digits,
+      m_is.digits,
+      anything.first,
+      n_is.says,
+      m_is.says,
+      k.0,
+      at_most n.first.value most_vertices through.0,
+      prefix_is (codes "* GraphBase graph (util_types ") line letters.first letters.here
+          ∙ ap (λ x. codes "* GraphBase graph (util_types " ++ x) (k.1 ∙ ap (λ x. map letter_of kinds.first.value ++ x) (prefix_is (codes ",") kinds.first.rest second.first second.here ∙ after_letters)),
+    )
 
 -- digits end where they did
 digits_end : (text more : List ℕ) → list_all is_decimal_digit text ≡ true → BeginsWithNoDigit more → prefix_len is_decimal_digit (text ++ more) ≡ length text

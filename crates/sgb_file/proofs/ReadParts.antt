@@ -96,8 +96,8 @@ pub record IsGoodHead (head : Head) : Type 0 where
 
 -- a first line within the limits
 pub first_is_good : (line : List ℕ) (head : Head) → IsFirstLine head line → IsGoodHead head
-first_is_good line head says =
-    record { vertices = says.few; kinds = says.fourteen; arcs = number_is_small most_number_digits says.m head.counts.arcs says.m_says }
+first_is_good line head (n, m, anything, n_says, m_says, fourteen, few, form) =
+    record { vertices = few; kinds = fourteen; arcs = number_is_small most_number_digits m head.counts.arcs m_says }
 
 -- what the records of a file say can be checked
 parts_can_be_checked : (g : GraphData) (whole : List ℕ) → IsGoodHead (head_of g) → AreRecordsOf g whole → CanBeChecked g

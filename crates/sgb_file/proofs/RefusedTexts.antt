@@ -31,7 +31,7 @@ graph_with_records text g records following (head, lines, opens, are) =
     ∙ ap (λ c. graph_at_end c (is_sound g) g) closed
 
 line_closed : (records following : List (List ℕ)) → IsClosed records following → line_closes records following ≡ true
-line_closed records following h = ap (line_closes records) h.parts ∙ checksum_read h.last records h.says
+line_closed records following (last, others, parts, says) = ap (line_closes records) parts ∙ checksum_read last records says
 
 -- the code of each kind of text
 pub early_of : (text : List ℕ) → HasNoOpening text → graph_of_text text ≡ Err Early

@@ -54,34 +54,19 @@ records_written g h = record {
 -- the first line is one
 first_written : (g : GraphData) → length g.kinds ≡ 14 → IsReady g → IsFirstLine (head_of g) (head_line g)
 first_written g kinds h =
-    let n = length g.vertices in
-    let m = length g.records in
     let most = h.vertices_few in
     let few = h.records_few in
-    record {
-      n = decimal n;
-      m = decimal m;
-      anything = [];
-      form = simp append_assoc;
-      fourteen = kinds;
-      n_says = number_read most_number_digits n (omega arith) (omega (arith, most)) (omega (arith, most));
-      m_says = number_read most_number_digits m (omega arith) few (omega (arith, few));
-      few = most;
-    }
+    let n_says = number_read most_number_digits (length g.vertices) (omega arith) (omega (arith, most)) (omega (arith, most)) in
+    let m_says = number_read most_number_digits (length g.records) (omega arith) few (omega (arith, few)) in
+    (decimal (length g.vertices), decimal (length g.records), [], n_says, m_says, kinds, most, simp append_assoc)
 
 -- the checksum is a number of 18 digits, and its line is one
 checksum_small : (g : GraphData) → checksum_of_lines (middle_lines g) < 10 ^ 18
 checksum_small g = let below = mod_below (weighted_sum (text_of_lines (filter (λ line. not (has_star line)) (middle_lines g)))) checksum_prime (omega arith) in omega (arith, below)
 
 checksum_written : (c : ℕ) → c < 10 ^ 18 → IsChecksumLine c (codes "* Checksum " ++ decimal c)
-checksum_written c below = record {
-  digits = decimal c;
-  anything = [];
-  k = c;
-  says = number_read most_number_digits c (omega arith) below (omega (arith, below));
-  ends = tt;
-  form = inl (refl, ap (λ x. codes "* Checksum " ++ x) (sym (append-nil (decimal c))));
-}
+checksum_written c below =
+    (decimal c, [], c, number_read most_number_digits c (omega arith) below (omega (arith, below)), tt, inl (refl, ap (λ x. codes "* Checksum " ++ x) (sym (append-nil (decimal c)))))
 
 -- each line of the file is a line as it is written
 all_lines : (g : GraphData) → IsReady g → list_all is_line (head_line g ∷ (middle_lines g ++ checksum_line g ∷ [])) ≡ true
@@ -113,6 +98,6 @@ written_is_file g more h =
         },
         record { counted = refl; say = records_written g is; parts = refl },
       ),
-      record { last = checksum_line g; others = clean_lines more; parts = refl; says = checksum_written (checksum_of_lines (middle_lines g)) (checksum_small g) },
+      (checksum_line g, clean_lines more, refl, checksum_written (checksum_of_lines (middle_lines g)) (checksum_small g)),
       h.graph.lists,
     )

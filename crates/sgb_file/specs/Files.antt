@@ -80,20 +80,15 @@ pub record AreRecordsOf (g : GraphData) (text : List ℕ) : Type 0 where
   pub parts : text ≡ own ++ (codes "* Vertices\n" ++ (vertices ++ (codes "* Arcs\n" ++ arcs)))
 
 -- a line in the form of a first line: kinds, the numbers of vertices and of arc records, then anything
-pub record IsFirstLine (head : Head) (line : List ℕ) : Type 0 where
-  pub n : List ℕ
-  pub m : List ℕ
-  pub anything : List ℕ
-  pub form : line ≡ codes "* GraphBase graph (util_types " ++ (map letter_of head.kinds ++ (codes "," ++ (n ++ (codes "V," ++ (m ++ (codes "A)" ++ anything))))))
-  pub fourteen : length head.kinds ≡ 14
-  pub n_says : number_of most_number_digits n ≡ Some head.counts.vertices
-  pub m_says : number_of most_number_digits m ≡ Some head.counts.arcs
-  pub few : head.counts.vertices ≤ most_vertices
+abbrev pub IsFirstLine : Head → List ℕ → Type 0
+IsFirstLine head line =
+    (n m anything : List ℕ) × IsNumberText n head.counts.vertices × IsNumberText m head.counts.arcs
+    × (length head.kinds ≡ 14) × (head.counts.vertices ≤ most_vertices)
+    × (line ≡ codes "* GraphBase graph (util_types " ++ (map letter_of head.kinds ++ (codes "," ++ (n ++ (codes "V," ++ (m ++ (codes "A)" ++ anything)))))))
 
 -- a line that may stand before the first line: it begins with `*`, and has not the form of a first line
-pub record IsComment (line : List ℕ) : Type 0 where
-  pub star : IsTrue (has_star line)
-  pub other : (head : Head) → IsFirstLine head line → ⊥
+abbrev pub IsComment : List ℕ → Type 0
+IsComment line = IsTrue (has_star line) × ((head : Head) → IsFirstLine head line → ⊥)
 
 -- a text that does not begin with a digit
 abbrev pub BeginsWithNoDigit : List ℕ → Type 0
@@ -101,14 +96,11 @@ BeginsWithNoDigit [] = ⊤
 BeginsWithNoDigit (b ∷ text) = IsFalse (is_decimal_digit b)
 
 -- a line with a checksum: it is this one; or it has a minus, and is negative or `-0`, which is 0. Then anything but a digit
-pub record IsChecksumLine (sum : ℕ) (line : List ℕ) : Type 0 where
-  pub digits : List ℕ
-  pub anything : List ℕ
-  pub k : ℕ
-  pub says : number_of most_number_digits digits ≡ Some k
-  pub ends : BeginsWithNoDigit anything
-  pub form : ((k ≡ sum) × (line ≡ codes "* Checksum " ++ (digits ++ anything)))
-      ⊎ (((0 < k) ⊎ (k ≡ sum)) × (line ≡ codes "* Checksum -" ++ (digits ++ anything)))
+abbrev pub IsChecksumLine : ℕ → List ℕ → Type 0
+IsChecksumLine sum line =
+    (digits anything : List ℕ) × (k : ℕ) × IsNumberText digits k × BeginsWithNoDigit anything
+    × (((k ≡ sum) × (line ≡ codes "* Checksum " ++ (digits ++ anything)))
+    ⊎ (((0 < k) ⊎ (k ≡ sum)) × (line ≡ codes "* Checksum -" ++ (digits ++ anything))))
 
 -- the lines of a text, without the spaces at their ends, are comments, a first line, and these lines after it
 pub record Opens (text : List ℕ) (head : Head) (lines : List (List ℕ)) : Type 0 where
@@ -125,11 +117,9 @@ pub record AreRecordLines (head : Head) (g : GraphData) (records following lines
   pub parts : lines ≡ records ++ following
 
 -- the lines after records begin with a line with their checksum
-pub record IsClosed (records following : List (List ℕ)) : Type 0 where
-  pub last : List ℕ
-  pub others : List (List ℕ)
-  pub parts : following ≡ last ∷ others
-  pub says : IsChecksumLine (checksum_of_lines records) last
+abbrev pub IsClosed : List (List ℕ) → List (List ℕ) → Type 0
+IsClosed records following =
+    (last : List ℕ) × (others : List (List ℕ)) × (following ≡ last ∷ others) × IsChecksumLine (checksum_of_lines records) last
 
 -- a text has comments, a first line, the records of a graph, and these lines after them
 abbrev pub HasRecords : List ℕ → GraphData → List (List ℕ) → List (List ℕ) → Type 0
