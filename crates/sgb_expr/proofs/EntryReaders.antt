@@ -1,5 +1,5 @@
 -- Readers of entries, integers and expressions, one after another to a `]`.
-use Rattle.std.proofs.Common.{◌≡◌, ◌≤◌, ◌<◌, ◌+◌, ◌&&◌, ◌==◌, ℕ, ℤ, pos, neg_ℤ, zero, suc, Bool, true, false, not, List, [], ◌∷◌, ◌++◌, length, min, codes, Result, Ok, Err, refl, sym, ◌∙◌, ap, subst, inl, inr, append_assoc, append-nil, arith, length-append, lit≤}
+use Rattle.std.proofs.Common.{◌≡◌, ◌≤◌, ◌<◌, ◌+◌, ◌&&◌, ◌==◌, ℕ, ℤ, pos, neg_ℤ, zero, suc, Bool, true, false, not, List, [], ◌∷◌, ◌++◌, length, min, codes, Result, Ok, Err, refl, sym, ◌∙◌, ap, subst, inl, inr, append_assoc, arith, lit≤}
 use Rattle.std.specs.Char.{is_digit}
 use Rattle.std.proofs.lemmas.Bool.{and_parts, not-true}
 use Rattle.std.proofs.lemmas.Bool.Decides.{eqb_tells}
@@ -10,8 +10,8 @@ use Rattle.sgb_expr.specs.Operations.{IsEntry, AreEntries}
 use Rattle.sgb_text.proofs.Readings.{◌>>=◌, either, or_else, then_read, read_as, fixed_at, fixed_as}
 use Rattle.sgb_expr.specs.inner.Readings.{number_at, integer_at}
 use Rattle.sgb_expr.specs.inner.Reading.{entry_at, entries_then, entries_for, entries_at}
-use Rattle.sgb_text.proofs.Readers.{Anything, next, Reads, bind_ok, bind_stops, ok_same, either_found, either_stops, by_first, by_second, cut_in, no_ok, reads_then, reads_as, reads_or, reads_before}
-use Rattle.sgb_text.proofs.Words.{fixed_other, reads_after, reads_fixed, reads_same, err_same}
+use Rattle.sgb_text.proofs.Readers.{Anything, Reads, bind_ok, bind_stops, ok_same, either_found, either_stops, by_first, by_second, no_ok, reads_then, reads_as, reads_or, reads_before}
+use Rattle.sgb_text.proofs.Words.{fixed_other, reads_after, reads_fixed}
 use Rattle.sgb_vec.proofs.NamedNumbers.{first_byte}
 use Rattle.sgb_expr.proofs.Digits.{number_stops}
 use Rattle.sgb_expr.proofs.NumberReaders.{Clear, reads_integer}

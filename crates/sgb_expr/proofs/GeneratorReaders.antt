@@ -1,10 +1,9 @@
 -- Readers of argument lists, and of each generator's form.
-use Rattle.std.proofs.Common.{◌≤◌, ℕ, ℤ, zero, suc, List, [], ◌∷◌, ◌++◌, codes, refl, sym, ◌∙◌, ap, subst, append_assoc, lit≤}
+use Rattle.std.proofs.Common.{◌≤◌, ℕ, ℤ, zero, suc, List, [], ◌∷◌, ◌++◌, codes, sym, subst, lit≤}
 use Rattle.std.specs.Char.{digit_value}
 use Rattle.sgb_gen.specs.Shorthands.{complete, transitive, empty, circuit, cycle, disjoint_subsets, petersen}
-use Rattle.sgb_expr.specs.Numbers.{IsInteger, IsBits}
 use Rattle.sgb_expr.specs.Forms.{AreNumbers, IsGeneratorCall, nth_number, board_params, simplex_params, subsets_params}
-use Rattle.sgb_text.specs.Languages.{Then, After, As}
+use Rattle.sgb_text.specs.Languages.{As}
 use Rattle.sgb_text.proofs.Readings.{read_as}
 use Rattle.sgb_expr.specs.inner.Readings.{integers_at}
 use Rattle.sgb_expr.specs.inner.Reading.{generator_at, subsets_at}

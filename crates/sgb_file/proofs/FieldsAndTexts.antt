@@ -16,7 +16,6 @@ use Rattle.sgb_graph.specs.declared.fields.Kind.{Kind}
 use Rattle.sgb_graph.specs.declared.fields.Kind.TheVariants.{Z, I, V, S, A}
 use Rattle.sgb_graph.specs.declared.fields.Ref.{Ref}
 use Rattle.sgb_graph.specs.declared.fields.Ref.TheVariants.{Null, One, At}
-use Rattle.sgb_graph.specs.declared.fields.Util.{Util}
 use Rattle.sgb_graph.specs.declared.fields.Util.TheVariants.{Int, Vertex as VertexField, Str, Chain}
 use Rattle.sgb_file.specs.Fields.{Counts, number_of, number_below, most_integer_digits, integer_of, ref_of, record_number_of, unbroken, string_of}
 use Rattle.sgb_file.specs.inner.ReadFields.{string_at, plain_text, plain_at, field_at}

@@ -16,7 +16,7 @@ use Rattle.sgb_graph.specs.Sound.{util_fits, utils_fit, vertex_fits, record_fits
 use Rattle.sgb_graph.specs.declared.fields.Kind.{Kind}
 use Rattle.sgb_graph.specs.declared.fields.Kind.TheVariants.{Z, I, V, S, A}
 use Rattle.sgb_graph.specs.declared.fields.Util.{Util}
-use Rattle.sgb_graph.specs.declared.fields.Util.TheVariants.{Nothing, Int, Vertex as VertexField, Str, Chain}
+use Rattle.sgb_graph.specs.declared.fields.Util.TheVariants.{Nothing}
 use Rattle.sgb_file.specs.FileLines.{text_of_lines}
 use Rattle.sgb_file.specs.Fields.{Counts, most_number_digits, string_of}
 use Rattle.sgb_file.specs.Files.{Head, IsFieldText, AreMoreFields, IsRecordOf, IsFirstLine, IsVertexRecord, IsArcRecord, IsGraphRecord, AreRecordsOf, head_of}

@@ -1,5 +1,5 @@
 -- The records of a file as they are written: each is a record of the graph's, with breaks in its texts.
-use Rattle.std.specs.Prelude.{◌≡◌, ℕ, Bool, true, false, cond, List, [], ◌∷◌, ◌++◌, length, codes, decimal, Option, Some, All, ⊤, refl}
+use Rattle.std.specs.Prelude.{◌≡◌, ℕ, Bool, true, false, cond, List, [], ◌∷◌, ◌++◌, length, codes, decimal, Option, Some, All, refl}
 use Rattle.std.specs.Fmt.{signed_decimal}
 use Rattle.std.specs.List.{flat_map}
 use Rattle.std.proofs.Common.{ap, sym, subst, ◌∙◌, arith, inl, inr}
@@ -124,9 +124,14 @@ graph_written g h =
     let b = a.5 in
     let n_says = said_broken (number_of most_number_digits) (decimal n) n (number_is_said n (omega (arith, h.vertices_few))) a.1 a.4 in
     let m_says = said_broken (number_of most_number_digits) (decimal g.m) g.m (number_is_said g.m h.arcs_few) b.1 b.4 in
-    let fields = more_written (head_of g).counts h.small (graph_kinds g.kinds) g.util h.own.fits h.own.values b.2 b.5 in
-    (w.0, w.1, g.id, w.4, string_is_said most_id_bytes g.id h.id.short h.id.printable w.0 w.2,
-    (a.0, a.1 ++ a.2, tt, a.6, a.3, (a.1, a.2, n, refl, n_says, (b.0, b.1 ++ b.2, tt, b.6, b.3, (b.1, b.2, g.m, refl, m_says, (g.util, fields, refl))))))
+    let fields = more_written (head_of g).counts h.small (graph_kinds g.kinds) g.util h.own.fits h.own.values b.2 b.5 in (
+      w.0,
+      w.1,
+      g.id,
+      w.4,
+      string_is_said most_id_bytes g.id h.id.short h.id.printable w.0 w.2,
+      (a.0, a.1 ++ a.2, tt, a.6, a.3, (a.1, a.2, n, refl, n_says, (b.0, b.1 ++ b.2, tt, b.6, b.3, (b.1, b.2, g.m, refl, m_says, (g.util, fields, refl))))),
+    )
 
 -- records one after another
 pub all_written : {X : Type 0} (text_of : X → List ℕ) (IsOne : List ℕ → X → Type 0) (IsGood : X → Type 0) → ((x : X) → IsGood x → IsOne (text_of x) x)

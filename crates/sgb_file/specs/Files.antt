@@ -1,5 +1,5 @@
 -- When a text is a file of a graph [GB_SAVE]: what its lines are, and what stands for each value.
-use Rattle.std.specs.Prelude.{◌≡◌, ◌≢◌, ◌⊎◌, ℕ, ◌<◌, ◌≤◌, List, [], ◌∷◌, ◌++◌, map, length, codes, Some, All, IsTrue, IsFalse, ⊤}
+use Rattle.std.specs.Prelude.{◌≡◌, ◌≢◌, ◌⊎◌, ℕ, ◌<◌, ◌≤◌, List, [], ◌∷◌, ◌++◌, map, length, codes, All, IsTrue, IsFalse, ⊤}
 use Rattle.sgb_text.specs.Languages.{As, Cons, Each, Fixed, Or, Says, Then}
 use Rattle.sgb_vec.specs.Limits.{most_bytes, most_vertices}
 use Rattle.sgb_graph.specs.Graphs.{GraphData}

@@ -1,5 +1,5 @@
 -- The records of a file, as they are read: the graph's, the vertices' and the arcs' [GB_SAVE, restore_graph].
-use Rattle.std.specs.Prelude.{ℕ, zero, suc, List, [], ◌∷◌, codes, Option, Some, None, option_map, unwrap_or, ◌==◌, if◌then◌else◌}
+use Rattle.std.specs.Prelude.{ℕ, List, [], ◌∷◌, codes, Option, Some, None, option_map, unwrap_or, ◌==◌, if◌then◌else◌}
 use Rattle.sgb_text.proofs.Findings.{Found, found_as, after_prefix, all_at}
 use Rattle.sgb_text.specs.Given.{given}
 use Rattle.sgb_graph.specs.Graphs.{GraphData}
