@@ -5,7 +5,7 @@ use Rattle.std.proofs.lemmas.Bool.Decides.{Decides-eqb}
 use Rattle.sgb_text.specs.Languages.{As, Each, Fixed, Then}
 use Rattle.sgb_text.proofs.Readers.{Anything}
 use Rattle.sgb_text.proofs.Finders.{AreSoMany, Finds, From, StandsIn, found_with, rest_alone, finds_all, finds_as, finds_cons, finds_fixed, finds_from, finds_is, finds_prefix, finds_then, tested}
-use Rattle.sgb_text.proofs.Findings.{after_prefix, prefix_is, was_mapped, was_let_through}
+use Rattle.sgb_text.proofs.Findings.{Found, after_prefix, prefix_is, was_mapped, was_let_through}
 use Rattle.sgb_text.specs.Given.{given}
 use Rattle.sgb_graph.specs.Graphs.{GraphData}
 use Rattle.sgb_graph.specs.Growth.{graph_data}
@@ -119,6 +119,14 @@ finds_graph head =
 -- it has as many vertices as are counted, and the graph has none of them yet
 is_bare : (head : Head) (n : ℕ) (id : List ℕ) (m : ℕ) (util : List Util) (g : GraphData) → graph_of_parts head id n m util ≡ Some g → (n ≡ head.counts.vertices) × (graph_data id m head.kinds util [] [] ≡ g)
 is_bare head n id m util g e = grind (arith, was_let_through, Decides-eqb)
+
+pub starts_bare : (head : Head) (text rest : List ℕ) (g : GraphData) → graph_record_at head text ≡ Some (record { value = g; rest = rest }) → ([] ≡ g.vertices) × ([] ≡ g.records)
+starts_bare head text rest g e =
+    let own = (finds_graph head).found text _ e in
+    let n = own.says.5.5 in
+    let m = n.5.5 in
+    let same = (is_bare head n.2 own.says.2 m.2 m.5.0 own.value m.5.2).1 ∙ ap (λ (x : Found GraphData). x.value) own.made in
+    (ap (λ (x : GraphData). x.vertices) same, ap (λ (x : GraphData). x.records) same)
 
 made_kinds : (head : Head) (bare : GraphData) (whole : List ℕ) → GraphWord (GraphMade head) whole bare → bare.kinds ≡ head.kinds
 made_kinds head bare whole h =
