@@ -44,9 +44,10 @@ def read(path):
 
 
 def libraries():
-    """The crates of crates.txt that others call: those with a root of a library that hold more than tests."""
+    """The crates of crates.txt that others call: those with a root of a library that hands something on, and that are no tests."""
     names = re.findall(r"^(\w+):", read("crates.txt"), re.M)
-    return [name for name in names if os.path.exists(f"crates/{name}/src/lib.rt") and not name.endswith("_tests")]
+    roots = {name: f"crates/{name}/src/lib.rt" for name in names if not name.endswith("_tests")}
+    return [name for name, root in roots.items() if os.path.exists(root) and re.search(r"^pub ", read(root), re.M)]
 
 
 def is_proved(path):

@@ -11,8 +11,8 @@ use Rattle.sgb_expr.specs.Numbers.{IsNumber}
 use Rattle.sgb_vec.specs.Digits.{leading_digits}
 use Rattle.sgb_vec.proofs.NamedNumbers.{first_byte}
 use Rattle.sgb_expr.specs.inner.Readings.{number_of_digits, number_at}
-use Rattle.sgb_expr.proofs.Readers.{next, Found, Wrong, Reads, no_ok, ok_same}
-use Rattle.sgb_expr.proofs.Words.{err_same}
+use Rattle.sgb_text.proofs.Readers.{next, IsFound, Wrong, Reads, no_ok, ok_same}
+use Rattle.sgb_text.proofs.Words.{err_same}
 
 -- the text does not begin with a digit in the radix
 abbrev pub NoDigit : ℕ → List ℕ → Type 0
@@ -100,7 +100,7 @@ pub zero_is_number : (radix most : ℕ) → 0 < radix → 0 < most → IsNumber 
 zero_is_number radix most some room = record { numeral = (omega arith, (some, tt)); short = omega (arith, room); writes = omega arith }
 
 -- a number that was read
-number_found_at : (radix most : ℕ) (text : List ℕ) (value : ℕ) (rest : List ℕ) → number_at radix most text ≡ Ok (value, rest) → Leading radix most text → Found (IsNumber radix most) (number_at radix most) text value rest
+number_found_at : (radix most : ℕ) (text : List ℕ) (value : ℕ) (rest : List ℕ) → number_at radix most text ≡ Ok (value, rest) → Leading radix most text → IsFound (IsNumber radix most) (number_at radix most) text value rest
 number_found_at radix most text value rest e l = elim (cases_lt 0 (length l.digits)) [
   | inl some ↦
       let read = number_found radix most text l.digits l.rest l.are l.whole some in

@@ -3,13 +3,14 @@ use Rattle.std.proofs.Common.{◌≡◌, ◌≢◌, ◌+◌, ◌-◌, ℕ, zero,
 use Rattle.sgb_expr.specs.Listed.{listed}
 use Rattle.sgb_expr.specs.Expression.{Entry, entry_of}
 use Rattle.sgb_expr.specs.inner.Gives.{Fails}
-use Rattle.sgb_expr.specs.inner.Readings.{or_else, then_read, read_after, read_as, fixed_at, fixed_as, separator_before}
+use Rattle.sgb_text.proofs.Readings.{or_else, then_read, read_after, read_as, fixed_at, fixed_as}
+use Rattle.sgb_expr.specs.inner.Readings.{separator_before}
 use Rattle.sgb_expr.specs.inner.Reading.{entry_at, entries_at, expression_at}
 use Rattle.sgb_expr.specs.declared.entries.EntryExpr.{EntryExpr}
 use Rattle.sgb_expr.specs.declared.wrong.Wrong.{Wrong}
 use Rattle.sgb_expr.specs.declared.wrong.Wrong.TheVariants.{Left, NoRoom}
-use Rattle.sgb_expr.proofs.Readers.{bind_of, bind_stops, one_more, then_stops, with_first}
-use Rattle.sgb_expr.proofs.Words.{fixed_again, fixed_cases}
+use Rattle.sgb_text.proofs.Readers.{bind_of, bind_stops, one_more, then_stops, with_first}
+use Rattle.sgb_text.proofs.Words.{fixed_again, fixed_cases}
 use Rattle.sgb_expr.proofs.EntryReaders.{entries_step}
 use Rattle.sgb_expr.proofs.Nesting.{expression_no_longer}
 

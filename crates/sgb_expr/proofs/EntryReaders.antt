@@ -1,21 +1,22 @@
 -- Readers of entries, integers and expressions, one after another to a `]`.
-use Rattle.std.proofs.Common.{◌≡◌, ◌≤◌, ◌<◌, ◌+◌, ◌&&◌, ◌==◌, ℕ, ℤ, pos, neg_ℤ, zero, suc, Bool, true, false, not, List, [], ◌∷◌, ◌++◌, length, min, codes, Result, Ok, Err, refl, sym, ◌∙◌, ap, subst, inl, inr, append_assoc, append-nil, arith, length-append, lit≤}
+use Rattle.std.proofs.Common.{◌≡◌, ◌≤◌, ◌<◌, ◌+◌, ◌&&◌, ◌==◌, ℕ, ℤ, pos, neg_ℤ, zero, suc, Bool, true, false, not, List, [], ◌∷◌, ◌++◌, length, min, codes, Result, Ok, Err, refl, sym, ◌∙◌, ap, subst, inl, inr, append_assoc, arith, lit≤}
 use Rattle.std.specs.Char.{is_digit}
 use Rattle.std.proofs.lemmas.Bool.{and_parts, not-true}
 use Rattle.std.proofs.lemmas.Bool.Decides.{eqb_tells}
-use Rattle.std.proofs.lemmas.List.{nil_from_length}
 use Rattle.sgb_expr.specs.Expression.{Expression, Entry}
-use Rattle.sgb_expr.specs.Languages.{Then, After, As, Or}
+use Rattle.sgb_text.specs.Languages.{Fixed, Then, After, As, Or}
 use Rattle.sgb_expr.specs.Numbers.{IsInteger, most_digits}
 use Rattle.sgb_expr.specs.Operations.{IsEntry, AreEntries}
-use Rattle.sgb_expr.specs.inner.Readings.{◌>>=◌, either, or_else, then_read, read_as, fixed_at, fixed_as, number_at, integer_at}
+use Rattle.sgb_text.proofs.Readings.{◌>>=◌, either, or_else, then_read, read_as, fixed_at, fixed_as}
+use Rattle.sgb_expr.specs.inner.Readings.{number_at, integer_at}
 use Rattle.sgb_expr.specs.inner.Reading.{entry_at, entries_then, entries_for, entries_at}
-use Rattle.sgb_expr.proofs.Readers.{next, Reads, bind_ok, bind_stops, ok_same, either_found, either_stops, by_first, by_second, cut_in, no_ok, reads_then, reads_as, reads_or, reads_before}
-use Rattle.sgb_expr.proofs.Words.{Anything, Fixed, fixed_other, reads_after, reads_fixed, reads_same, err_same}
+use Rattle.sgb_text.proofs.Readers.{Anything, Reads, bind_ok, bind_stops, ok_same, either_found, either_stops, by_first, by_second, no_ok, reads_then, reads_as, reads_or, reads_before}
+use Rattle.sgb_text.proofs.Words.{fixed_other, reads_after, reads_fixed}
 use Rattle.sgb_vec.proofs.NamedNumbers.{first_byte}
 use Rattle.sgb_expr.proofs.Digits.{number_stops}
 use Rattle.sgb_expr.proofs.NumberReaders.{Clear, reads_integer}
-use Rattle.sgb_expr.proofs.Lengths.{Language, Reader, Within, Agree, no_longer, fixed_takes, bind_agrees}
+use Rattle.sgb_text.proofs.Limits.{reads_all, reads_else}
+use Rattle.sgb_text.proofs.Lengths.{Language, Reader, Within, Agree, no_longer, fixed_takes, bind_agrees}
 use Rattle.sgb_expr.proofs.GeneratorReaders.{clear_byte}
 
 -- the text begins with a byte that is no digit, no `-` and no `]`
@@ -80,39 +81,6 @@ reads_entry {Inner} {inner} i =
     let stops = lettered_no_integer word tail (i.lettered word w.0 w.1) in
     (stops.0, bind_stops (integer_at (word ++ tail)) (λ x. Ok (Entry.Number x.0, x.1)) stops.0 stops.1))
     (λ tail h. h)
-
--- the first of two readings or the second, where the first stops no further on
-else_is : {A : Type 0} (r s : Result A ℕ) → ((a b : ℕ) → r ≡ Err a → s ≡ Err b → b ≤ a) → or_else r s ≡ either r s
-else_is (Ok x) s h = refl
-else_is (Err a) (Ok y) h = refl
-else_is (Err a) (Err b) h = ap Err (let le = h a b refl refl in omega (arith, le))
-
--- one byte stops at once
-byte_stops : {V : Type 0} (value : V) (byte : ℕ) (text : List ℕ) (left : ℕ) → fixed_as value (byte ∷ []) text ≡ Err left → left ≡ length text
-byte_stops value byte [] left e = sym (err_same 0 left e)
-byte_stops {V} value byte (other ∷ text) left e = elim (eqb_tells byte other) [
-  | inl h ↦
-      let reads : fixed_at (byte ∷ []) (other ∷ text) ≡ Ok text = rw h.0 refl in
-      absurd (no_ok (sym e ∙ ap (λ (r : Result (List ℕ) ℕ). r >>= λ rest. Ok (value, rest)) reads))
-  | inr h ↦ err_same left (length (other ∷ text)) (sym e ∙ ap (λ (r : Result (List ℕ) ℕ). r >>= λ rest. Ok (value, rest)) (fixed_other byte other [] text h.0))
-]
-
--- a reader of one byte, or of other words, none of which begins with it
-reads_else : {V : Type 0} {Word : Language V} {read : Reader V} (value : V) (byte : ℕ) → Reads Word Anything read
-    → ((word tail : List ℕ) (v : V) → Word word v → (left : ℕ) × (fixed_at (byte ∷ []) (word ++ tail) ≡ Err left))
-    → Reads (Or (Fixed value (byte ∷ [])) Word) Anything (λ text. or_else (fixed_as value (byte ∷ []) text) (read text))
-reads_else {V} {Word} {read} value byte r apart =
-    reads_same
-    (λ text. sym (else_is (fixed_as value (byte ∷ []) text) (read text)
-    (λ a b e f.
-    let w = r.wrong text b f in
-    let all = byte_stops value byte text a e in
-    omega (arith, all, w.cut.count, ap length w.cut.whole, length-append w.cut.good w.cut.bad))))
-    (reads_or (reads_fixed value (byte ∷ [])) r
-    (λ word tail v w.
-    let stops = apart word tail v w in
-    (stops.0, bind_stops (fixed_at (byte ∷ []) (word ++ tail)) (λ rest. Ok (value, rest)) stops.0 stops.1))
-    (λ tail h. h))
 
 -- so many entries at most
 abbrev AtMost : Language Expression → ℕ → List ℕ → Language (List Entry)
@@ -222,49 +190,6 @@ unfolding entries_at
 entries_step inner shortens separator text =
     then_same inner shortens (entries_for inner (length text) (codes ",")) (entries_at inner (codes ",")) separator text
     (λ rest within. comma_same inner shortens (length text) (suc (length rest)) rest (omega (arith, within)) (omega arith))
-
--- two cuts of one text at one place
-same_cut : (a u b v : List ℕ) → a ++ u ≡ b ++ v → length u ≡ length v → (b ≡ a) × (u ≡ v)
-same_cut a u b v e h =
-    let t = cut_in a u b v e (omega (arith, h)) in
-    let none : t.0 ≡ [] = nil_from_length t.0 (omega (arith, h, ap length t.2, length-append t.0 v)) in
-    (t.1 ∙ ap (λ x. a ++ x) none ∙ append-nil a, t.2 ∙ ap (λ x. x ++ v) none)
-
--- a reader that is each of some readers on texts to a length, where each word is one of a language's from some length on
-reads_all : {V : Type 0} {Word : Language V} {Tail : List ℕ → Type 0} {read : Reader V} (To : ℕ → Language V) (to : ℕ → Reader V) → ((n : ℕ) → Reads (To n) Tail (to n))
-    → ((n : ℕ) (word : List ℕ) (value : V) → To n word value → Word word value)
-    → ((word : List ℕ) (value : V) → Word word value → (m : ℕ) × ((n : ℕ) → m ≤ n → To n word value))
-    → ((n : ℕ) (text : List ℕ) → length text ≤ n → read text ≡ to n text) → Reads Word Tail read
-reads_all {V} {Word} {Tail} {read} To to r are from same = record {
-  found = λ text value rest e.
-      let at : (n : ℕ) → length text ≤ n → to n text ≡ Ok (value, rest) = λ n h. sym (same n text h) ∙ e in
-      let f = (r (length text)).found text value rest (at (length text) (omega arith)) in record {
-        word = f.word;
-        whole = f.whole;
-        is = are (length text) f.word value f.is;
-        same = λ other e2.
-            let n = length text + length (f.word ++ other) in
-            let g = (r n).found text value rest (at n (omega arith)) in
-            let one = same_cut f.word rest g.word rest (sym f.whole ∙ g.whole) refl in
-            same n (f.word ++ other) (omega arith) ∙ ap (λ u. to n (u ++ other)) (sym one.0) ∙ g.same other e2;
-      };
-  wrong = λ text left e.
-      let at : (n : ℕ) → length text ≤ n → to n text ≡ Err left = λ n h. sym (same n text h) ∙ e in
-      let f = (r (length text)).wrong text left (at (length text) (omega arith)) in record {
-        cut = f.cut;
-        begins = (f.begins.0, f.begins.1, are (length text) (f.cut.good ++ f.begins.0) f.begins.1 f.begins.2);
-        same = λ other e2.
-            let n = length text + length (f.cut.good ++ other) in
-            let g = (r n).wrong text left (at n (omega arith)) in
-            let one = same_cut f.cut.good f.cut.bad g.cut.good g.cut.bad (sym f.cut.whole ∙ g.cut.whole) (sym f.cut.count ∙ g.cut.count) in
-            same n (f.cut.good ++ other) (omega arith) ∙ ap (λ u. to n (u ++ other)) (sym one.0) ∙ g.same other (e2 ∙ ap next one.1);
-      };
-  again = λ word tail value is t.
-      let m = from word value is in
-      let n = m.0 + length (word ++ tail) in
-      same n (word ++ tail) (omega arith) ∙ (r n).again word tail value (m.1 n (omega arith)) t;
-  some = let a = (r 0).some in (a.0, a.1, are 0 a.0 a.1 a.2);
-}
 
 -- a reader of entries to a `]`
 pub reads_entries : {Inner : Language Expression} {inner : Reader Expression} → Inside Inner inner → (separator : List ℕ) → IsSeparator separator → Reads (AreEntries Inner separator) Anything (entries_at inner separator)

@@ -12,7 +12,7 @@ use Rattle.sgb_expr.specs.StdinUses.{has_stdin}
 use Rattle.sgb_expr.specs.declared.expressions.Generator.TheVariants.{Board, Simplex, Subsets}
 use Rattle.sgb_expr.proofs.FlipReading.{reads_flip}
 use Rattle.sgb_expr.proofs.WholeReading.{whole_read}
-use Rattle.sgb_expr.proofs.WholeWords.{word_whole}
+use Rattle.sgb_text.proofs.WholeWords.{word_whole}
 
 -- the complement of the petersen graph, with loops
 reads_complement : whole_at (codes "complement(petersen(),0,-7,00)") ≡ Ok (Expression.Complement (Expression.Generated (Subsets petersen)) false true false)

@@ -2,15 +2,16 @@
 use Rattle.std.proofs.Common.{ℕ, List, [], codes, Result, Ok, refl, ◌∙◌, ap, arith}
 use Rattle.sgb_expr.specs.Expression.{Expression}
 use Rattle.sgb_expr.specs.Forms.{AreNumbers}
-use Rattle.sgb_expr.specs.Languages.{Then, After, As}
+use Rattle.sgb_text.specs.Languages.{Then, After, As}
 use Rattle.sgb_expr.specs.Operations.{AreEntries, AreOperands, IsCallOf, IsEntryList, complement_call, gunion_call, intersection_call, product_call, lines_call, induced_call, bi_complete_call, wheel_call}
-use Rattle.sgb_expr.specs.inner.Readings.{◌>>=◌, then_read, read_after, read_as, fixed_at, integers_at}
+use Rattle.sgb_text.proofs.Readings.{◌>>=◌, then_read, read_after, read_as, fixed_at}
+use Rattle.sgb_expr.specs.inner.Readings.{integers_at}
 use Rattle.sgb_expr.specs.inner.Reading.{arguments_with, entries_at, entry_list_at, operands_with}
 use Rattle.sgb_expr.specs.declared.names.FormName.{FormName}
 use Rattle.sgb_expr.specs.declared.names.FormName.TheVariants.{Generator, Complement, Gunion, Intersection, Lines, Product, Induced, BiComplete, Wheel, Stdin}
-use Rattle.sgb_expr.proofs.Readers.{Reads, reads_then, reads_as}
-use Rattle.sgb_expr.proofs.Words.{Anything, reads_after, reads_fixed}
-use Rattle.sgb_expr.proofs.Lengths.{Language, Reader, Within, Agree, no_longer, fixed_takes, bind_agrees}
+use Rattle.sgb_text.proofs.Readers.{Anything, Reads, reads_then, reads_as}
+use Rattle.sgb_text.proofs.Words.{reads_after, reads_fixed}
+use Rattle.sgb_text.proofs.Lengths.{Language, Reader, Within, Agree, no_longer, fixed_takes, bind_agrees}
 use Rattle.sgb_expr.proofs.GeneratorReaders.{close_end, reads_generator, reads_integers}
 use Rattle.sgb_expr.proofs.EntryReaders.{Inside, none_before, reads_entries, entries_more, entries_agree}
 

@@ -1,18 +1,18 @@
 -- Readers of argument lists, and of each generator's form.
-use Rattle.std.proofs.Common.{◌≤◌, ℕ, ℤ, zero, suc, List, [], ◌∷◌, ◌++◌, codes, refl, sym, ◌∙◌, ap, subst, append_assoc, lit≤}
+use Rattle.std.proofs.Common.{◌≤◌, ℕ, ℤ, zero, suc, List, [], ◌∷◌, ◌++◌, codes, sym, subst, lit≤}
 use Rattle.std.specs.Char.{digit_value}
 use Rattle.sgb_gen.specs.Shorthands.{complete, transitive, empty, circuit, cycle, disjoint_subsets, petersen}
-use Rattle.sgb_expr.specs.Numbers.{IsInteger, IsBits}
 use Rattle.sgb_expr.specs.Forms.{AreNumbers, IsGeneratorCall, nth_number, board_params, simplex_params, subsets_params}
-use Rattle.sgb_expr.specs.Languages.{Then, After, As}
-use Rattle.sgb_expr.specs.inner.Readings.{read_as, integers_at}
+use Rattle.sgb_text.specs.Languages.{As}
+use Rattle.sgb_text.proofs.Readings.{read_as}
+use Rattle.sgb_expr.specs.inner.Readings.{integers_at}
 use Rattle.sgb_expr.specs.inner.Reading.{generator_at, subsets_at}
 use Rattle.sgb_expr.specs.declared.expressions.Generator.{Generator}
 use Rattle.sgb_expr.specs.declared.expressions.Generator.TheVariants as generator
 use Rattle.sgb_expr.specs.declared.names.GeneratorName.{GeneratorName}
 use Rattle.sgb_expr.specs.declared.names.GeneratorName.TheVariants.{Board, Simplex, Subsets, Complete, Transitive, Empty, Circuit, Cycle, DisjointSubsets, Petersen}
-use Rattle.sgb_expr.proofs.Readers.{Reads, reads_then, reads_as, reads_is}
-use Rattle.sgb_expr.proofs.Words.{Anything, reads_after, reads_fixed}
+use Rattle.sgb_text.proofs.Readers.{Anything, Reads, reads_then, reads_as, reads_cons}
+use Rattle.sgb_text.proofs.Words.{reads_after, reads_fixed}
 use Rattle.sgb_expr.proofs.Digits.{other_digit}
 use Rattle.sgb_expr.proofs.NumberReaders.{Clear, reads_integer, reads_bits}
 
@@ -32,49 +32,21 @@ end_clear end tail close_end = clear_byte 41 tail (lit≤ tt)
 -- what follows an integer in a list
 numbers_clear : (n : ℕ) (end word tail : List ℕ) (numbers : List ℤ) → IsEnd end → AreNumbers (codes ",") n end word numbers → Clear (word ++ tail)
 numbers_clear zero end word tail numbers is a = subst (λ (u : List ℕ). Clear (u ++ tail)) (sym a.0) (end_clear end tail is)
-numbers_clear (suc n) end word tail numbers is a = subst (λ (u : List ℕ). Clear (u ++ tail)) (sym a.4) (clear_byte 44 ((a.0 ++ a.1) ++ tail) (lit≤ tt))
-
--- the words of integers one after another
-abbrev OneMore : List ℕ → (List ℕ → List ℤ → Type 0) → List ℕ → List ℤ → Type 0
-OneMore separator Others = After separator (Then IsInteger (λ first. As (λ others. first ∷ others) Others))
-
-one_more_is : (separator : List ℕ) (n : ℕ) (end word : List ℕ) (numbers : List ℤ) → OneMore separator (AreNumbers (codes ",") n end) word numbers → AreNumbers separator (suc n) end word numbers
-one_more_is separator n end word numbers h =
-    let b = h.2 in
-    (b.0, b.1, b.2, b.5.0, h.1 ∙ ap (λ u. separator ++ u) b.3 ∙ sym (append_assoc separator b.0 b.1), b.4, b.5.1, b.5.2)
-
-one_more_from : (separator : List ℕ) (n : ℕ) (end word : List ℕ) (numbers : List ℤ) → AreNumbers separator (suc n) end word numbers → OneMore separator (AreNumbers (codes ",") n end) word numbers
-one_more_from separator n end word numbers h =
-    (h.0 ++ h.1, h.4 ∙ append_assoc separator h.0 h.1, (h.0, h.1, h.2, refl, h.5, (h.3, h.6, h.7)))
+numbers_clear (suc n) end word tail numbers is a = subst (λ (u : List ℕ). Clear (u ++ tail)) (sym a.1) (clear_byte 44 (a.0 ++ tail) (lit≤ tt))
 
 -- a reader of integers one after another
 pub reads_integers : (separator : List ℕ) (n : ℕ) (end : List ℕ) → IsEnd end → Reads (AreNumbers separator n end) Anything (integers_at separator n end)
 reads_integers separator zero end is = reads_fixed [] end
 reads_integers separator (suc n) end is =
-    reads_is (one_more_is separator n end) (one_more_from separator n end)
-    (reads_after separator (reads_then reads_integer (λ first. reads_as (λ others. first ∷ others) (reads_integers (codes ",") n end is))
-    (λ v word tail value w t. numbers_clear n end word tail w.0 is w.1)))
+    reads_after separator (reads_cons reads_integer (reads_integers (codes ",") n end is) (λ word tail numbers w t. numbers_clear n end word tail numbers is w))
 
 -- the arguments of subsets
-abbrev SubsetsArguments : List ℕ → Generator → Type 0
-SubsetsArguments =
-    Then (AreNumbers [] 6 (codes ",")) (λ numbers. Then IsBits (λ bits. As (λ directed. generator.Subsets (subsets_params numbers bits (nth_number directed 0))) (AreNumbers (codes ",") 1 (codes ")"))))
-
-subsets_are : (word : List ℕ) (e : Generator) → SubsetsArguments word e → IsGeneratorCall Subsets word e
-subsets_are word e h =
-    let b = h.5 in
-    (h.2, b.2, b.5.0, h.0, b.0, b.1, h.3 ∙ ap (λ u. h.0 ++ u) b.3 ∙ sym (append_assoc h.0 b.0 b.1), h.4, b.4, b.5.1, b.5.2)
-
-subsets_from : (word : List ℕ) (e : Generator) → IsGeneratorCall Subsets word e → SubsetsArguments word e
-subsets_from word e h = (h.3, h.4 ++ h.5, h.0, h.6 ∙ append_assoc h.3 h.4 h.5, h.7, (h.4, h.5, h.1, refl, h.8, (h.2, h.9, h.10)))
-
 reads_subsets : Reads (IsGeneratorCall Subsets) Anything subsets_at
 reads_subsets =
-    reads_is subsets_are subsets_from
-    (reads_then (reads_integers [] 6 (codes ",") comma_end)
+    reads_then (reads_integers [] 6 (codes ",") comma_end)
     (λ numbers. reads_then reads_bits (λ bits. reads_as (λ directed. generator.Subsets (subsets_params numbers bits (nth_number directed 0))) (reads_integers (codes ",") 1 (codes ")") close_end))
     (λ v word tail value w t. numbers_clear 1 (codes ")") word tail w.0 close_end w.1))
-    (λ v word tail value w t. tt))
+    (λ v word tail value w t. tt)
 
 -- a form of n integers
 reads_as_integers : (n : ℕ) (make : List ℤ → Generator) → Reads (As make (AreNumbers [] n (codes ")"))) Anything (read_as make (integers_at [] n (codes ")")))

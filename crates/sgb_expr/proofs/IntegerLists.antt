@@ -2,8 +2,9 @@
 use Rattle.std.proofs.Common.{◌<◌, ◌≤◌, ◌+◌, inl, inr, pos, nat_abs, length, take, set, get_or, append-nil, arith, subst, ◌≡◌, ℕ, ℤ, suc, ◌-◌, List, [], ◌∷◌, ◌++◌, Result, Ok, Err, codes, sym, ◌∙◌, ap}
 use Rattle.std.proofs.lemmas.Bool.{cases_eq}
 use Rattle.std.proofs.lemmas.List.{take_all, take_more_set, get_or-set_same, get_or-set_other}
-use Rattle.sgb_expr.specs.inner.Readings.{◌>>=◌, fixed_at, integer_at, integers_at, read_after, separator_before}
-use Rattle.sgb_expr.proofs.Readers.{bind_of, bind_stops, one_more, then_stops, with_first}
+use Rattle.sgb_text.proofs.Readings.{◌>>=◌, fixed_at, read_after}
+use Rattle.sgb_expr.specs.inner.Readings.{integer_at, integers_at, separator_before}
+use Rattle.sgb_text.proofs.Readers.{bind_of, bind_stops, one_more, then_stops, with_first}
 
 -- an integer is read after those
 integer_read : (first : List ℤ) (number : ℤ) (n : ℕ) (separator end text begun rest : List ℕ) → fixed_at separator text ≡ Ok begun → integer_at begun ≡ Ok (number, rest)

@@ -1,8 +1,4 @@
 -- The lemmas of sgb_expr, by subject.
--- readers of languages, one after another, and one or the other
-pub mod Readers
--- readers of fixed texts, and of one among several words
-pub mod Words
 -- a reader of numbers in a radix
 pub mod Digits
 -- readers of integers and of bits
@@ -13,8 +9,6 @@ pub mod IntegerLists
 pub mod NameOpenings
 -- readers of argument lists, and of each generator's form
 pub mod GeneratorReaders
--- how much readers leave of a text
-pub mod Lengths
 -- readers of entries to a `]`
 pub mod EntryReaders
 -- the form of each name: its words, and its reader
@@ -27,8 +21,6 @@ pub mod EntryLists
 pub mod CodeExpressions
 -- which expressions of the code read standard input
 pub mod StdinUses
--- whole texts read as words, and where others go wrong
-pub mod WholeWords
 -- whole texts read as expressions
 pub mod WholeReading
 -- a reader of what is asked of the random generator

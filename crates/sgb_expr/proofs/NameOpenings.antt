@@ -2,11 +2,11 @@
 use Rattle.std.proofs.Common.{◌≡◌, ◌≤◌, ◌<◌, ◌+◌, ℕ, List, ◌∷◌, length, get_or, map, drop, min, Ok, Err, sym, ◌∙◌, ap, subst, arith, suc, drop-cons}
 use Rattle.sgb_expr.specs.Names.{name_opening}
 use Rattle.sgb_expr.specs.inner.Names.{openings, all_names}
-use Rattle.sgb_expr.specs.inner.Readings.{either, fixed_at, word_at}
+use Rattle.sgb_text.proofs.Readings.{either, fixed_at, word_at}
 use Rattle.sgb_expr.specs.declared.names.FormName.{FormName}
 use Rattle.sgb_expr.specs.declared.names.GeneratorName.TheVariants.{Board}
 use Rattle.sgb_expr.specs.declared.names.FormName.TheVariants.{Generator}
-use Rattle.sgb_expr.proofs.Words.{word_passed, word_found, word_begins}
+use Rattle.sgb_text.proofs.Words.{word_passed, word_found, word_begins}
 
 -- the openings from one name on
 abbrev pub openings_from : ℕ → List (List ℕ × FormName)

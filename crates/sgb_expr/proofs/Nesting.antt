@@ -3,20 +3,20 @@ use Rattle.std.proofs.Common.{◌≡◌, ◌≤◌, ◌<◌, ◌&&◌, ℕ, zero
 use Rattle.std.proofs.lemmas.Bool.{and_parts, cases_lt}
 use Rattle.sgb_expr.specs.Expression.{Expression}
 use Rattle.sgb_expr.specs.Expressions.{IsNested}
-use Rattle.sgb_expr.specs.Languages.{Then}
+use Rattle.sgb_text.specs.Languages.{Then}
 use Rattle.sgb_expr.specs.Names.{name_opening}
 use Rattle.sgb_expr.specs.inner.Names.{all_names, all_generator_names, generator_openings, openings}
 use Rattle.sgb_expr.specs.Operations.{IsCallOf, IsGenerator}
-use Rattle.sgb_expr.specs.inner.Readings.{then_read, word_at}
+use Rattle.sgb_text.proofs.Readings.{then_read, word_at}
 use Rattle.sgb_expr.specs.inner.Reading.{arguments_with, expression_at, nested_at}
 use Rattle.sgb_expr.specs.declared.names.GeneratorName.{GeneratorName}
 use Rattle.sgb_expr.specs.declared.names.GeneratorName.TheVariants.{Board, Simplex, Subsets, Complete, Transitive, Empty, Circuit, Cycle, DisjointSubsets, Petersen}
 use Rattle.sgb_expr.specs.declared.names.FormName.{FormName}
 use Rattle.sgb_expr.specs.declared.names.FormName.TheVariants.{Generator, Complement, Gunion, Intersection, Lines, Product, Induced, BiComplete, Wheel, Stdin}
-use Rattle.sgb_expr.proofs.Readers.{Reads, bind_of, bind_stops, reads_then, reads_as, reads_is}
-use Rattle.sgb_expr.proofs.Words.{Anything, IsWord, reads_words}
+use Rattle.sgb_text.proofs.Readers.{Anything, Reads, bind_of, bind_stops, reads_then, reads_as, reads_is}
+use Rattle.sgb_text.proofs.Words.{IsWord, reads_words}
 use Rattle.sgb_expr.proofs.GeneratorReaders.{reads_generator}
-use Rattle.sgb_expr.proofs.Lengths.{Within, no_longer, bind_agrees}
+use Rattle.sgb_text.proofs.Lengths.{Within, no_longer, bind_agrees}
 use Rattle.sgb_expr.proofs.EntryReaders.{Inside, is_lettered, lettered_more, lettered_some}
 use Rattle.sgb_expr.proofs.Forms.{form_of}
 
@@ -113,18 +113,18 @@ opening_shorter text name rest e =
 -- expressions in which no operation stands
 generator_is : (text : List ℕ) (e : Expression) → Then (IsWord generator_openings) IsGenerator text e → IsNested 0 text e
 unfolding generator_openings
-generator_is text e h = (h.2, h.1, h.3 ∙ ap (λ u. u ++ h.1) (opening_is (λ name. name_opening (Generator name)) all_generator_names h.0 h.2 h.4), h.5)
+generator_is text e h = (h.2, (h.1, h.3 ∙ ap (λ u. u ++ h.1) (opening_is (λ name. name_opening (Generator name)) all_generator_names h.0 h.2 h.4), h.5))
 
 generator_from : (text : List ℕ) (e : Expression) → IsNested 0 text e → Then (IsWord generator_openings) IsGenerator text e
-generator_from text e h = (name_opening (Generator h.0), h.1, h.0, h.2, generator_is_there h.0, h.3)
+generator_from text e (name, (arguments, parts, is)) = (name_opening (Generator name), arguments, name, parts, generator_is_there name, is)
 
 -- expressions in which operations may stand
 call_is : (depth : ℕ) (text : List ℕ) (e : Expression) → Then (IsWord openings) (IsCallOf (IsNested depth)) text e → IsNested (suc depth) text e
 unfolding openings
-call_is depth text e h = (h.2, h.1, h.3 ∙ ap (λ u. u ++ h.1) (opening_is name_opening all_names h.0 h.2 h.4), h.5)
+call_is depth text e h = (h.2, (h.1, h.3 ∙ ap (λ u. u ++ h.1) (opening_is name_opening all_names h.0 h.2 h.4), h.5))
 
 call_from : (depth : ℕ) (text : List ℕ) (e : Expression) → IsNested (suc depth) text e → Then (IsWord openings) (IsCallOf (IsNested depth)) text e
-call_from depth text e h = (name_opening h.0, h.1, h.0, h.2, name_is_there h.0, h.3)
+call_from depth text e (name, (arguments, parts, is)) = (name_opening name, arguments, name, parts, name_is_there name, is)
 
 -- an expression begins with a letter
 opening_lettered : (name : FormName) (arguments text : List ℕ) → text ≡ name_opening name ++ arguments → is_lettered text ≡ true
@@ -132,8 +132,8 @@ opening_lettered name arguments text e =
     ap is_lettered e ∙ lettered_more (name_opening name) arguments (word_lettered openings (name_opening name) name openings_lettered (name_is_there name))
 
 nested_lettered : (depth : ℕ) (text : List ℕ) (e : Expression) → IsNested depth text e → is_lettered text ≡ true
-nested_lettered zero text e w = opening_lettered (Generator w.0) w.1 text w.2
-nested_lettered (suc depth) text e w = opening_lettered w.0 w.1 text w.2
+nested_lettered zero text e (name, (arguments, parts, is)) = opening_lettered (Generator name) arguments text parts
+nested_lettered (suc depth) text e (name, (arguments, parts, is)) = opening_lettered name arguments text parts
 
 -- a reader of expressions to each depth
 pub reads_nested : (depth : ℕ) → Reads (IsNested depth) Anything (nested_at depth)
@@ -150,8 +150,8 @@ inside_nested depth = record { reads = reads_nested depth; lettered = nested_let
 
 -- an expression stands at each greater depth
 deeper : (depth : ℕ) → Within (IsNested depth) (IsNested (suc depth))
-deeper zero text e w = (Generator w.0, w.1, w.2, w.3)
-deeper (suc depth) text e w = (w.0, w.1, w.2, (form_of w.0).more (IsNested depth) (IsNested (suc depth)) (deeper depth) w.1 e w.3)
+deeper zero text e (name, w) = (Generator name, w)
+deeper (suc depth) text e (name, (arguments, parts, is)) = (name, (arguments, parts, (form_of name).more (IsNested depth) (IsNested (suc depth)) (deeper depth) arguments e is))
 
 pub deep_enough : (more depth : ℕ) → depth ≤ more → Within (IsNested depth) (IsNested more)
 deep_enough zero depth h text e w =

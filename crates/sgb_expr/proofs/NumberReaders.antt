@@ -3,10 +3,11 @@ use Rattle.std.proofs.Common.{◌≡◌, ℕ, ℤ, pos, neg_ℤ, ◌<◌, ◌≤
 use Rattle.std.specs.Char.{digit_value}
 use Rattle.std.specs.Str.Parse.{IsNumeral}
 use Rattle.sgb_expr.specs.Numbers.{IsNumber, IsInteger, IsBits, most_digits, most_hex_digits}
-use Rattle.sgb_expr.specs.Languages.{After, As, Or}
-use Rattle.sgb_expr.specs.inner.Readings.{◌>>=◌, fixed_at, number_at, signed_at, integer_at, bits_after, bits_at}
-use Rattle.sgb_expr.proofs.Readers.{next, next_after, Found, Wrong, Reads, bind_stops, cut_after, cut_in, reads_as, reads_or, reads_is, reads_before}
-use Rattle.sgb_expr.proofs.Words.{Parts, fixed_again, fixed_cases, fixed_stops, reads_after}
+use Rattle.sgb_text.specs.Languages.{As}
+use Rattle.sgb_text.proofs.Readings.{◌>>=◌, fixed_at}
+use Rattle.sgb_expr.specs.inner.Readings.{number_at, signed_at, integer_at, bits_after, bits_at}
+use Rattle.sgb_text.proofs.Readers.{next, next_after, IsFound, Wrong, Reads, bind_stops, cut_after, cut_in, reads_as, reads_or, reads_before}
+use Rattle.sgb_text.proofs.Words.{Parts, fixed_again, fixed_cases, fixed_stops, reads_after}
 use Rattle.sgb_expr.proofs.Digits.{NoDigit, none_again, none_there, reads_number, no_digit_same, zero_is_number}
 
 -- the text begins with no digit or letter, so that a number before it ends there
@@ -28,10 +29,6 @@ reads_decimal = reads_before (clear_of 10 (lit≤ tt)) (reads_number 10 most_dig
 reads_hex : Reads (IsNumber 16 most_hex_digits) Clear (number_at 16 most_hex_digits)
 reads_hex = reads_before (clear_of 16 (lit≤ tt)) (reads_number 16 most_hex_digits (lit< tt) (lit< tt))
 
--- a number after a sign
-abbrev Signed : List ℕ → ℤ → Type 0
-Signed = After (codes "-") (As (λ n. neg_ℤ (pos n)) Decimal)
-
 -- a number without one
 abbrev Unsigned : List ℕ → ℤ → Type 0
 Unsigned = As pos Decimal
@@ -52,20 +49,9 @@ no_sign word tail value w = elim (fixed_cases (codes "-") (word ++ tail)) [
   | inr p ↦ (p.0, bind_stops (fixed_at (codes "-") (word ++ tail)) (λ rest. number_at 10 most_digits rest >>= λ x. Ok (neg_ℤ (pos x.0), x.1)) p.0 p.1)
 ]
 
--- integers in both words
-integer_is : (word : List ℕ) (value : ℤ) → Or Signed Unsigned word value → IsInteger word value
-integer_is word value (inl h) = inl (h.0, h.2.0, h.1, h.2.1, h.2.2)
-integer_is word value (inr h) = inr h
-
-integer_from : (word : List ℕ) (value : ℤ) → IsInteger word value → Or Signed Unsigned word value
-integer_from word value (inl h) = inl (h.0, h.2, (h.1, h.3, h.4))
-integer_from word value (inr h) = inr h
-
 -- a reader of integers
 pub reads_integer : Reads IsInteger Clear integer_at
-reads_integer =
-    reads_is integer_is integer_from
-    (reads_or (reads_after (codes "-") (reads_as (λ n. neg_ℤ (pos n)) reads_decimal)) (reads_as pos reads_decimal) no_sign (λ tail h. h))
+reads_integer = reads_or (reads_after (codes "-") (reads_as (λ n. neg_ℤ (pos n)) reads_decimal)) (reads_as pos reads_decimal) no_sign (λ tail h. h)
 
 -- decimal digits are not `0x`, whatever may follow
 no_prefix : (word tail : List ℕ) (rest : List ℕ) → IsNumeral 10 word → Clear tail → word ++ tail ≡ codes "0x" ++ rest → ⊥
@@ -96,7 +82,7 @@ bits_here : (text : List ℕ) (r : Result (List ℕ) ℕ) → fixed_at (codes "0
 bits_here text r e = ap (λ (s : Result (List ℕ) ℕ). bits_after s text) e
 
 -- hexadecimal bits
-bits_hex_found : (text rest after : List ℕ) (value : ℕ) → text ≡ codes "0x" ++ rest → Found (IsNumber 16 most_hex_digits) (number_at 16 most_hex_digits) rest value after → Found IsBits bits_at text value after
+bits_hex_found : (text rest after : List ℕ) (value : ℕ) → text ≡ codes "0x" ++ rest → IsFound (IsNumber 16 most_hex_digits) (number_at 16 most_hex_digits) rest value after → IsFound IsBits bits_at text value after
 bits_hex_found text rest after value whole f = record {
   word = codes "0x" ++ f.word;
   whole = whole ∙ ap (λ u. codes "0x" ++ u) f.whole ∙ sym (append_assoc (codes "0x") f.word after);
@@ -107,7 +93,7 @@ bits_hex_found text rest after value whole f = record {
 }
 
 -- decimal ones
-bits_decimal_found : (text after : List ℕ) (value left : ℕ) → Parts (codes "0x") text left → Found Decimal (number_at 10 most_digits) text value after → Found IsBits bits_at text value after
+bits_decimal_found : (text after : List ℕ) (value left : ℕ) → Parts (codes "0x") text left → IsFound Decimal (number_at 10 most_digits) text value after → IsFound IsBits bits_at text value after
 bits_decimal_found text after value left p f = record {
   word = f.word;
   whole = f.whole;

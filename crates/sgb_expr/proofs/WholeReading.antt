@@ -4,9 +4,9 @@ use Rattle.sgb_expr.specs.Expression.{Expression}
 use Rattle.sgb_expr.specs.Expressions.{IsExpression, IsNested}
 use Rattle.sgb_expr.specs.inner.Names.{generator_openings, openings}
 use Rattle.sgb_expr.specs.inner.Reading.{expression_at, nested_at, whole_at}
-use Rattle.sgb_expr.specs.inner.Readings.{◌>>=◌, at_end, whole_by}
+use Rattle.sgb_text.proofs.Readings.{◌>>=◌, at_end, whole_by}
 use Rattle.sgb_expr.proofs.Nesting.{reads_nested, deep_enough, expression_nested}
-use Rattle.sgb_expr.proofs.WholeWords.{GoesWrong, goes_wrong, whole_word, word_whole}
+use Rattle.sgb_text.proofs.WholeWords.{GoesWrong, goes_wrong, whole_word, word_whole}
 
 -- to any depth of at least the text's length it is read alike
 whole_same : (depth : ℕ) (text : List ℕ) → length text ≤ depth → whole_at text ≡ whole_by (nested_at depth) text

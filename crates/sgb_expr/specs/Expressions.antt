@@ -1,7 +1,7 @@
 -- The expressions that name a graph, in GraphBase's official names; which texts are too large to be read.
-use Rattle.std.specs.Prelude.{◌≡◌, ◌≤◌, ◌<◌, ◌+◌, ◌⊎◌, ◌==◌, ℕ, zero, suc, List, ◌++◌, length, take, count_by, Result, Ok, Err}
+use Rattle.std.specs.Prelude.{◌≤◌, ◌<◌, ◌+◌, ◌⊎◌, ◌==◌, ℕ, zero, suc, List, length, take, count_by, Result, Ok, Err}
 use Rattle.sgb_expr.specs.Expression.{Expression, expression_of}
-use Rattle.sgb_expr.specs.Languages.{IsLongestPrefixOf, IsNoWord}
+use Rattle.sgb_text.specs.Languages.{After, IsLongestPrefixOf, IsNoWord}
 use Rattle.sgb_expr.specs.Operations.{IsGenerator, IsCallOf}
 use Rattle.sgb_expr.specs.Names.{name_opening}
 use Rattle.sgb_expr.specs.declared.expressions.Expr.{Expr}
@@ -22,10 +22,8 @@ most_depth = 64
 -- the text is this expression, in which operations stand one in another at most so deep: a name, with a `(` where its form has
 -- arguments, and these with `)`
 abbrev pub IsNested : ℕ → List ℕ → Expression → Type 0
-IsNested zero text e =
-    (name : GeneratorName) × (arguments : List ℕ) × (text ≡ name_opening (form.Generator name) ++ arguments) × IsGenerator name arguments e
-IsNested (suc depth) text e =
-    (name : FormName) × (arguments : List ℕ) × (text ≡ name_opening name ++ arguments) × IsCallOf (IsNested depth) name arguments e
+IsNested zero text e = (name : GeneratorName) × After (name_opening (form.Generator name)) (IsGenerator name) text e
+IsNested (suc depth) text e = (name : FormName) × After (name_opening name) (IsCallOf (IsNested depth) name) text e
 
 -- the text is this expression
 abbrev pub IsExpression : List ℕ → Expression → Type 0

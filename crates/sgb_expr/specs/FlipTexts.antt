@@ -2,7 +2,7 @@
 use Rattle.std.specs.Prelude.{ℕ, ℤ, List, codes, Result}
 use Rattle.sgb_expr.specs.Expressions.{IsTextRead}
 use Rattle.sgb_expr.specs.Forms.{AreArguments, nth_number}
-use Rattle.sgb_expr.specs.Languages.{After, As}
+use Rattle.sgb_text.specs.Languages.{After, As}
 use Rattle.sgb_expr.specs.declared.expressions.Unread.{Unread}
 use Rattle.sgb_expr.specs.declared.flips.FlipParams.{FlipParams}
 

@@ -1,6 +1,7 @@
 -- What the generators' forms mean: the arguments of each, and the graph that they name.
-use Rattle.std.specs.Prelude.{◌≡◌, ℕ, ℤ, pos, negsuc, zero, suc, Bool, true, false, List, [], ◌∷◌, ◌++◌, codes}
+use Rattle.std.specs.Prelude.{ℕ, ℤ, pos, negsuc, zero, suc, Bool, true, false, List, [], codes}
 use Rattle.std.specs.List.{slice_index_or}
+use Rattle.sgb_text.specs.Languages.{After, As, Cons, Fixed, Then}
 use Rattle.sgb_gen.specs.Shorthands.{complete, transitive, empty, circuit, cycle, disjoint_subsets, petersen}
 use Rattle.sgb_gen.specs.declared.params.BoardParams.{BoardParams}
 use Rattle.sgb_gen.specs.declared.params.SimplexParams.{SimplexParams}
@@ -60,11 +61,8 @@ subsets_params numbers size_bits directed = record {
 
 -- n integers, each after a separator, which is `,` from the second on, and then this end
 abbrev pub AreNumbers : List ℕ → ℕ → List ℕ → List ℕ → List ℤ → Type 0
-AreNumbers separator zero end text numbers = (text ≡ end) × (numbers ≡ [])
-AreNumbers separator (suc n) end text numbers =
-    (integer rest : List ℕ) × (first : ℤ) × (others : List ℤ)
-    × (text ≡ separator ++ integer ++ rest) × IsInteger integer first
-    × AreNumbers (codes ",") n end rest others × (numbers ≡ first ∷ others)
+AreNumbers separator zero end = Fixed [] end
+AreNumbers separator (suc n) end = After separator (Cons IsInteger (AreNumbers (codes ",") n end))
 
 -- n integers in an argument list, to its `)`
 abbrev pub AreArguments : ℕ → List ℕ → List ℤ → Type 0
@@ -72,18 +70,15 @@ AreArguments n = AreNumbers [] n (codes ")")
 
 -- the text is the arguments of the generator's form of this name, to its `)`, and with them it names this graph
 abbrev pub IsGeneratorCall : GeneratorName → List ℕ → Generator → Type 0
-IsGeneratorCall Board text f = (numbers : List ℤ) × AreArguments 7 text numbers × (f ≡ generator.Board (board_params numbers))
-IsGeneratorCall Simplex text f = (numbers : List ℤ) × AreArguments 7 text numbers × (f ≡ generator.Simplex (simplex_params numbers))
-IsGeneratorCall Subsets text f =
-    (numbers : List ℤ) × (size_bits : ℕ) × (directed : List ℤ) × (first bits last : List ℕ)
-    × (text ≡ first ++ bits ++ last) × AreNumbers [] 6 (codes ",") first numbers × IsBits bits size_bits
-    × AreNumbers (codes ",") 1 (codes ")") last directed × (f ≡ generator.Subsets (subsets_params numbers size_bits (nth_number directed 0)))
-IsGeneratorCall Complete text f = (numbers : List ℤ) × AreArguments 1 text numbers × (f ≡ generator.Board (complete (nth_number numbers 0)))
-IsGeneratorCall Transitive text f = (numbers : List ℤ) × AreArguments 1 text numbers × (f ≡ generator.Board (transitive (nth_number numbers 0)))
-IsGeneratorCall Empty text f = (numbers : List ℤ) × AreArguments 1 text numbers × (f ≡ generator.Board (empty (nth_number numbers 0)))
-IsGeneratorCall Circuit text f = (numbers : List ℤ) × AreArguments 1 text numbers × (f ≡ generator.Board (circuit (nth_number numbers 0)))
-IsGeneratorCall Cycle text f = (numbers : List ℤ) × AreArguments 1 text numbers × (f ≡ generator.Board (cycle (nth_number numbers 0)))
-IsGeneratorCall DisjointSubsets text f =
-    (numbers : List ℤ) × AreArguments 2 text numbers
-    × (f ≡ generator.Subsets (disjoint_subsets (nth_number numbers 0) (nth_number numbers 1)))
-IsGeneratorCall Petersen text f = (numbers : List ℤ) × AreArguments 0 text numbers × (f ≡ generator.Subsets petersen)
+IsGeneratorCall Board = As (λ numbers. generator.Board (board_params numbers)) (AreArguments 7)
+IsGeneratorCall Simplex = As (λ numbers. generator.Simplex (simplex_params numbers)) (AreArguments 7)
+IsGeneratorCall Subsets =
+    Then (AreNumbers [] 6 (codes ",")) (λ numbers. Then IsBits (λ size_bits.
+    As (λ directed. generator.Subsets (subsets_params numbers size_bits (nth_number directed 0))) (AreNumbers (codes ",") 1 (codes ")"))))
+IsGeneratorCall Complete = As (λ numbers. generator.Board (complete (nth_number numbers 0))) (AreArguments 1)
+IsGeneratorCall Transitive = As (λ numbers. generator.Board (transitive (nth_number numbers 0))) (AreArguments 1)
+IsGeneratorCall Empty = As (λ numbers. generator.Board (empty (nth_number numbers 0))) (AreArguments 1)
+IsGeneratorCall Circuit = As (λ numbers. generator.Board (circuit (nth_number numbers 0))) (AreArguments 1)
+IsGeneratorCall Cycle = As (λ numbers. generator.Board (cycle (nth_number numbers 0))) (AreArguments 1)
+IsGeneratorCall DisjointSubsets = As (λ numbers. generator.Subsets (disjoint_subsets (nth_number numbers 0) (nth_number numbers 1))) (AreArguments 2)
+IsGeneratorCall Petersen = As (λ numbers. generator.Subsets petersen) (AreArguments 0)

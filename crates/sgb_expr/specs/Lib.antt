@@ -1,6 +1,4 @@
 -- What the contracts of sgb_expr speak of.
--- texts that are words of values; where a text goes wrong
-pub mod Languages
 -- expressions that name graphs, and which of them a value of the code is
 pub mod Expression
 -- the texts of integers and of bits

@@ -1,6 +1,7 @@
 -- The texts of numbers in expressions.
-use Rattle.std.specs.Prelude.{◌≡◌, ◌≤◌, ◌⊎◌, ℕ, ℤ, pos, neg_ℤ, List, ◌++◌, length, codes}
+use Rattle.std.specs.Prelude.{◌≡◌, ◌≤◌, ℕ, ℤ, pos, neg_ℤ, List, length, codes}
 use Rattle.std.specs.Str.Parse.{IsNumeral, digits_value}
+use Rattle.sgb_text.specs.Languages.{After, As, Or}
 
 -- a number has at most this many decimal digits
 abbrev pub most_digits : ℕ
@@ -18,12 +19,8 @@ pub record IsNumber (radix most : ℕ) (text : List ℕ) (number : ℕ) : Type 0
 
 -- an integer: an optional `-`, and 1 to 18 decimal digits
 abbrev pub IsInteger : List ℕ → ℤ → Type 0
-IsInteger text number =
-    ((digits : List ℕ) × (n : ℕ) × (text ≡ codes "-" ++ digits) × IsNumber 10 most_digits digits n × (number ≡ neg_ℤ (pos n)))
-    ⊎ ((n : ℕ) × IsNumber 10 most_digits text n × (number ≡ pos n))
+IsInteger = Or (After (codes "-") (As (λ n. neg_ℤ (pos n)) (IsNumber 10 most_digits))) (As pos (IsNumber 10 most_digits))
 
 -- bits: 1 to 18 decimal digits, or `0x` and 1 to 32 hexadecimal digits of either case
 abbrev pub IsBits : List ℕ → ℕ → Type 0
-IsBits text number =
-    ((digits : List ℕ) × (text ≡ codes "0x" ++ digits) × IsNumber 16 most_hex_digits digits number)
-    ⊎ IsNumber 10 most_digits text number
+IsBits = Or (After (codes "0x") (IsNumber 16 most_hex_digits)) (IsNumber 10 most_digits)

@@ -2,7 +2,7 @@
 use Rattle.std.specs.Prelude.{◌≡◌, ℕ, ℤ, Bool, List, [], ◌∷◌, ◌++◌, codes}
 use Rattle.sgb_expr.specs.Expression.{Expression, Entry, entries_of}
 use Rattle.sgb_expr.specs.Forms.{AreArguments, AreNumbers, IsGeneratorCall, flag_of, nth_number}
-use Rattle.sgb_expr.specs.Languages.{After, As, Or, Then}
+use Rattle.sgb_text.specs.Languages.{After, As, Fixed, Or, Then}
 use Rattle.sgb_expr.specs.Numbers.{IsInteger}
 use Rattle.sgb_expr.specs.declared.names.GeneratorName.{GeneratorName}
 use Rattle.sgb_expr.specs.declared.names.FormName.{FormName}
@@ -88,4 +88,4 @@ IsCallOf Inner Induced =
     As (induced_call graph entries) (AreNumbers (codes ",") 3 (codes ")")))))
 IsCallOf Inner BiComplete = As bi_complete_call (AreArguments 3)
 IsCallOf Inner Wheel = As wheel_call (AreArguments 3)
-IsCallOf Inner Stdin = λ text e. (text ≡ []) × (e ≡ Expression.Stdin)
+IsCallOf Inner Stdin = Fixed Expression.Stdin []

@@ -9,7 +9,7 @@ pub mod Gives
 pub mod Names
 -- reading an expression: its name, and then its form
 pub mod Reading
--- what reading from the beginning of a text returns
+-- reading numbers from the beginning of a text
 pub mod Readings
 -- what two graphs with integers after them are
 pub mod TwoGraphs

@@ -3,7 +3,7 @@ ghost use Rattle.std.specs.Prelude.{◌≡◌};
 ghost use Rattle.sgb_expr.specs.inner.Gives.{Finds};
 ghost use Rattle.sgb_expr.specs.Names.{name_opening};
 ghost use Rattle.sgb_expr.specs.inner.Names.{openings};
-ghost use Rattle.sgb_expr.specs.inner.Readings.{word_at};
+ghost use Rattle.sgb_text.proofs.Readings.{word_at};
 
 use crate::numbers::fixed;
 use crate::wrong::Mismatch;

@@ -2,7 +2,8 @@
 ghost use Rattle.std.specs.Prelude.{◌≡◌, ◌≤◌, ◌<◌, ◌^◌, EachIndex, IfOk, length, nat_abs, nat_eq, pos, slice_index_or};
 ghost use Rattle.std.specs.List.{common_prefix_len};
 ghost use Rattle.sgb_expr.specs.inner.Gives.{Finds};
-ghost use Rattle.sgb_expr.specs.inner.Readings.{bits_at, fixed_at, integer_at, number_at, integers_at, separator_before};
+ghost use Rattle.sgb_text.proofs.Readings.{fixed_at};
+ghost use Rattle.sgb_expr.specs.inner.Readings.{bits_at, integer_at, number_at, integers_at, separator_before};
 
 use crate::wrong::Mismatch;
 use sgb_vec::{digits_value, leading_digits};

@@ -10,13 +10,14 @@ use Rattle.std.proofs.lemmas.Bool.{and_parts, and_from, not-true}
 use Rattle.std.proofs.lemmas.Bool.Decides.{nat_tests}
 use Rattle.std.proofs.lemmas.Fmt.{decimal_is_IsNumeral, length-decimal-le}
 use Rattle.std.proofs.lemmas.Str.Parse.{digit_at}
+use Rattle.sgb_text.proofs.Findings.{after_prefix}
 use Rattle.sgb_vec.specs.Names.{IsTextByte, is_text_byte}
 use Rattle.sgb_graph.specs.declared.fields.Ref.{Ref}
 use Rattle.sgb_graph.specs.declared.fields.Ref.TheVariants.{Null, One, At}
 use Rattle.sgb_graph.proofs.Lists.{list_all-weaker}
 use Rattle.sgb_graph.specs.Sound.{ref_fits, chain_fits}
 use Rattle.sgb_file.specs.Fields.{is_decimal_digit, number_of, number_below, most_number_digits, most_integer_digits, integer_of, ref_of, record_number_of, unbroken}
-use Rattle.sgb_file.specs.inner.ReadFields.{string_at, plain_text, plain_at, after_prefix}
+use Rattle.sgb_file.specs.inner.ReadFields.{string_at, plain_text, plain_at}
 use Rattle.sgb_file.specs.Saving.{quoted, ref_text, record_number_text}
 use Rattle.sgb_file.proofs.LineLemmas.{is_line, is_one_line, is_within_line, ends_well, ends_well-last, list_all-drop, list_all-take, list_all-join}
 use Rattle.sgb_file.specs.Files.{IsStringText}
@@ -242,7 +243,7 @@ string_says most inside s more quotes says short bytes =
     next_after (c ∷ x) y = let same : suc (length x) + 1 ≡ suc (length x + 1) = omega arith in rw same (next_after x y)
 
 -- a string is said by its quoted text, with any breaks
-pub string_is_said : (most : ℕ) (s : List ℕ) → length s ≤ most → All IsTextByte s → (broken : List ℕ) → IsBroken (quoted s) broken → IsStringText most s broken
+pub string_is_said : (most : ℕ) (s : List ℕ) → length s ≤ most → All IsTextByte s → (broken : List ℕ) → IsBroken (quoted s) broken → IsStringText most broken s
 string_is_said most s short printable broken b =
     search (rules, list_all-from_AllPass, with_breaks, list_all-weaker, nat_tests, quoted_breaks, have_no_quote, breaks_no_quotes, unbroken_breaks)
 

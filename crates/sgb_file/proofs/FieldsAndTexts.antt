@@ -8,6 +8,7 @@ use Rattle.std.proofs.lemmas.Bool.{and_parts, and_from}
 use Rattle.std.proofs.lemmas.Bool.Decides.{nat_tests, Decides-eqb}
 use Rattle.std.proofs.lemmas.List.Sums.{list_all-from_AllPass, passes_at_first, split_at_first}
 use Rattle.std.proofs.lemmas.Slice.Eq.{bytes_eq-Decides}
+use Rattle.sgb_text.proofs.Findings.{Found, after_prefix, taken_and_left, was_given, was_mapped, was_let_through, was_chosen, was_either}
 use Rattle.sgb_vec.specs.Limits.{most_bytes}
 use Rattle.sgb_vec.specs.Names.{is_text_byte}
 use Rattle.sgb_graph.specs.Sound.{ref_fits, chain_fits}
@@ -15,17 +16,16 @@ use Rattle.sgb_graph.specs.declared.fields.Kind.{Kind}
 use Rattle.sgb_graph.specs.declared.fields.Kind.TheVariants.{Z, I, V, S, A}
 use Rattle.sgb_graph.specs.declared.fields.Ref.{Ref}
 use Rattle.sgb_graph.specs.declared.fields.Ref.TheVariants.{Null, One, At}
-use Rattle.sgb_graph.specs.declared.fields.Util.{Util}
 use Rattle.sgb_graph.specs.declared.fields.Util.TheVariants.{Int, Vertex as VertexField, Str, Chain}
 use Rattle.sgb_file.specs.Fields.{Counts, number_of, number_below, most_integer_digits, integer_of, ref_of, record_number_of, unbroken, string_of}
-use Rattle.sgb_file.specs.inner.ReadFields.{Found, string_at, plain_text, plain_at, field_at, after_prefix}
+use Rattle.sgb_file.specs.inner.ReadFields.{string_at, plain_text, plain_at, field_at}
 use Rattle.sgb_file.specs.Files.{IsStringText, IsFieldText}
 use Rattle.sgb_file.specs.Saving.{quoted}
-use Rattle.sgb_file.proofs.FoundParts.{taken_and_left, was_given, was_mapped, was_let_through, was_chosen, was_either}
 use Rattle.sgb_file.proofs.FieldReading.{Ends, is_plain_byte, plain_read, plain_begins, digits_are_plain, have_no_quote, string_says}
 use Rattle.sgb_file.proofs.LeftTexts.{passes_within, prefix_passes}
 use Rattle.sgb_file.proofs.NumberReading.{at_most, test_below, number_says}
-use Rattle.sgb_file.proofs.ReadTexts.{As, Reads, StandsIn, found_with, reads_as, reads_is}
+use Rattle.sgb_text.proofs.Finders.{Finds, StandsIn, found_with, finds_as}
+use Rattle.sgb_text.specs.Languages.{Says}
 
 -- a text that begins with no newline
 abbrev pub GoesOn : List ℕ → Type 0
@@ -37,9 +37,9 @@ pub record IsPlainText (text : List ℕ) : Type 0 where
   pub bytes : list_all is_plain_byte text ≡ true
 
 -- a plain text is read, where all that say a value are plain
-pub reads_plain : {X : Type 0} (says : List ℕ → Option X) → ((text : List ℕ) (x : X) → says text ≡ Some x → IsPlainText text) → Reads found_with GoesOn Ends (λ x text. says text ≡ Some x) (plain_at says)
-reads_plain says plain = record {
-  finds = λ text result e.
+pub finds_plain : {X : Type 0} (says : List ℕ → Option X) → ((text : List ℕ) (x : X) → says text ≡ Some x → IsPlainText text) → Finds found_with GoesOn Ends (Says says) (plain_at says)
+finds_plain says plain = record {
+  found = λ text result e.
       let m = was_mapped (says (plain_text text)) e in
       record {
         value = m.first;
@@ -49,13 +49,13 @@ reads_plain says plain = record {
         parts = sym (taken_and_left (position_or_len (λ b. b == 44 || b == 10) text) text);
         made = m.same;
       };
-  again = λ x text rest h t. plain_read says text x rest (plain text x h).bytes h t;
-  front = λ x text rest h t. let p = plain text x h in plain_begins text rest p.some p.bytes;
+  again = λ text rest x h t. plain_read says text x rest (plain text x h).bytes h t;
+  front = λ text rest x h t. let p = plain text x h in plain_begins text rest p.some p.bytes;
 }
 
-string_finds : (most : ℕ) (text : List ℕ) (result : Found (List ℕ)) → string_at most text ≡ Some result → StandsIn found_with (IsStringText most) text result
-string_finds most [] result e = absurd cc
-string_finds most (b ∷ text) result e =
+string_found : (most : ℕ) (text : List ℕ) (result : Found (List ℕ)) → string_at most text ≡ Some result → StandsIn found_with (IsStringText most) text result
+string_found most [] result e = absurd cc
+string_found most (b ∷ text) result e =
     let chosen = was_chosen (b == 34 && list_any (λ c. c == 34) text) e in
     let tests = and_parts (b == 34) (list_any (λ c. c == 34) text) chosen.0 in
     let inside = before_first (λ c. c == 34) text in
@@ -66,18 +66,18 @@ string_finds most (b ∷ text) result e =
       value = m.first;
       word = quoted inside;
       rest = after_first (λ c. c == 34) text;
-      says = record { inside = inside; whole = refl; no_quote = have_no_quote inside (prefix_passes (λ c. not (c == 34)) text); says = m.here };
+      says = (inside, refl, have_no_quote inside (prefix_passes (λ c. not (c == 34)) text), m.here);
       parts = ap (λ c. c ∷ text) ((Decides-eqb b 34).0 tests.0) ∙ ap (λ x. 34 ∷ x) (parts ∙ sym (append_assoc inside (34 ∷ []) (after_first (λ c. c == 34) text)));
       made = m.same;
     }
 
-string_again : (most : ℕ) (s text rest : List ℕ) → IsStringText most s text → string_at most (text ++ rest) ≡ Some (record { value = s; rest = rest })
+string_again : (most : ℕ) (s text rest : List ℕ) → IsStringText most text s → string_at most (text ++ rest) ≡ Some (record { value = s; rest = rest })
 string_again most s text rest h =
-    let inside = h.inside in
-    let quotes = list_all-from_AllPass (λ b. not (b == 34)) inside (λ k d below. no_quote_is (get_or inside k d) (h.no_quote k d below)) in
-    let p = was_let_through (nat_le (length (unbroken inside)) most && list_all is_text_byte (unbroken inside)) (unbroken inside) s h.says in
+    let inside = h.0 in
+    let quotes = list_all-from_AllPass (λ b. not (b == 34)) inside (λ k d below. no_quote_is (get_or inside k d) (h.2 k d below)) in
+    let p = was_let_through (nat_le (length (unbroken inside)) most && list_all is_text_byte (unbroken inside)) (unbroken inside) s h.3 in
     let parts = and_parts (nat_le (length (unbroken inside)) most) (list_all is_text_byte (unbroken inside)) p.0 in
-    ap (λ x. string_at most (x ++ rest)) h.whole
+    ap (λ x. string_at most (x ++ rest)) h.1
     ∙ string_says most inside (unbroken inside) rest quotes refl (at_most (length (unbroken inside)) most parts.0) parts.1
     ∙ ap (λ (t : List ℕ). Some (record { value = t; rest = rest })) p.1
   where
@@ -85,11 +85,11 @@ string_again most s text rest h =
     no_quote_is b h = grind (arith, nat_tests)
 
 -- a string is read
-pub reads_string : (most : ℕ) → Reads found_with GoesOn Ends (IsStringText most) (string_at most)
-reads_string most = record {
-  finds = string_finds most;
-  again = λ s text rest h t. string_again most s text rest h;
-  front = λ s text rest h t. ap (λ x. after_prefix (codes "\n") (x ++ rest)) h.whole;
+pub finds_string : (most : ℕ) → Finds found_with GoesOn Ends (IsStringText most) (string_at most)
+finds_string most = record {
+  found = string_found most;
+  again = λ text rest s h t. string_again most s text rest h;
+  front = λ text rest s h t. ap (λ x. after_prefix (codes "\n") (x ++ rest)) h.1;
 }
 
 -- the text of a number, of a vertex or of an arc record is plain, and what it says fits
@@ -153,35 +153,10 @@ integer_says (b ∷ text) i e = elim (was_either (b == 45) e) [
       (number_is_plain most_integer_digits (b ∷ text) g.first g.here, subst (λ j. FitsSigned w64 j) t.1 (omega (arith, below)))
 ]
 
--- the texts of a field, by what they say
-abbrev FieldWord : Counts → Kind → Util → List ℕ → Type 0
-FieldWord counts I = As Int (λ i text. integer_of text ≡ Some i)
-FieldWord counts V = As VertexField (λ r text. ref_of counts.vertices text ≡ Some r)
-FieldWord counts S = As Str (IsStringText most_bytes)
-FieldWord counts A = As Chain (λ k text. record_number_of counts.arcs text ≡ Some k)
-FieldWord counts Z = IsFieldText counts Z
-
-field_from : (counts : Counts) (kind : Kind) (u : Util) (text : List ℕ) → FieldWord counts kind u text → IsFieldText counts kind u text
-field_from counts Z u text h = h
-field_from counts I u text h = subst (λ v. IsFieldText counts I v text) h.2 h.1
-field_from counts V u text h = subst (λ v. IsFieldText counts V v text) h.2 h.1
-field_from counts S u text h = subst (λ v. IsFieldText counts S v text) h.2 h.1
-field_from counts A u text h = subst (λ v. IsFieldText counts A v text) h.2 h.1
-
-field_into : (counts : Counts) (kind : Kind) (u : Util) (text : List ℕ) → IsFieldText counts kind u text → FieldWord counts kind u text
-field_into counts I (Int i) text h = (i, h, refl)
-field_into counts V (VertexField r) text h = (r, h, refl)
-field_into counts S (Str s) text h = (s, h, refl)
-field_into counts A (Chain k) text h = (k, h, refl)
-field_into counts _ _ text h = absurd h
-
 -- a field is read
-field_read : (counts : Counts) (kind : Kind) → (kind ≡ Z → ⊥) → Reads found_with GoesOn Ends (FieldWord counts kind) (field_at counts kind)
-field_read counts Z used = absurd (used refl)
-field_read counts I used = reads_as Int (reads_plain integer_of (λ text i e. (integer_says text i e).0))
-field_read counts V used = reads_as VertexField (reads_plain (ref_of counts.vertices) (λ text r e. (ref_says counts.vertices text r e).0))
-field_read counts S used = reads_as Str (reads_string most_bytes)
-field_read counts A used = reads_as Chain (reads_plain (record_number_of counts.arcs) (λ text k e. (record_number_says counts.arcs text k e).0))
-
-pub reads_field : (counts : Counts) (kind : Kind) → (kind ≡ Z → ⊥) → Reads found_with GoesOn Ends (IsFieldText counts kind) (field_at counts kind)
-reads_field counts kind used = reads_is (λ text h. h) (field_from counts kind) (field_into counts kind) (field_read counts kind used)
+pub finds_field : (counts : Counts) (kind : Kind) → (kind ≡ Z → ⊥) → Finds found_with GoesOn Ends (IsFieldText counts kind) (field_at counts kind)
+finds_field counts Z used = absurd (used refl)
+finds_field counts I used = finds_as Int (finds_plain integer_of (λ text i e. (integer_says text i e).0))
+finds_field counts V used = finds_as VertexField (finds_plain (ref_of counts.vertices) (λ text r e. (ref_says counts.vertices text r e).0))
+finds_field counts S used = finds_as Str (finds_string most_bytes)
+finds_field counts A used = finds_as Chain (finds_plain (record_number_of counts.arcs) (λ text k e. (record_number_says counts.arcs text k e).0))

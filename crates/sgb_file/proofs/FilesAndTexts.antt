@@ -9,33 +9,33 @@ use Rattle.std.proofs.lemmas.Bool.Decides.{nat_tests, Decides-eqb}
 use Rattle.std.proofs.lemmas.Grind.{flat_map-append}
 use Rattle.std.proofs.lemmas.List.Folds.{list_all-append}
 use Rattle.std.proofs.lemmas.List.Elements.{All-head, All-tail, All-cons, All-nil}
+use Rattle.sgb_text.proofs.Findings.{Found, after_prefix, prefix_is, was_given, was_mapped, was_chosen, was_either}
 use Rattle.sgb_vec.specs.Limits.{most_vertices}
 use Rattle.sgb_graph.specs.Graphs.{GraphData}
+use Rattle.sgb_graph.specs.Sound.{arc_kinds}
+use Rattle.sgb_graph.specs.declared.fields.Kind.{Kind}
+use Rattle.sgb_graph.specs.declared.fields.Kind.TheVariants.{Z, A, I, V}
+use Rattle.sgb_graph.specs.declared.fields.Util.{Util}
+use Rattle.sgb_text.specs.Languages.{Each}
 use Rattle.sgb_file.specs.FileLines.{lines_of_text, clean_lines, text_of_lines}
 use Rattle.sgb_file.specs.Checksum.{has_star, checksum_of_lines}
-use Rattle.sgb_file.specs.inner.ReadFields.{Found, after_prefix}
-use Rattle.sgb_file.specs.Fields.{is_decimal_digit, number_of, most_number_digits}
-use Rattle.sgb_file.specs.Files.{Head, IsFirstLine, IsComment, IsChecksumLine, IsRecord, IsArcRecord, AreRecords, AreRecordsOf, head_of}
+use Rattle.sgb_file.specs.Fields.{Counts, is_decimal_digit, number_of, most_number_digits}
+use Rattle.sgb_file.specs.Files.{Head, IsFirstLine, IsComment, IsChecksumLine, AreMoreFields, IsRecordOf, IsArcRecord, AreRecordsOf, Opens, AreRecordLines, IsClosed, head_of}
 use Rattle.sgb_file.specs.inner.ReadRecords.{records_at}
 use Rattle.sgb_file.specs.inner.ReadFiles.{Opening, leading_number, head_of_line, opening_of, checksum_in_line, checksum_agrees, line_closes, closes}
-use Rattle.sgb_file.specs.Refused.{Opens, AreRecordLines, IsClosed}
 use Rattle.sgb_file.proofs.LineLemmas.{is_one_line, is_within_line, lines_again, lines_read, clean_are_one_line}
-use Rattle.sgb_file.proofs.FoundParts.{prefix_is, was_given, was_mapped, was_chosen, was_either}
 use Rattle.sgb_file.proofs.NumberReading.{at_most_passes, number_says}
 use Rattle.sgb_file.proofs.FirstLines.{IsLeading, leading_found, leading_says, first_line_found, kinds_read}
-use Rattle.sgb_file.proofs.RecordsAndTexts.{reads_records}
+use Rattle.sgb_file.proofs.RecordsAndTexts.{finds_records}
 
 -- and a first line is read as one
 first_line_read : (head : Head) (line : List ℕ) → IsFirstLine head line → head_of_line line ≡ Some head
-first_line_read head line h =
-    let third = codes "V," ++ (h.m ++ (codes "A)" ++ h.anything)) in
-    let second = codes "," ++ (h.n ++ third) in
-    let few = at_most_passes head.counts.vertices most_vertices h.few in
-    ap head_of_line h.form
-    ∙ rw (kinds_read head.kinds second h.fourteen)
-    (rw (leading_says h.n third head.counts.vertices h.n_says refl)
-    (rw (leading_says h.m (codes "A)" ++ h.anything) head.counts.arcs h.m_says refl)
-    (rw few refl)))
+first_line_read head line (n, m, anything, n_says, m_says, fourteen, few, form) =
+    let third = codes "V," ++ (m ++ (codes "A)" ++ anything)) in
+    let passes = at_most_passes head.counts.vertices most_vertices few in
+    ap head_of_line form
+    ∙ rw (kinds_read head.kinds (codes "," ++ (n ++ third)) fourteen)
+    (rw (leading_says n third head.counts.vertices n_says refl) (rw (leading_says m (codes "A)" ++ anything) head.counts.arcs m_says refl) (rw passes refl)))
 
 -- comments and a first line open a file
 comment_is_passed : (line : List ℕ) → IsComment line → head_of_line line ≡ None
@@ -43,7 +43,7 @@ comment_is_passed line h = by_head (head_of_line line) refl
   where
     by_head : (o : Option Head) → head_of_line line ≡ o → o ≡ None
     by_head None e = refl
-    by_head (Some head) e = absurd (h.other head (first_line_found line head e))
+    by_head (Some head) e = absurd (h.1 head (first_line_found line head e))
 
 pub opening_read : (head : Head) (comments : List (List ℕ)) (first : List ℕ) (lines : List (List ℕ)) → All IsComment comments → IsFirstLine head first
     → opening_of (comments ++ first ∷ lines) ≡ Some (record { head = head; lines = lines })
@@ -51,17 +51,14 @@ unfolding opening_of
 opening_read head [] first lines h says = rw (first_line_read head first says) refl
 opening_read head (line ∷ comments) first lines h says =
     let comment = All-head IsComment line comments h in
-    rw (comment_is_passed line comment) (rw comment.star (opening_read head comments first lines (All-tail IsComment line comments h) says))
+    rw (comment_is_passed line comment) (rw comment.0 (opening_read head comments first lines (All-tail IsComment line comments h) says))
 
 -- comments, a first line, and the lines after it
 abbrev pub IsOpened : List (List ℕ) → Opening → Type 0
 IsOpened lines opening = (comments : List (List ℕ)) × (first : List ℕ) × All IsComment comments × IsFirstLine opening.head first × (lines ≡ comments ++ first ∷ opening.lines)
 
 comment_found : (line : List ℕ) → head_of_line line ≡ None → has_star line ≡ true → IsComment line
-comment_found line none star = record {
-  star = star;
-  other = λ head says. let is = first_line_read head line says in absurd cc;
-}
+comment_found line none star = (star, λ head says. let is = first_line_read head line says in absurd cc)
 
 pub opening_found : (lines : List (List ℕ)) (opening : Opening) → opening_of lines ≡ Some opening → IsOpened lines opening
 unfolding opening_of
@@ -96,14 +93,8 @@ minus_first (b ∷ text) h = ap (λ c. c ∷ text) ((Decides-eqb b 45).0 h)
 -- a line with a number that agrees is a checksum's
 agreeing_line : (sum : ℕ) (line text : List ℕ) (found : Found ℕ) → IsLeading text found
     → ((found.value ≡ sum) × (line ≡ codes "* Checksum " ++ text)) ⊎ (((0 < found.value) ⊎ (found.value ≡ sum)) × (line ≡ codes "* Checksum -" ++ text)) → IsChecksumLine sum line
-agreeing_line sum line text found l h = record {
-  digits = l.digits;
-  anything = found.rest;
-  k = found.value;
-  says = l.says;
-  ends = l.ends;
-  form = subst (λ (t : List ℕ). ((found.value ≡ sum) × (line ≡ codes "* Checksum " ++ t)) ⊎ (((0 < found.value) ⊎ (found.value ≡ sum)) × (line ≡ codes "* Checksum -" ++ t))) l.parts h;
-}
+agreeing_line sum line text found l h =
+    (l.digits, found.rest, found.value, l.says, l.ends, subst (λ (t : List ℕ). ((found.value ≡ sum) × (line ≡ codes "* Checksum " ++ t)) ⊎ (((0 < found.value) ⊎ (found.value ≡ sum)) × (line ≡ codes "* Checksum -" ++ t))) l.parts h)
 
 -- a line that is read as an agreeing checksum's is one
 checksum_found : (line : List ℕ) (c : ℤ) (lines : List (List ℕ)) → checksum_in_line line ≡ Some c → checksum_agrees c lines ≡ true → IsChecksumLine (checksum_of_lines lines) line
@@ -134,16 +125,12 @@ abbrev pub Closes : List (List ℕ) → List ℕ → Type 0
 Closes lines line = option_map_or (λ c. checksum_agrees c lines) (checksum_in_line line) false ≡ true
 
 pub checksum_read : (line : List ℕ) (lines : List (List ℕ)) → IsChecksumLine (checksum_of_lines lines) line → Closes lines line
-checksum_read line lines h = by_form h.form
-  where
-    by_form : ((h.k ≡ checksum_of_lines lines) × (line ≡ codes "* Checksum " ++ (h.digits ++ h.anything)))
-        ⊎ (((0 < h.k) ⊎ (h.k ≡ checksum_of_lines lines)) × (line ≡ codes "* Checksum -" ++ (h.digits ++ h.anything))) → Closes lines line
-    by_form (inl (same, parts)) =
-        ap (λ l. option_map_or (λ c. checksum_agrees c lines) (checksum_in_line l) false) parts
-        ∙ rw (digits_no_minus h.digits h.anything h.k h.says) (rw (leading_says h.digits h.anything h.k h.says h.ends) ((Decides-eqb h.k (checksum_of_lines lines)).1 same))
-    by_form (inr (agrees, parts)) =
-        ap (λ l. option_map_or (λ c. checksum_agrees c lines) (checksum_in_line l) false) parts
-        ∙ rw (leading_says h.digits h.anything h.k h.says h.ends) (minus_passes h.k lines agrees)
+checksum_read line lines (digits, anything, k, says, ends, inl (same, parts)) =
+    ap (λ l. option_map_or (λ c. checksum_agrees c lines) (checksum_in_line l) false) parts
+    ∙ rw (digits_no_minus digits anything k says) (rw (leading_says digits anything k says ends) ((Decides-eqb k (checksum_of_lines lines)).1 same))
+checksum_read line lines (digits, anything, k, says, ends, inr (agrees, parts)) =
+    ap (λ l. option_map_or (λ c. checksum_agrees c lines) (checksum_in_line l) false) parts
+    ∙ rw (leading_says digits anything k says ends) (minus_passes k lines agrees)
 
 -- a text that ends with a newline
 pub record EndsLine (text : List ℕ) : Type 0 where
@@ -153,23 +140,28 @@ pub record EndsLine (text : List ℕ) : Type 0 where
 ends_too : (before text : List ℕ) → EndsLine text → EndsLine (before ++ text)
 ends_too before text h = record { front = before ++ h.front; whole = ap (λ x. before ++ x) h.whole ∙ sym (append_assoc before h.front (10 ∷ [])) }
 
-record_ends : (texts : List (List ℕ)) (whole : List ℕ) → IsRecord texts whole → EndsLine whole
-record_ends [] whole h = absurd h
-record_ends (text ∷ []) whole h = record { front = text; whole = h }
-record_ends (text ∷ next ∷ texts) whole h = subst EndsLine (sym h.4) (ends_too text (h.0 ++ h.1) (ends_too h.0 h.1 (record_ends (next ∷ texts) h.1 h.3)))
+more_end : (counts : Counts) (kinds : List Kind) (us : List Util) (whole : List ℕ) → AreMoreFields counts kinds whole us → EndsLine whole
+more_end counts [] us whole h = record { front = []; whole = h.0 }
+more_end counts (Z ∷ kinds) us whole h = more_end counts kinds h.0 whole h.1
+more_end counts (kind ∷ kinds) us whole h =
+    let c = h.5 in
+    subst EndsLine (sym (h.3 ∙ ap (λ x. h.0 ++ x) c.3)) (ends_too h.0 (c.0 ++ c.1) (ends_too c.0 c.1 (more_end counts kinds c.5.0 c.1 c.5.1)))
 
-records_end : {X : Type 0} (IsOne : X → List ℕ → Type 0) → ((x : X) (whole : List ℕ) → IsOne x whole → EndsLine whole)
-    → (xs : List X) (whole : List ℕ) → AreRecords IsOne xs whole → (line : List ℕ) → EndsLine (line ++ 10 ∷ whole)
+record_ends : (counts : Counts) (kind : Kind) (kinds : List Kind) (us : List Util) (whole : List ℕ) → IsRecordOf counts kind kinds whole us → EndsLine whole
+record_ends counts kind kinds us whole h = subst EndsLine (sym h.3) (ends_too h.0 h.1 (more_end counts kinds h.5.0 h.1 h.5.1))
+
+records_end : {X : Type 0} (IsOne : List ℕ → X → Type 0) → ((x : X) (whole : List ℕ) → IsOne whole x → EndsLine whole)
+    → (xs : List X) (whole : List ℕ) → Each IsOne whole xs → (line : List ℕ) → EndsLine (line ++ 10 ∷ whole)
 records_end IsOne ends [] whole h line = record { front = line; whole = ap (λ x. line ++ 10 ∷ x) h }
 records_end IsOne ends (x ∷ xs) whole h line =
-    let one = ends x h.0 h.2 in
-    let further = records_end IsOne ends xs h.1 h.3 (line ++ 10 ∷ one.front) in
-    let split : whole ≡ one.front ++ 10 ∷ h.1 = h.4 ∙ ap (λ y. y ++ h.1) one.whole ∙ append_assoc one.front (10 ∷ []) h.1 in
+    let one = ends x h.0 h.3 in
+    let further = records_end IsOne ends xs h.1 h.4 (line ++ 10 ∷ one.front) in
+    let split : whole ≡ one.front ++ 10 ∷ h.1 = h.2 ∙ ap (λ y. y ++ h.1) one.whole ∙ append_assoc one.front (10 ∷ []) h.1 in
     subst EndsLine (append_assoc line (10 ∷ one.front) (10 ∷ h.1) ∙ ap (λ y. line ++ 10 ∷ y) (sym split)) further
 
 pub all_records_end : (g : GraphData) (whole : List ℕ) → AreRecordsOf g whole → EndsLine whole
 all_records_end g whole h =
-    let arcs = records_end (IsArcRecord (head_of g)) (λ r t is. record_ends is.0 t is.2) g.records h.arcs h.arc_records (codes "* Arcs") in
+    let arcs = records_end (IsArcRecord (head_of g)) (λ r t is. record_ends (head_of g).counts V (A ∷ I ∷ arc_kinds g.kinds) _ t is) g.records h.arcs h.arc_records (codes "* Arcs") in
     subst EndsLine (sym h.parts) (ends_too h.own (codes "* Vertices\n" ++ (h.vertices ++ (codes "* Arcs\n" ++ h.arcs)))
     (ends_too (codes "* Vertices\n") (h.vertices ++ (codes "* Arcs\n" ++ h.arcs)) (ends_too h.vertices (codes "* Arcs\n" ++ h.arcs) arcs)))
 
@@ -229,7 +221,7 @@ closed_found records (last ∷ others) e = by_checksum (checksum_in_line last) r
   where
     by_checksum : (o : Option ℤ) → checksum_in_line last ≡ o → option_map_or (λ c. checksum_agrees c records) o false ≡ true → IsClosed records (last ∷ others)
     by_checksum None here e = absurd cc
-    by_checksum (Some c) here e = record { last = last; others = others; parts = refl; says = checksum_found last c records here e }
+    by_checksum (Some c) here e = (last, others, refl, checksum_found last c records here e)
 
 pub closes_by : (opening : Opening) (records : List (List ℕ)) (rest : List ℕ) → opening.lines ≡ records ++ lines_of_text rest → closes opening rest ≡ line_closes records (lines_of_text rest)
 closes_by opening records rest e = search (rules, before_following, records)
@@ -254,13 +246,13 @@ pub records_read : (head : Head) (g : GraphData) (records following lines : List
     → records_at head (text_of_lines lines) ≡ Some (record { value = g; rest = text_of_lines following })
 records_read head g records following lines h =
     ap (records_at head) (ap text_of_lines h.parts ∙ flat_map-append (λ l. l ++ 10 ∷ []) records following)
-    ∙ (reads_records head).again g (text_of_lines records) (text_of_lines following) (record { counted = h.counted; are = h.say }) tt
+    ∙ (finds_records head).again (text_of_lines records) (text_of_lines following) g (record { counted = h.counted; are = h.say }) tt
 
 -- the lines of the records that were found
 pub lines_found : (head : Head) (lines : List (List ℕ)) (found : Found GraphData) → list_all is_one_line lines ≡ true → records_at head (text_of_lines lines) ≡ Some found
     → (records : List (List ℕ)) × AreRecordLines head found.value records (lines_of_text found.rest) lines
 lines_found head lines found one_lines e =
-    let r = (reads_records head).finds (text_of_lines lines) found e in
+    let r = (finds_records head).found (text_of_lines lines) found e in
     let cut = cut_lines lines r.word r.rest one_lines r.parts (all_records_end r.value r.word r.says.are) in
     subst (λ (x : Found GraphData). (records : List (List ℕ)) × AreRecordLines head x.value records (lines_of_text x.rest) lines) r.made
     (cut.records, record { counted = r.says.counted; say = subst (λ x. AreRecordsOf r.value x) (sym cut.text_is) r.says.are; parts = cut.parts })

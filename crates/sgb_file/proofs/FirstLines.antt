@@ -9,15 +9,14 @@ use Rattle.std.proofs.lemmas.Bool.Decides.{Decides-eqb}
 use Rattle.std.proofs.lemmas.List.{drop_all, drop_more, take-append-drop, length-map, length-take}
 use Rattle.std.proofs.lemmas.List.Folds.{length-prefix_len}
 use Rattle.std.proofs.lemmas.List.Sums.{prefix_len_stops}
+use Rattle.sgb_text.proofs.Findings.{Found, after_prefix, prefix_is, taken_and_left, was_given, was_mapped, was_let_through}
 use Rattle.sgb_vec.specs.Limits.{most_vertices}
 use Rattle.sgb_graph.specs.declared.fields.Kind.{Kind}
 use Rattle.sgb_graph.specs.declared.fields.Kind.TheVariants.{Z, I, V, S, A}
-use Rattle.sgb_file.specs.inner.ReadFields.{Found, after_prefix}
 use Rattle.sgb_file.specs.Fields.{is_decimal_digit, number_of, most_number_digits}
 use Rattle.sgb_file.specs.Files.{Head, IsFirstLine, BeginsWithNoDigit}
 use Rattle.sgb_file.specs.inner.ReadFiles.{kind_of_letter, kinds_at, leading_number, head_of_line}
 use Rattle.sgb_file.specs.Saving.{letter_of}
-use Rattle.sgb_file.proofs.FoundParts.{prefix_is, taken_and_left, was_given, was_mapped, was_let_through}
 use Rattle.sgb_file.proofs.NumberReading.{at_most, number_says}
 
 -- the kind of a letter is written by it
@@ -109,17 +108,17 @@ first_line_found line head e =
     let m_is = leading_found third.first m.first m.here in
     let after_letters = ap (λ x. codes "," ++ x) (n_is.parts ∙ ap (λ x. n_is.digits ++ x) (prefix_is (codes "V,") n.first.rest third.first third.here
     ∙ ap (λ x. codes "V," ++ x) (m_is.parts ∙ ap (λ x. m_is.digits ++ x) (prefix_is (codes "A)") m.first.rest anything.first anything.here)))) in
-    subst (λ (h : Head). IsFirstLine h line) through.1 (record {
-      n = n_is.digits;
-      m = m_is.digits;
-      anything = anything.first;
-      form = prefix_is (codes "* GraphBase graph (util_types ") line letters.first letters.here
-          ∙ ap (λ x. codes "* GraphBase graph (util_types " ++ x) (k.1 ∙ ap (λ x. map letter_of kinds.first.value ++ x) (prefix_is (codes ",") kinds.first.rest second.first second.here ∙ after_letters));
-      fourteen = k.0;
-      n_says = n_is.says;
-      m_says = m_is.says;
-      few = at_most n.first.value most_vertices through.0;
-    })
+    subst (λ (h : Head). IsFirstLine h line) through.1 (
+      n_is.digits,
+      m_is.digits,
+      anything.first,
+      n_is.says,
+      m_is.says,
+      k.0,
+      at_most n.first.value most_vertices through.0,
+      prefix_is (codes "* GraphBase graph (util_types ") line letters.first letters.here
+          ∙ ap (λ x. codes "* GraphBase graph (util_types " ++ x) (k.1 ∙ ap (λ x. map letter_of kinds.first.value ++ x) (prefix_is (codes ",") kinds.first.rest second.first second.here ∙ after_letters)),
+    )
 
 -- digits end where they did
 digits_end : (text more : List ℕ) → list_all is_decimal_digit text ≡ true → BeginsWithNoDigit more → prefix_len is_decimal_digit (text ++ more) ≡ length text

@@ -8,8 +8,9 @@ use Rattle.std.proofs.lemmas.Bool.Decides.{nat_tests}
 use Rattle.std.proofs.lemmas.List.{drop-append-le, get_or-take, take-append-le, length-take}
 use Rattle.std.proofs.lemmas.List.Folds.{prefix_len-append}
 use Rattle.std.proofs.lemmas.List.Sums.{fails_before_first, list_all-from_AllPass, prefix_len-le-length, prefix_len_passes}
+use Rattle.sgb_text.proofs.Findings.{after_prefix}
 use Rattle.sgb_file.specs.FileLines.{text_of_lines}
-use Rattle.sgb_file.specs.inner.ReadFields.{plain_text, after_prefix}
+use Rattle.sgb_file.specs.inner.ReadFields.{plain_text}
 use Rattle.sgb_file.specs.inner.LinesLeft.{LinesLeft, text_left, skipped, next_begun, has_no_newline}
 
 -- the text of a line under way, and of those after it

@@ -2,10 +2,6 @@
 
 -- the order of the bytes, and the checksum made byte by byte
 pub mod ChecksumLemmas
--- what each of several readers found, one after another
-pub mod FoundParts
--- readers of texts, and how they are put together
-pub mod ReadTexts
 -- first lines: what one says, and how one is read
 pub mod FirstLines
 -- what a file's records say fits its kinds, and can be saved

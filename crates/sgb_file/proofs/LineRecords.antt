@@ -3,6 +3,7 @@ use Rattle.std.specs.Prelude.{◌≡◌, ◌==◌, ◌≤◌, ◌<◌, ◌++◌,
 use Rattle.std.proofs.Common.{ap, sym, ◌∙◌, arith}
 use Rattle.std.proofs.lemmas.Bool.{and_parts}
 use Rattle.std.proofs.lemmas.List.{drop_all}
+use Rattle.sgb_text.proofs.Findings.{found_as}
 use Rattle.sgb_graph.specs.declared.fields.Ref.{Ref}
 use Rattle.sgb_graph.specs.declared.fields.Kind.{Kind}
 use Rattle.sgb_graph.specs.declared.fields.Kind.TheVariants.{A, I, Z}
@@ -11,7 +12,7 @@ use Rattle.sgb_graph.specs.declared.fields.Util.TheVariants.{Chain, Int, Nothing
 use Rattle.sgb_graph.specs.Sound.{arc_kinds}
 use Rattle.sgb_file.specs.Checksum.{checksum_prime}
 use Rattle.sgb_file.specs.Fields.{Counts, integer_of, record_number_of, ref_of}
-use Rattle.sgb_file.specs.inner.ReadFields.{field_at, found_as, plain_at}
+use Rattle.sgb_file.specs.inner.ReadFields.{field_at, plain_at}
 use Rattle.sgb_file.specs.Files.{Head}
 use Rattle.sgb_file.specs.inner.ReadRecords.{after_comma, arc_record_at, more_fields_at}
 use Rattle.sgb_file.specs.inner.Found.{is_used}

@@ -11,9 +11,9 @@ use Rattle.std.proofs.lemmas.Bool.Decides.{nat_tests}
 use Rattle.std.proofs.lemmas.Int.Digits.{digits_value_more, digits_value-lt}
 use Rattle.std.proofs.lemmas.Str.Parse.{digits_value-take-le}
 use native.Mathlib.Nat.{pow-le-pow_right}
+use Rattle.sgb_text.proofs.Findings.{was_let_through}
 use Rattle.sgb_file.specs.Fields.{is_decimal_digit, number_of}
 use Rattle.sgb_file.specs.inner.Found.{value_if_digits}
-use Rattle.sgb_file.proofs.FoundParts.{was_let_through}
 
 -- a decimal digit, and its value
 record IsDigit (b : ℕ) : Type 0 where

@@ -5,6 +5,7 @@ use Rattle.std.proofs.Common.{arith, sym, subst, ◌∙◌}
 use Rattle.std.proofs.lemmas.Bool.{and_parts, and_from}
 use Rattle.std.proofs.lemmas.List.Elements.{All-cons, All-nil}
 use Rattle.std.proofs.lemmas.List.Sums.{AllPass-from_list_all, list_all-from_AllPass}
+use Rattle.sgb_text.proofs.Findings.{Found, was_let_through}
 use Rattle.sgb_vec.specs.Limits.{most_vertices, most_bytes}
 use Rattle.sgb_vec.specs.Names.{IsTextByte}
 use Rattle.sgb_vec.specs.declared.panics.Panic.TheVariants.{Syntax}
@@ -15,19 +16,18 @@ use Rattle.sgb_graph.specs.Sound.{util_fits, utils_fit, vertex_fits, record_fits
 use Rattle.sgb_graph.specs.declared.fields.Kind.{Kind}
 use Rattle.sgb_graph.specs.declared.fields.Kind.TheVariants.{Z, I, V, S, A}
 use Rattle.sgb_graph.specs.declared.fields.Util.{Util}
-use Rattle.sgb_graph.specs.declared.fields.Util.TheVariants.{Nothing, Int, Vertex as VertexField, Str, Chain}
+use Rattle.sgb_graph.specs.declared.fields.Util.TheVariants.{Nothing}
 use Rattle.sgb_file.specs.FileLines.{text_of_lines}
 use Rattle.sgb_file.specs.Fields.{Counts, most_number_digits, string_of}
-use Rattle.sgb_file.specs.inner.ReadFields.{Found}
-use Rattle.sgb_file.specs.Files.{Head, IsFieldText, AreFieldTexts, IsFirstLine, IsVertexRecord, IsArcRecord, AreRecords, AreRecordsOf, head_of}
+use Rattle.sgb_file.specs.Files.{Head, IsFieldText, AreMoreFields, IsRecordOf, IsFirstLine, IsVertexRecord, IsArcRecord, IsGraphRecord, AreRecordsOf, head_of}
+use Rattle.sgb_text.specs.Languages.{Each}
 use Rattle.sgb_file.specs.inner.ReadRecords.{records_at}
 use Rattle.sgb_file.specs.inner.ReadFiles.{Opening, opening_of, graph_of_records, graph_of_text}
 use Rattle.sgb_file.specs.Saved.{number_limit, ValueCanBeSaved, CanBeChecked, CanBeSaved}
-use Rattle.sgb_file.proofs.FoundParts.{was_let_through}
 use Rattle.sgb_file.proofs.NumberReading.{at_most, at_most_passes, number_is_small}
 use Rattle.sgb_file.proofs.FilesAndTexts.{opening_found}
 use Rattle.sgb_file.proofs.FieldsAndTexts.{integer_says, record_number_says, ref_says}
-use Rattle.sgb_file.proofs.RecordsAndTexts.{reads_records}
+use Rattle.sgb_file.proofs.RecordsAndTexts.{finds_records}
 use Rattle.sgb_file.proofs.RefusedTexts.{file_from_read}
 use Rattle.sgb_file.proofs.SavedGraphs.{FieldsFit, VertexFits, ArcFits, arc_saved, arc_tests, vertex_saved}
 
@@ -40,14 +40,14 @@ record FieldFits (counts : Counts) (kind : Kind) (u : Util) : Type 0 where
   fits : util_fits counts.vertices counts.arcs kind u ≡ true
   value : ValueCanBeSaved u
 
-field_fits : (counts : Counts) (kind : Kind) (u : Util) (text : List ℕ) → IsFieldText counts kind u text → FieldFits counts kind u
-field_fits counts I (Int i) text h = record { fits = refl; value = (integer_says text i h).1 }
-field_fits counts V (VertexField r) text h = record { fits = (ref_says counts.vertices text r h).1; value = tt }
-field_fits counts S (Str s) text h =
-    let p = read_string_fits most_bytes h.inside s h.says in
-    record { fits = refl; value = record { short = p.0; printable = p.1 } }
-field_fits counts A (Chain first) text h = record { fits = (record_number_says counts.arcs text first h).1; value = tt }
-field_fits counts _ _ text h = absurd h
+field_fits : (counts : Counts) (kind : Kind) (u : Util) (text : List ℕ) → IsFieldText counts kind text u → FieldFits counts kind u
+field_fits counts I u text h = subst (FieldFits counts I) (sym h.2) (record { fits = refl; value = (integer_says text h.0 h.1).1 })
+field_fits counts V u text h = subst (FieldFits counts V) (sym h.2) (record { fits = (ref_says counts.vertices text h.0 h.1).1; value = tt })
+field_fits counts S u text h =
+    let p = read_string_fits most_bytes h.1.0 h.0 h.1.3 in
+    subst (FieldFits counts S) (sym h.2) (record { fits = refl; value = record { short = p.0; printable = p.1 } })
+field_fits counts A u text h = subst (FieldFits counts A) (sym h.2) (record { fits = (record_number_says counts.arcs text h.0 h.1).1; value = tt })
+field_fits counts Z u text h = absurd h
 
 one_more_fits : (counts : Counts) (kind : Kind) (kinds : List Kind) (u : Util) (us : List Util) → FieldFits counts kind u → FieldsFit counts kinds us → FieldsFit counts (kind ∷ kinds) (u ∷ us)
 one_more_fits counts kind kinds u us one more = record {
@@ -55,18 +55,38 @@ one_more_fits counts kind kinds u us one more = record {
   values = All-cons ValueCanBeSaved u us one.value more.values;
 }
 
-fields_fit : (counts : Counts) (kinds : List Kind) (us : List Util) (texts : List (List ℕ)) → AreFieldTexts counts kinds us texts → FieldsFit counts kinds us
-fields_fit counts [] [] [] h = record { fits = refl; values = All-nil ValueCanBeSaved }
-fields_fit counts (Z ∷ kinds) (u ∷ us) texts h =
-    subst (λ v. FieldsFit counts (Z ∷ kinds) (v ∷ us)) (sym h.0) (one_more_fits counts Z kinds Nothing us (record { fits = refl; value = tt }) (fields_fit counts kinds us texts h.1))
-fields_fit counts (kind ∷ kinds) (u ∷ us) (text ∷ texts) h =
-    one_more_fits counts kind kinds u us (field_fits counts kind u text h.0) (fields_fit counts kinds us texts h.1)
-fields_fit counts _ _ _ h = absurd h
+fields_fit : (counts : Counts) (kinds : List Kind) (us : List Util) (whole : List ℕ) → AreMoreFields counts kinds whole us → FieldsFit counts kinds us
+fields_fit counts [] us whole h = subst (FieldsFit counts []) (sym h.1) (record { fits = refl; values = All-nil ValueCanBeSaved })
+fields_fit counts (Z ∷ kinds) us whole h =
+    subst (FieldsFit counts (Z ∷ kinds)) (sym h.2) (one_more_fits counts Z kinds Nothing h.0 (record { fits = refl; value = tt }) (fields_fit counts kinds h.0 whole h.1))
+fields_fit counts (kind ∷ kinds) us whole h =
+    let c = h.5 in
+    subst (FieldsFit counts (kind ∷ kinds)) (sym c.5.2) (one_more_fits counts kind kinds c.2 c.5.0 (field_fits counts kind c.2 c.0 c.4) (fields_fit counts kinds c.5.0 c.1 c.5.1))
+
+record_fits_kinds : (counts : Counts) (kind : Kind) (kinds : List Kind) (us : List Util) (whole : List ℕ) → IsRecordOf counts kind kinds whole us → FieldsFit counts (kind ∷ kinds) us
+record_fits_kinds counts kind kinds us whole h =
+    subst (FieldsFit counts (kind ∷ kinds)) (sym h.5.2) (one_more_fits counts kind kinds h.2 h.5.0 (field_fits counts kind h.2 h.0 h.4) (fields_fit counts kinds h.5.0 h.1 h.5.1))
+
+-- what a graph's record says
+record OwnFits (head : Head) (bytes : List ℕ) (m : ℕ) (util : List Util) : Type 0 where
+  id : (length bytes ≤ most_id_bytes) × All IsTextByte bytes
+  few : m < number_limit
+  fields : FieldsFit head.counts (graph_kinds head.kinds) util
+
+own_fits : (head : Head) (g : GraphData) (whole : List ℕ) → IsGraphRecord head whole g → OwnFits head g.id g.m g.util
+own_fits head g whole h =
+    let m = h.5.5.5.5 in
+    let last = m.5 in
+    subst (λ (p : List ℕ × ℕ × ℕ × List Util). OwnFits head p.0 p.2 p.3) (sym last.2) (record {
+      id = read_string_fits most_id_bytes h.4.0 h.2 h.4.3;
+      few = number_is_small most_number_digits m.0 m.2 m.4;
+      fields = fields_fit head.counts (graph_kinds head.kinds) last.0 m.1 last.1;
+    })
 
 -- what holds of all of a list where each one's record stands
-each_record : {X : Type 0} (IsOne : X → List ℕ → Type 0) (IsGood : X → Type 0) → ((x : X) (whole : List ℕ) → IsOne x whole → IsGood x) → (xs : List X) (whole : List ℕ) → AreRecords IsOne xs whole → All IsGood xs
+each_record : {X : Type 0} (IsOne : List ℕ → X → Type 0) (IsGood : X → Type 0) → ((x : X) (whole : List ℕ) → IsOne whole x → IsGood x) → (xs : List X) (whole : List ℕ) → Each IsOne whole xs → All IsGood xs
 each_record IsOne IsGood good [] whole h = All-nil IsGood
-each_record IsOne IsGood good (x ∷ xs) whole h = All-cons IsGood x xs (good x h.0 h.2) (each_record IsOne IsGood good xs h.1 h.3)
+each_record IsOne IsGood good (x ∷ xs) whole h = All-cons IsGood x xs (good x h.0 h.3) (each_record IsOne IsGood good xs h.1 h.4)
 
 -- all that the records of a file say
 pub record IsGoodHead (head : Head) : Type 0 where
@@ -76,28 +96,27 @@ pub record IsGoodHead (head : Head) : Type 0 where
 
 -- a first line within the limits
 pub first_is_good : (line : List ℕ) (head : Head) → IsFirstLine head line → IsGoodHead head
-first_is_good line head says =
-    record { vertices = says.few; kinds = says.fourteen; arcs = number_is_small most_number_digits says.m head.counts.arcs says.m_says }
+first_is_good line head (n, m, anything, n_says, m_says, fourteen, few, form) =
+    record { vertices = few; kinds = fourteen; arcs = number_is_small most_number_digits m head.counts.arcs m_says }
 
 -- what the records of a file say can be checked
 parts_can_be_checked : (g : GraphData) (whole : List ℕ) → IsGoodHead (head_of g) → AreRecordsOf g whole → CanBeChecked g
 parts_can_be_checked g whole good h =
-    let vertices = each_record (IsVertexRecord (head_of g)) (VertexFits g) (λ v text is. fields_fit (head_of g).counts _ _ is.0 is.1) g.vertices h.vertices h.vertex_records in
-    let arcs = each_record (IsArcRecord (head_of g)) (ArcFits g) (λ r text is. fields_fit (head_of g).counts _ _ is.0 is.1) g.records h.arcs h.arc_records in
-    let own = fields_fit (head_of g).counts (graph_kinds g.kinds) g.util h.graph_record.fields h.graph_record.fields_say in
-    let id = read_string_fits most_id_bytes h.graph_record.id_says.inside g.id h.graph_record.id_says.says in
+    let vertices = each_record (IsVertexRecord (head_of g)) (VertexFits g) (λ v text is. record_fits_kinds (head_of g).counts _ _ _ text is) g.vertices h.vertices h.vertex_records in
+    let arcs = each_record (IsArcRecord (head_of g)) (ArcFits g) (λ r text is. record_fits_kinds (head_of g).counts _ _ _ text is) g.records h.arcs h.arc_records in
+    let own = own_fits (head_of g) g h.own h.graph_record in
     let utils = utils_fit (length g.vertices) (length g.records) (graph_kinds g.kinds) g.util in
     let nodes_fit = list_all-from_AllPass (vertex_fits g) g.vertices (λ k d below. (vertices k d below).fits) in
     let arcs_fit = list_all-from_AllPass (record_fits g) g.records (λ k d below. arc_tests g (get_or g.records k d) ∙ (arcs k d below).fits) in
     record {
       vertices_fit = at_most_passes (length g.vertices) most_vertices good.vertices;
-      fields = and_from (utils && list_all (vertex_fits g) g.vertices) (list_all (record_fits g) g.records) (and_from utils (list_all (vertex_fits g) g.vertices) own.fits nodes_fit) arcs_fit;
+      fields = and_from (utils && list_all (vertex_fits g) g.vertices) (list_all (record_fits g) g.records) (and_from utils (list_all (vertex_fits g) g.vertices) own.fields.fits nodes_fit) arcs_fit;
       writable = record {
         kinds = good.kinds;
-        id = record { short = id.0; printable = id.1 };
-        arcs_counted = number_is_small most_number_digits h.graph_record.m g.m h.graph_record.m_says;
+        id = record { short = own.id.0; printable = own.id.1 };
+        arcs_counted = own.few;
         records_counted = good.arcs;
-        util = own.values;
+        util = own.fields.values;
         vertices = λ k d below. vertex_saved g (get_or g.vertices k d) (vertices k d below);
         records = λ k d below. arc_saved g (get_or g.records k d) (arcs k d below);
       };
@@ -105,7 +124,7 @@ parts_can_be_checked g whole good h =
 
 pub records_can_be_checked : (head : Head) (text : List ℕ) (found : Found GraphData) → IsGoodHead head → records_at head text ≡ Some found → CanBeChecked found.value
 records_can_be_checked head text found good e =
-    let h = (reads_records head).finds text found e in
+    let h = (finds_records head).found text found e in
     subst (λ (f : Found GraphData). CanBeChecked f.value) h.made (parts_can_be_checked h.value h.word (subst IsGoodHead h.says.counted good) h.says.are)
 
 -- so what is read of records passes the check where its lists are sound, and is refused for nothing else
@@ -119,6 +138,6 @@ read_is_checked lines opening found opens says =
 -- a graph that is read can be saved
 pub read_can_be_saved : (g : GraphData) (text : List ℕ) → graph_of_text text ≡ Ok g → CanBeSaved g
 read_can_be_saved g text e =
-    let f = file_from_read g text e in
-    let h = parts_can_be_checked g (text_of_lines f.records) (first_is_good f.first (head_of g) f.first_says) f.records_say in
-    record { graph = record { vertices_fit = h.vertices_fit; fields = h.fields; lists = f.sound }; writable = h.writable }
+    let (records, following, (head, lines, opens, are), closed, sound) = file_from_read g text e in
+    let h = parts_can_be_checked g (text_of_lines records) (subst IsGoodHead are.counted (first_is_good opens.first head opens.first_says)) are.say in
+    record { graph = record { vertices_fit = h.vertices_fit; fields = h.fields; lists = sound }; writable = h.writable }

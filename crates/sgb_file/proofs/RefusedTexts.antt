@@ -1,17 +1,17 @@
 -- Which texts are files of graphs, and which code each other text has, by what its lines are.
-use Rattle.std.specs.Prelude.{◌≡◌, ◌⊎◌, ℕ, Bool, true, false, List, ◌∷◌, ◌++◌, Option, Some, None, Result, Ok, Err}
+use Rattle.std.specs.Prelude.{◌≡◌, ◌⊎◌, ℕ, Bool, true, false, List, ◌++◌, Option, Some, None, Result, Ok, Err}
 use Rattle.std.specs.List.{list_all}
 use Rattle.std.proofs.Common.{ap, sym, subst, ◌∙◌, inl, inr, refl}
+use Rattle.sgb_text.proofs.Findings.{Found}
 use Rattle.sgb_vec.specs.declared.panics.Panic.{Panic}
 use Rattle.sgb_vec.specs.declared.panics.Panic.TheVariants.{Early, Late, NoRoom, Syntax}
 use Rattle.sgb_vec.specs.Results.{IsValue}
 use Rattle.sgb_graph.specs.Graphs.{GraphData}
 use Rattle.sgb_graph.specs.Sound.{is_sound}
 use Rattle.sgb_file.specs.FileLines.{lines_of_text, clean_lines, text_of_lines}
-use Rattle.sgb_file.specs.inner.ReadFields.{Found}
-use Rattle.sgb_file.specs.Files.{IsFirstLine, IsFileOf, head_of, Head}
+use Rattle.sgb_file.specs.Files.{Head, Opens, IsClosed, HasRecords, IsFileOf}
 use Rattle.sgb_file.specs.inner.ReadRecords.{records_at}
-use Rattle.sgb_file.specs.Refused.{Opens, IsClosed, HasRecords, HasNoOpening, HasNoRecords, HasNoClosing, HasUnsoundLists, IsRestoredAs}
+use Rattle.sgb_file.specs.Refused.{HasNoOpening, HasNoRecords, HasNoClosing, HasUnsoundLists, IsRestoredAs}
 use Rattle.sgb_file.specs.inner.ReadFiles.{Opening, opening_of, closes, line_closes, graph_after, graph_at_end, graph_of_opening, graph_of_text}
 use Rattle.sgb_file.proofs.LineLemmas.{is_one_line, lines_again}
 use Rattle.sgb_file.proofs.FilesAndTexts.{opens_read, opens_found, after_opening, records_read, lines_found, last_lines, closed_found, closes_by, checksum_read}
@@ -19,19 +19,19 @@ use Rattle.sgb_file.proofs.FilesAndTexts.{opens_read, opens_found, after_opening
 -- the graph of a text with these records, by what follows them
 graph_with_records : (text : List ℕ) (g : GraphData) (records following : List (List ℕ)) → HasRecords text g records following
     → graph_of_text text ≡ graph_at_end (line_closes records following) (is_sound g) g
-graph_with_records text g records following h =
-    let opening : Opening = record { head = h.head; lines = h.lines } in
+graph_with_records text g records following (head, lines, opens, are) =
+    let opening : Opening = record { head = head; lines = lines } in
     let rest = text_of_lines following in
-    let one_lines : list_all is_one_line (records ++ following) ≡ true = ap (list_all is_one_line) (sym h.are.parts) ∙ after_opening text h.head h.lines h.opens in
+    let one_lines : list_all is_one_line (records ++ following) ≡ true = ap (list_all is_one_line) (sym are.parts) ∙ after_opening text head lines opens in
     let again = lines_again following (last_lines records following one_lines) in
     let closed : closes opening rest ≡ line_closes records following =
-    closes_by opening records rest (h.are.parts ∙ ap (λ ls. records ++ ls) (sym again)) ∙ ap (line_closes records) again in
-    ap graph_of_opening (opens_read text h.head h.lines h.opens)
-    ∙ ap (graph_after opening) (records_read h.head g records following h.lines h.are)
+    closes_by opening records rest (are.parts ∙ ap (λ ls. records ++ ls) (sym again)) ∙ ap (line_closes records) again in
+    ap graph_of_opening (opens_read text head lines opens)
+    ∙ ap (graph_after opening) (records_read head g records following lines are)
     ∙ ap (λ c. graph_at_end c (is_sound g) g) closed
 
 line_closed : (records following : List (List ℕ)) → IsClosed records following → line_closes records following ≡ true
-line_closed records following h = ap (line_closes records) h.parts ∙ checksum_read h.last records h.says
+line_closed records following (last, others, parts, says) = ap (line_closes records) parts ∙ checksum_read last records says
 
 -- the code of each kind of text
 pub early_of : (text : List ℕ) → HasNoOpening text → graph_of_text text ≡ Err Early
@@ -42,39 +42,24 @@ early_of text none = by_opening (opening_of (clean_lines text)) refl
     by_opening (Some o) e = absurd (none o.head o.lines (opens_found text o e))
 
 pub no_records_of : (text : List ℕ) → HasNoRecords text → graph_of_text text ≡ Err Syntax
-no_records_of text h = ap graph_of_opening (opens_read text h.head h.lines h.opens) ∙ by_records (records_at h.head (text_of_lines h.lines)) refl
+no_records_of text (head, lines, opens, none) = ap graph_of_opening (opens_read text head lines opens) ∙ by_records (records_at head (text_of_lines lines)) refl
   where
-    by_records : (found : Option (Found GraphData)) → records_at h.head (text_of_lines h.lines) ≡ found → graph_after (record { head = h.head; lines = h.lines }) found ≡ Err Syntax
+    by_records : (found : Option (Found GraphData)) → records_at head (text_of_lines lines) ≡ found → graph_after (record { head = head; lines = lines }) found ≡ Err Syntax
     by_records None e = refl
     by_records (Some found) e =
-        let f = lines_found h.head h.lines found (after_opening text h.head h.lines h.opens) e in
-        absurd (h.none found.value f.0 (lines_of_text found.rest) f.1)
+        let f = lines_found head lines found (after_opening text head lines opens) e in
+        absurd (none found.value f.0 (lines_of_text found.rest) f.1)
 
 pub late_of : (text : List ℕ) → HasNoClosing text → graph_of_text text ≡ Err Late
-late_of text h = graph_with_records text h.g h.records h.following h.has ∙ by_end (line_closes h.records h.following) refl
+late_of text (g, records, following, has, none) = graph_with_records text g records following has ∙ by_end (line_closes records following) refl
   where
-    by_end : (c : Bool) → line_closes h.records h.following ≡ c → graph_at_end c (is_sound h.g) h.g ≡ Err Late
+    by_end : (c : Bool) → line_closes records following ≡ c → graph_at_end c (is_sound g) g ≡ Err Late
     by_end false e = refl
-    by_end true e = absurd (h.none (closed_found h.records h.following e))
+    by_end true e = absurd (none (closed_found records following e))
 
 pub unsound_of : (text : List ℕ) → HasUnsoundLists text → graph_of_text text ≡ Err Syntax
-unsound_of text h = graph_with_records text h.g h.records h.following h.has ∙ rw (line_closed h.records h.following h.closes, h.unsound) refl
-
--- a file of a graph
-file_of : (text : List ℕ) (g : GraphData) (records following : List (List ℕ)) → HasRecords text g records following → IsClosed records following → is_sound g ≡ true → IsFileOf g text
-file_of text g records following h c sound = record {
-  comments = h.opens.comments;
-  first = h.opens.first;
-  records = records;
-  last = c.last;
-  others = c.others;
-  lines = h.opens.parts ∙ ap (λ ls. h.opens.comments ++ h.opens.first ∷ ls) (h.are.parts ∙ ap (λ ls. records ++ ls) c.parts);
-  comments_are = h.opens.comments_are;
-  first_says = subst (λ (x : Head). IsFirstLine x h.opens.first) h.are.counted h.opens.first_says;
-  records_say = h.are.say;
-  last_says = c.says;
-  sound = sound;
-}
+unsound_of text (g, records, following, has, closed, unsound) =
+    graph_with_records text g records following has ∙ rw (line_closed records following closed, unsound) refl
 
 -- each text is what it is read as: a file of the graph, or of the kind that its code says
 pub restored : (text : List ℕ) → IsRestoredAs text (graph_of_text text)
@@ -83,24 +68,19 @@ restored text = by_opening (opening_of (clean_lines text)) refl
     by_end : (g : GraphData) (records following : List (List ℕ)) → HasRecords text g records following
         → (c s : Bool) → line_closes records following ≡ c → is_sound g ≡ s → IsRestoredAs text (graph_at_end c s g)
     by_end g records following has false s e es =
-        record { g = g; records = records; following = following; has = has; none = λ closed. let is = line_closed records following closed in absurd cc }
+        (g, records, following, has, λ closed. let is = line_closed records following closed in absurd cc)
     by_end g records following has true false e es =
-        inr (record { g = g; records = records; following = following; has = has; closes = closed_found records following e; unsound = es })
-    by_end g records following has true true e es = file_of text g records following has (closed_found records following e) es
+        inr (g, records, following, has, closed_found records following e, es)
+    by_end g records following has true true e es = (records, following, has, closed_found records following e, es)
 
     by_records : (o : Opening) → Opens text o.head o.lines → (found : Option (Found GraphData)) → records_at o.head (text_of_lines o.lines) ≡ found → IsRestoredAs text (graph_of_text text)
     by_records o opens None e =
         let is = ap graph_of_opening (opens_read text o.head o.lines opens) ∙ ap (graph_after o) e in
-        subst (IsRestoredAs text) (sym is) (inl (record {
-          head = o.head;
-          lines = o.lines;
-          opens = opens;
-          none = λ g records following are. let is = records_read o.head g records following o.lines are in absurd cc;
-        }))
+        subst (IsRestoredAs text) (sym is) (inl (o.head, o.lines, opens, λ g records following are. let is = records_read o.head g records following o.lines are in absurd cc))
     by_records o opens (Some found) e =
         let f = lines_found o.head o.lines found (after_opening text o.head o.lines opens) e in
         let following = lines_of_text found.rest in
-        let has : HasRecords text found.value f.0 following = record { head = o.head; lines = o.lines; opens = opens; are = f.1 } in
+        let has : HasRecords text found.value f.0 following = (o.head, o.lines, opens, f.1) in
         subst (IsRestoredAs text) (sym (graph_with_records text found.value f.0 following has))
         (by_end found.value f.0 following has (line_closes f.0 following) (is_sound found.value) refl refl)
 
@@ -113,15 +93,8 @@ pub file_from_read : (g : GraphData) (text : List ℕ) → graph_of_text text �
 file_from_read g text e = subst (IsRestoredAs text) e (restored text)
 
 pub read_from_file : (g : GraphData) (text : List ℕ) → IsFileOf g text → graph_of_text text ≡ Ok g
-read_from_file g text h =
-    let following = h.last ∷ h.others in
-    let has : HasRecords text g h.records following = record {
-      head = head_of g;
-      lines = h.records ++ following;
-      opens = record { comments = h.comments; first = h.first; parts = h.lines; comments_are = h.comments_are; first_says = h.first_says };
-      are = record { counted = refl; say = h.records_say; parts = refl };
-    } in
-    graph_with_records text g h.records following has ∙ rw (checksum_read h.last h.records h.last_says, h.sound) refl
+read_from_file g text (records, following, has, closed, sound) =
+    graph_with_records text g records following has ∙ rw (line_closed records following closed, sound) refl
 
 -- and a text with one of these codes is of its kind
 pub early_is : (text : List ℕ) → graph_of_text text ≡ Err Early → HasNoOpening text

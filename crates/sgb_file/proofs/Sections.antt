@@ -3,16 +3,15 @@ use Rattle.std.proofs.Common.{rules, ◌≡◌, ◌∙◌, ◌++◌, ◌<◌, �
 use Rattle.std.specs.List.{starts_with}
 use Rattle.std.proofs.lemmas.Bool.{and_parts, not-true}
 use Rattle.std.proofs.lemmas.Bool.Decides.{nat_tests, Decides-eqb}
+use Rattle.sgb_text.proofs.Findings.{Found, found_as, after_prefix, all_at, prefix_read, was_mapped}
+use Rattle.sgb_text.specs.Given.{given}
 use Rattle.sgb_graph.specs.Graphs.{GraphData}
 use Rattle.sgb_graph.specs.Parts.{with_vertex, with_record}
 use Rattle.sgb_graph.specs.declared.fields.Vertex.{Vertex}
 use Rattle.sgb_graph.specs.declared.fields.ArcRec.{ArcRec}
-use Rattle.sgb_file.specs.inner.ReadFields.{Found, found_as, after_prefix}
-use Rattle.sgb_file.specs.Fields.{given}
 use Rattle.sgb_file.specs.Files.{Head}
-use Rattle.sgb_file.specs.inner.ReadRecords.{all_at, arc_record_at, graph_record_at, records_at, vertex_record_at}
-use Rattle.sgb_file.proofs.FoundParts.{prefix_read, was_mapped}
-use Rattle.sgb_file.proofs.RecordsAndTexts.{is_bare, reads_graph}
+use Rattle.sgb_file.specs.inner.ReadRecords.{arc_record_at, graph_record_at, records_at, vertex_record_at}
+use Rattle.sgb_file.proofs.RecordsAndTexts.{starts_bare}
 use Rattle.sgb_file.proofs.FoundSteps.{stops, vertex_steps}
 use Rattle.sgb_file.specs.inner.Found.{IsFoundBy}
 use Rattle.sgb_vec.specs.declared.panics.Panic.{Panic}
@@ -116,17 +115,14 @@ pub records_sections : (head : Head) (parts more : GraphData) (t0 t1 t2 t3 : Lis
     → after_prefix (codes "* Vertices\n") t1 ≡ Some t2 → vertices_at head parts head.counts.vertices t2 ≡ Some (record { value = more; rest = t3 })
     → records_at head t0 ≡ given (after_prefix (codes "* Arcs\n") t3) (arcs_at head more head.counts.arcs)
 records_sections head parts more t0 t1 t2 t3 g a v =
-    let own = (reads_graph head).finds t0 (record { value = parts; rest = t1 }) g in
-    let m = own.says.4.4.4.4 in
-    let bare = is_bare head own.says.4.4.0 own.says.0 m.0 m.4.0 own.value m.4.2 in
-    let start = bare.1 ∙ ap (λ (f : Found GraphData). f.value) own.made in
+    let bare = starts_bare head t0 t1 parts g in
     let p = was_mapped (all_at (vertex_record_at head) head.counts.vertices t2) {f = λ x. record { value = record parts { vertices = parts.vertices ++ x.value }; rest = x.rest }} v in
     let vs = p.first.value in
     ap (λ o. given o (titles_after head)) g
     ∙ (ap (λ o. given o (vertices_after head parts)) a
     ∙ (ap (λ o. given o (arcs_after head parts)) p.here
     ∙ (ap (λ x. arcs_after head parts (record { value = vs; rest = x.rest })) p.same
-    ∙ (ap (λ (xs : List Vertex). arcs_after head parts (record { value = xs ++ vs; rest = t3 })) (ap (λ (x : GraphData). x.vertices) start)
+    ∙ (ap (λ (xs : List Vertex). arcs_after head parts (record { value = xs ++ vs; rest = t3 })) bare.0
     ∙ (ap (λ (xs : List ArcRec). given (after_prefix (codes "* Arcs\n") t3) (λ third.
-    found_as (λ rs. record parts { vertices = parts.vertices ++ vs; records = xs ++ rs }) (all_at (arc_record_at head) head.counts.arcs third))) (ap (λ (x : GraphData). x.records) start)
+    found_as (λ rs. record parts { vertices = parts.vertices ++ vs; records = xs ++ rs }) (all_at (arc_record_at head) head.counts.arcs third))) bare.1
     ∙ ap (λ x. given (after_prefix (codes "* Arcs\n") t3) (arcs_at head x.value head.counts.arcs)) p.same)))))

@@ -7,17 +7,17 @@ use Rattle.std.proofs.lemmas.Bool.{and_parts, not-true}
 use Rattle.std.proofs.lemmas.Bool.Decides.{nat_tests}
 use Rattle.std.proofs.lemmas.List.{take-append-le}
 use Rattle.std.proofs.lemmas.List.Sums.{AllPass-from_list_all, list_all-from_AllPass}
+use Rattle.sgb_text.proofs.Findings.{after_prefix, was_let_through}
 use Rattle.sgb_vec.specs.Limits.{most_bytes}
 use Rattle.sgb_vec.specs.Names.{IsText, IsTextByte, is_text_byte}
 use Rattle.sgb_vec.specs.declared.panics.Panic.{Panic}
 use Rattle.sgb_vec.specs.declared.panics.Panic.TheVariants.{NoRoom, Syntax}
 use Rattle.sgb_graph.specs.Ids.{most_id_bytes, IsId}
-use Rattle.sgb_file.specs.inner.ReadFields.{after_prefix, string_at}
+use Rattle.sgb_file.specs.inner.ReadFields.{string_at}
 use Rattle.sgb_file.specs.Fields.{unbroken}
 use Rattle.sgb_file.specs.inner.Found.{IsFoundBy, IsPartOf, IsNoString, checked_text, goes_on, is_broken, string_before, string_from}
 use Rattle.sgb_file.specs.inner.LinesLeft.{has_no_newline}
 use Rattle.sgb_file.proofs.LineLemmas.{list_all-take}
-use Rattle.sgb_file.proofs.FoundParts.{was_let_through}
 use Rattle.sgb_file.proofs.LeftTexts.{none_before, first_beyond, any_beyond, first_within, any_within}
 
 abbrev pub is_quote : ℕ → Bool

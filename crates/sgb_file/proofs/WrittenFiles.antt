@@ -7,6 +7,8 @@ use Rattle.std.proofs.lemmas.Grind.{flat_map-append}
 use Rattle.std.proofs.lemmas.List.Elements.{All-nil}
 use Rattle.std.proofs.lemmas.Nat.{mod_below}
 use Rattle.sgb_graph.specs.Graphs.{GraphData}
+use Rattle.sgb_graph.specs.declared.fields.Kind.TheVariants.{S, V}
+use Rattle.sgb_graph.specs.declared.fields.Util.TheVariants.{Int, Vertex as VertexField, Str, Chain}
 use Rattle.sgb_graph.specs.declared.fields.Vertex.{Vertex}
 use Rattle.sgb_graph.specs.declared.fields.ArcRec.{ArcRec}
 use Rattle.sgb_file.specs.FileLines.{clean_lines, text_of_lines}
@@ -18,7 +20,7 @@ use Rattle.sgb_file.specs.Saved.{CanBeSaved}
 use Rattle.sgb_file.proofs.LineLemmas.{is_line, list_all-join, clean_lines_read}
 use Rattle.sgb_file.proofs.FieldReading.{number_read}
 use Rattle.sgb_file.proofs.WrittenRecords.{fields_stand, graph_written, all_written}
-use Rattle.sgb_file.proofs.SavedGraphs.{IsReady, VertexFits, ArcFits, fields_of_vertex, fields_of_arc, ready}
+use Rattle.sgb_file.proofs.SavedGraphs.{IsReady, VertexFits, ArcFits, ready}
 use Rattle.sgb_file.proofs.WrittenLines.{middle_are_lines, head_is_line, checksum_is_line}
 
 -- the text of the lines of several records
@@ -44,42 +46,27 @@ records_written g h = record {
   vertices = flat_map vertex_text g.vertices;
   arcs = flat_map arc_text g.records;
   graph_record = graph_written g h;
-  vertex_records = all_written vertex_text (IsVertexRecord (head_of g)) (VertexFits g) (λ v fits. fields_stand _ h.small _ (fields_of_vertex v) _ _ refl fits) g.vertices h.vertices;
-  arc_records = all_written arc_text (IsArcRecord (head_of g)) (ArcFits g) (λ r fits. fields_stand _ h.small _ (fields_of_arc r) _ _ refl fits) g.records h.records;
+  vertex_records = all_written vertex_text (IsVertexRecord (head_of g)) (VertexFits g) (λ v fits. fields_stand _ h.small S _ (Str v.name) (Chain v.arcs ∷ v.util) (λ z. absurd cc) fits) g.vertices h.vertices;
+  arc_records = all_written arc_text (IsArcRecord (head_of g)) (ArcFits g) (λ r fits. fields_stand _ h.small V _ (VertexField r.tip) (Chain r.next ∷ Int r.len ∷ r.a ∷ r.b ∷ []) (λ z. absurd cc) fits) g.records h.records;
   parts = middle_text g;
 }
 
 -- the first line is one
 first_written : (g : GraphData) → length g.kinds ≡ 14 → IsReady g → IsFirstLine (head_of g) (head_line g)
 first_written g kinds h =
-    let n = length g.vertices in
-    let m = length g.records in
     let most = h.vertices_few in
     let few = h.records_few in
-    record {
-      n = decimal n;
-      m = decimal m;
-      anything = [];
-      form = simp append_assoc;
-      fourteen = kinds;
-      n_says = number_read most_number_digits n (omega arith) (omega (arith, most)) (omega (arith, most));
-      m_says = number_read most_number_digits m (omega arith) few (omega (arith, few));
-      few = most;
-    }
+    let n_says = number_read most_number_digits (length g.vertices) (omega arith) (omega (arith, most)) (omega (arith, most)) in
+    let m_says = number_read most_number_digits (length g.records) (omega arith) few (omega (arith, few)) in
+    (decimal (length g.vertices), decimal (length g.records), [], n_says, m_says, kinds, most, simp append_assoc)
 
 -- the checksum is a number of 18 digits, and its line is one
 checksum_small : (g : GraphData) → checksum_of_lines (middle_lines g) < 10 ^ 18
 checksum_small g = let below = mod_below (weighted_sum (text_of_lines (filter (λ line. not (has_star line)) (middle_lines g)))) checksum_prime (omega arith) in omega (arith, below)
 
 checksum_written : (c : ℕ) → c < 10 ^ 18 → IsChecksumLine c (codes "* Checksum " ++ decimal c)
-checksum_written c below = record {
-  digits = decimal c;
-  anything = [];
-  k = c;
-  says = number_read most_number_digits c (omega arith) below (omega (arith, below));
-  ends = tt;
-  form = inl (refl, ap (λ x. codes "* Checksum " ++ x) (sym (append-nil (decimal c))));
-}
+checksum_written c below =
+    (decimal c, [], c, number_read most_number_digits c (omega arith) below (omega (arith, below)), tt, inl (refl, ap (λ x. codes "* Checksum " ++ x) (sym (append-nil (decimal c)))))
 
 -- each line of the file is a line as it is written
 all_lines : (g : GraphData) → IsReady g → list_all is_line (head_line g ∷ (middle_lines g ++ checksum_line g ∷ [])) ≡ true
@@ -95,17 +82,22 @@ all_lines g h =
 pub written_is_file : (g : GraphData) (more : List ℕ) → CanBeSaved g → IsFileOf g (text_of_graph g ++ more)
 written_is_file g more h =
     let is = ready g h in
-    record {
-      comments = [];
-      first = head_line g;
-      records = middle_lines g;
-      last = checksum_line g;
-      others = clean_lines more;
-      lines = clean_lines_read (head_line g ∷ (middle_lines g ++ checksum_line g ∷ [])) more (all_lines g is)
-          ∙ ap (λ ls. head_line g ∷ ls) (append_assoc (middle_lines g) (checksum_line g ∷ []) (clean_lines more));
-      comments_are = All-nil IsComment;
-      first_says = first_written g h.writable.kinds is;
-      records_say = records_written g is;
-      last_says = checksum_written (checksum_of_lines (middle_lines g)) (checksum_small g);
-      sound = h.graph.lists;
-    }
+    let following = checksum_line g ∷ clean_lines more in (
+      middle_lines g,
+      following,
+      (
+        head_of g,
+        middle_lines g ++ following,
+        record {
+          comments = [];
+          first = head_line g;
+          parts = clean_lines_read (head_line g ∷ (middle_lines g ++ checksum_line g ∷ [])) more (all_lines g is)
+              ∙ ap (λ ls. head_line g ∷ ls) (append_assoc (middle_lines g) (checksum_line g ∷ []) (clean_lines more));
+          comments_are = All-nil IsComment;
+          first_says = first_written g h.writable.kinds is;
+        },
+        record { counted = refl; say = records_written g is; parts = refl },
+      ),
+      (checksum_line g, clean_lines more, refl, checksum_written (checksum_of_lines (middle_lines g)) (checksum_small g)),
+      h.graph.lists,
+    )

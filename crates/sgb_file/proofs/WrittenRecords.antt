@@ -1,5 +1,5 @@
 -- The records of a file as they are written: each is a record of the graph's, with breaks in its texts.
-use Rattle.std.specs.Prelude.{◌≡◌, ℕ, Bool, true, false, cond, List, [], ◌∷◌, ◌++◌, length, decimal, Option, Some, All, ⊤, refl}
+use Rattle.std.specs.Prelude.{◌≡◌, ℕ, Bool, true, false, cond, List, [], ◌∷◌, ◌++◌, length, codes, decimal, Option, Some, All, refl}
 use Rattle.std.specs.Fmt.{signed_decimal}
 use Rattle.std.specs.List.{flat_map}
 use Rattle.std.proofs.Common.{ap, sym, subst, ◌∙◌, arith, inl, inr}
@@ -15,130 +15,127 @@ use Rattle.sgb_graph.specs.declared.fields.Util.{Util}
 use Rattle.sgb_graph.specs.declared.fields.Util.TheVariants.{Nothing, Int, Vertex as VertexField, Str, Chain}
 use Rattle.sgb_file.specs.FileLines.{text_of_lines}
 use Rattle.sgb_file.specs.Fields.{Counts, most_number_digits, number_of, integer_of, ref_of, record_number_of}
-use Rattle.sgb_file.specs.Files.{IsFieldText, AreFieldTexts, IsComma, IsRecord, IsRecordOf, IsGraphRecord, AreRecords, head_of}
+use Rattle.sgb_text.specs.Languages.{Each}
+use Rattle.sgb_file.specs.Files.{IsFieldText, IsComma, AreMoreFields, IsRecordOf, IsGraphRecord, head_of}
 use Rattle.sgb_file.specs.Saving.{quoted, ref_text, record_number_text, field_texts, graph_texts, pieces_of, record_lines}
 use Rattle.sgb_file.specs.Saved.{ValueCanBeSaved}
 use Rattle.sgb_file.proofs.LineLemmas.{is_line}
 use Rattle.sgb_file.proofs.LaidOutText.{with_breaks, after_field, lay_out, laid_out_text}
 use Rattle.sgb_file.proofs.FieldReading.{IsBroken, IsSaid, said_broken, number_is_said, integer_is_said, ref_is_said, record_number_is_said, string_is_said, quoted_is_line}
-use Rattle.sgb_file.proofs.RecordsAndTexts.{IsTail, record_from_tail, and_others}
 use Rattle.sgb_file.proofs.SavedGraphs.{AreSmall, FieldsFit, IsReady}
 
 -- a field that has a text: with any breaks it says the value, and it is a line as it is written
 pub record IsField (counts : Counts) (kind : Kind) (u : Util) : Type 0 where
   pub text : List ℕ
   pub texts : field_texts u ≡ text ∷ []
-  pub says : (broken : List ℕ) → IsBroken text broken → IsFieldText counts kind u broken
+  pub says : (broken : List ℕ) → IsBroken text broken → IsFieldText counts kind broken u
   pub line : is_line text ≡ true
 
 plain_field : {X : Type 0} (counts : Counts) (kind : Kind) (u : Util) (says : List ℕ → Option X) (text : List ℕ) (x : X) → field_texts u ≡ text ∷ []
-    → ((broken : List ℕ) → says broken ≡ Some x → IsFieldText counts kind u broken) → IsSaid says text x → IsField counts kind u
+    → ((broken : List ℕ) → says broken ≡ Some x → IsFieldText counts kind broken u) → IsSaid says text x → IsField counts kind u
 plain_field counts kind u says text x texts is s = record { text = text; texts = texts; says = λ broken b. is broken (said_broken says text x s broken b); line = s.line }
 
 pub field_of : (counts : Counts) → AreSmall counts → (kind : Kind) (u : Util) → (kind ≡ Z → ⊥) → util_fits counts.vertices counts.arcs kind u ≡ true → ValueCanBeSaved u → IsField counts kind u
 field_of counts small Z u used fits h = absurd (used refl)
-field_of counts small I (Int i) used fits h = plain_field counts I (Int i) integer_of (signed_decimal i) i refl (λ text said. said) (integer_is_said i h)
+field_of counts small I (Int i) used fits h = plain_field counts I (Int i) integer_of (signed_decimal i) i refl (λ text said. (i, said, refl)) (integer_is_said i h)
 field_of counts small V (VertexField r) used fits h =
-    plain_field counts V (VertexField r) (ref_of counts.vertices) (ref_text r) r refl (λ text said. said) (ref_is_said counts.vertices r small.vertices fits)
+    plain_field counts V (VertexField r) (ref_of counts.vertices) (ref_text r) r refl (λ text said. (r, said, refl)) (ref_is_said counts.vertices r small.vertices fits)
 field_of counts small S (Str s) used fits h = record {
   text = quoted s;
   texts = refl;
-  says = string_is_said most_bytes s h.short h.printable;
+  says = λ broken b. (s, string_is_said most_bytes s h.short h.printable broken b, refl);
   line = quoted_is_line s h.printable;
 }
 field_of counts small A (Chain first) used fits h =
-    plain_field counts A (Chain first) (record_number_of counts.arcs) (record_number_text first) first refl (λ text said. said) (record_number_is_said counts.arcs first small.arcs fits)
+    plain_field counts A (Chain first) (record_number_of counts.arcs) (record_number_text first) first refl (λ text said. (first, said, refl)) (record_number_is_said counts.arcs first small.arcs fits)
 field_of counts small _ _ used fits h = absurd cc
 
--- texts as they stand with their breaks
-abbrev AreBroken : List (List ℕ) → List (List ℕ) → Type 0
-AreBroken [] [] = ⊤
-AreBroken (text ∷ texts) (broken ∷ others) = IsBroken text broken × AreBroken texts others
-AreBroken _ _ = ⊥
-
 -- a comma, and the end of the line or not
-is_comma : (gap : Bool) → IsComma (44 ∷ cond gap (10 ∷ []) [])
-is_comma true = inr refl
-is_comma false = inl refl
+is_comma : (gap : Bool) → IsComma (44 ∷ cond gap (10 ∷ []) []) tt
+is_comma true = inr (refl, refl)
+is_comma false = inl (refl, refl)
 
--- what is written after a field: the other fields' texts, with breaks
-tail_written : (line : List ℕ) (texts : List (List ℕ)) → (broken : List (List ℕ)) × AreBroken texts broken × IsTail broken (after_field line texts)
-tail_written line [] = ([], tt, refl)
+-- these texts as they stand with breaks, each after a comma, and a newline at the end
+abbrev AreLaid : List (List ℕ) → List ℕ → Type 0
+AreLaid [] tail = tail ≡ codes "\n"
+AreLaid (text ∷ texts) tail = (comma broken others : List ℕ) × IsComma comma tt × IsBroken text broken × AreLaid texts others × (tail ≡ comma ++ (broken ++ others))
+
+-- what is written after a field
+tail_written : (line : List ℕ) (texts : List (List ℕ)) → AreLaid texts (after_field line texts)
+tail_written line [] = refl
 tail_written line (text ∷ texts) =
-    let laid = lay_out line text texts in
-    let more = tail_written laid.next texts in
-    let comma = 44 ∷ cond laid.gap (10 ∷ []) [] in (
-      with_breaks laid.breaks 78 text ∷ more.0,
-      ((laid.breaks, laid.few, refl), more.1),
-      (comma, after_field laid.next texts, is_comma laid.gap, more.2, ap (λ x. 44 ∷ x) laid.whole),
+    let laid = lay_out line text texts in (
+      44 ∷ cond laid.gap (10 ∷ []) [],
+      with_breaks laid.breaks 78 text,
+      after_field laid.next texts,
+      is_comma laid.gap,
+      (laid.breaks, laid.few, refl),
+      tail_written laid.next texts,
+      ap (λ x. 44 ∷ x) laid.whole,
     )
 
 -- the lines of a record with these texts
-record_written : (text : List ℕ) (texts : List (List ℕ)) → (broken : List (List ℕ)) × AreBroken (text ∷ texts) broken × IsRecord broken (text_of_lines (record_lines (text ∷ texts)))
+record_written : (text : List ℕ) (texts : List (List ℕ)) → (broken others : List ℕ) × IsBroken text broken × AreLaid texts others × (text_of_lines (record_lines (text ∷ texts)) ≡ broken ++ others)
 record_written text texts =
     let laid = lay_out [] text texts in
     let body = with_breaks laid.breaks 78 text in
-    let more = tail_written laid.next texts in
-    let whole = laid_out_text [] (pieces_of (text ∷ texts)) ∙ laid.whole ∙ ap (λ gap. cond gap (10 ∷ []) [] ++ (body ++ after_field laid.next texts)) (laid.starts refl) in (
-      body ∷ more.0,
-      ((laid.breaks, laid.few, refl), more.1),
-      subst (IsRecord (body ∷ more.0)) (sym whole) (record_from_tail body more.0 (after_field laid.next texts) more.2),
-    )
+    let others = after_field laid.next texts in
+    let whole = laid_out_text [] (pieces_of (text ∷ texts)) ∙ laid.whole ∙ ap (λ gap. cond gap (10 ∷ []) [] ++ (body ++ others)) (laid.starts refl) in
+    (body, others, (laid.breaks, laid.few, refl), tail_written laid.next texts, whole)
 
 -- the texts of fields with breaks are texts of the fields
-next_written : (counts : Counts) (kind : Kind) (kinds : List Kind) (u : Util) (us : List Util) → IsField counts kind u
-    → ((others : List (List ℕ)) → AreBroken (flat_map field_texts us) others → AreFieldTexts counts kinds us others)
-    → (broken : List (List ℕ)) → AreBroken (flat_map field_texts (u ∷ us)) broken → AreFieldTexts counts (kind ∷ kinds) (u ∷ us) broken
-next_written counts kind kinds u us field more broken b =
-    by_texts broken (subst (λ texts. AreBroken (texts ++ flat_map field_texts us) broken) field.texts b)
-  where
-    by_texts : (broken : List (List ℕ)) → AreBroken (field.text ∷ flat_map field_texts us) broken → AreFieldTexts counts (kind ∷ kinds) (u ∷ us) broken
-    by_texts [] b = absurd b
-    by_texts (text ∷ texts) b = and_others counts kind kinds u us text texts (field.says text b.0) (more texts b.1)
+field_more : (counts : Counts) (kind : Kind) (kinds : List Kind) (u : Util) (us : List Util) (comma broken others : List ℕ) → IsComma comma tt → IsFieldText counts kind broken u → AreMoreFields counts kinds others us
+    → AreMoreFields counts (kind ∷ kinds) (comma ++ (broken ++ others)) (u ∷ us)
+field_more counts Z kinds u us comma broken others is says more = absurd says
+field_more counts kind kinds u us comma broken others is says more = (comma, broken ++ others, tt, refl, is, (broken, others, u, refl, says, (us, more, refl)))
 
-fields_written : (counts : Counts) → AreSmall counts → (kinds : List Kind) (us : List Util) → utils_fit counts.vertices counts.arcs kinds us ≡ true → All ValueCanBeSaved us
-    → (broken : List (List ℕ)) → AreBroken (flat_map field_texts us) broken → AreFieldTexts counts kinds us broken
-fields_written counts small [] [] fits h [] b = tt
-fields_written counts small [] [] fits h (text ∷ texts) b = absurd b
-fields_written counts small (Z ∷ kinds) (Nothing ∷ us) fits h broken b =
-    (refl, fields_written counts small kinds us fits (All-tail ValueCanBeSaved Nothing us h) broken b)
-fields_written counts small (kind ∷ kinds) (u ∷ us) fits h broken b =
+next_written : (counts : Counts) (kind : Kind) (kinds : List Kind) (u : Util) (us : List Util) → IsField counts kind u
+    → ((others : List ℕ) → AreLaid (flat_map field_texts us) others → AreMoreFields counts kinds others us)
+    → (tail : List ℕ) → AreLaid (flat_map field_texts (u ∷ us)) tail → AreMoreFields counts (kind ∷ kinds) tail (u ∷ us)
+next_written counts kind kinds u us field more tail laid =
+    let l = subst (λ texts. AreLaid (texts ++ flat_map field_texts us) tail) field.texts laid in
+    subst (λ t. AreMoreFields counts (kind ∷ kinds) t (u ∷ us)) (sym l.6) (field_more counts kind kinds u us l.0 l.1 l.2 l.3 (field.says l.1 l.4) (more l.2 l.5))
+
+more_written : (counts : Counts) → AreSmall counts → (kinds : List Kind) (us : List Util) → utils_fit counts.vertices counts.arcs kinds us ≡ true → All ValueCanBeSaved us
+    → (tail : List ℕ) → AreLaid (flat_map field_texts us) tail → AreMoreFields counts kinds tail us
+more_written counts small [] [] fits h tail laid = (laid, refl)
+more_written counts small (Z ∷ kinds) (Nothing ∷ us) fits h tail laid = (us, more_written counts small kinds us fits (All-tail ValueCanBeSaved Nothing us h) tail laid, refl)
+more_written counts small (kind ∷ kinds) (u ∷ us) fits h tail laid =
     let parts = and_parts (util_fits counts.vertices counts.arcs kind u) (utils_fit counts.vertices counts.arcs kinds us) fits in
     next_written counts kind kinds u us (field_of counts small kind u (λ z. absurd cc) parts.0 (All-head ValueCanBeSaved u us h))
-    (fields_written counts small kinds us parts.1 (All-tail ValueCanBeSaved u us h)) broken b
-fields_written counts small _ _ fits h broken b = absurd cc
+    (more_written counts small kinds us parts.1 (All-tail ValueCanBeSaved u us h)) tail laid
+more_written counts small _ _ fits h tail laid = absurd cc
 
 -- the record of fields, a vertex's or an arc's, and the graph's
-pub fields_stand : (counts : Counts) → AreSmall counts → (kinds : List Kind) (us : List Util) (text : List ℕ) (texts : List (List ℕ)) → flat_map field_texts us ≡ text ∷ texts
-    → FieldsFit counts kinds us → IsRecordOf counts kinds us (text_of_lines (record_lines (text ∷ texts)))
-fields_stand counts small kinds us text texts e h =
-    let w = record_written text texts in
-    (w.0, fields_written counts small kinds us h.fits h.values w.0 (subst (λ ts. AreBroken ts w.0) (sym e) w.1), w.2)
+pub fields_stand : (counts : Counts) → AreSmall counts → (kind : Kind) (kinds : List Kind) (u : Util) (us : List Util) → (kind ≡ Z → ⊥) → FieldsFit counts (kind ∷ kinds) (u ∷ us)
+    → IsRecordOf counts kind kinds (text_of_lines (record_lines (flat_map field_texts (u ∷ us)))) (u ∷ us)
+fields_stand counts small kind kinds u us used h =
+    let parts = and_parts (util_fits counts.vertices counts.arcs kind u) (utils_fit counts.vertices counts.arcs kinds us) h.fits in
+    let field = field_of counts small kind u used parts.0 (All-head ValueCanBeSaved u us h.values) in
+    let w = record_written field.text (flat_map field_texts us) in
+    subst (λ texts. IsRecordOf counts kind kinds (text_of_lines (record_lines (texts ++ flat_map field_texts us))) (u ∷ us)) (sym field.texts)
+    (w.0, w.1, u, w.4, field.says w.0 w.2, (us, more_written counts small kinds us parts.1 (All-tail ValueCanBeSaved u us h.values) w.1 w.3, refl))
 
-pub graph_written : (g : GraphData) → IsReady g → IsGraphRecord (head_of g) g (text_of_lines (record_lines (graph_texts g)))
+pub graph_written : (g : GraphData) → IsReady g → IsGraphRecord (head_of g) (text_of_lines (record_lines (graph_texts g))) g
 graph_written g h =
-    let w = record_written (quoted g.id) (decimal (length g.vertices) ∷ decimal g.m ∷ flat_map field_texts g.util) in
-    by_texts w.0 w.1 w.2
-  where
-    by_texts : (broken : List (List ℕ)) → AreBroken (graph_texts g) broken → IsRecord broken (text_of_lines (record_lines (graph_texts g))) → IsGraphRecord (head_of g) g (text_of_lines (record_lines (graph_texts g)))
-    by_texts (first ∷ n ∷ m ∷ texts) are stands = record {
-      id = first;
-      n = n;
-      m = m;
-      fields = texts;
-      id_says = string_is_said most_id_bytes g.id h.id.short h.id.printable first are.0;
-      n_says = said_broken (number_of most_number_digits) (decimal (length g.vertices)) (length g.vertices) (number_is_said (length g.vertices) (omega (arith, h.vertices_few))) n are.1.0;
-      m_says = said_broken (number_of most_number_digits) (decimal g.m) g.m (number_is_said g.m h.arcs_few) m are.1.1.0;
-      fields_say = fields_written (head_of g).counts h.small (graph_kinds g.kinds) g.util h.own.fits h.own.values texts are.1.1.1;
-      is_record = stands;
-    }
-    by_texts (first ∷ n ∷ []) are stands = absurd are.1.1
-    by_texts (first ∷ []) are stands = absurd are.1
-    by_texts [] are stands = absurd are
+    let n = length g.vertices in
+    let w = record_written (quoted g.id) (decimal n ∷ decimal g.m ∷ flat_map field_texts g.util) in
+    let a = w.3 in
+    let b = a.5 in
+    let n_says = said_broken (number_of most_number_digits) (decimal n) n (number_is_said n (omega (arith, h.vertices_few))) a.1 a.4 in
+    let m_says = said_broken (number_of most_number_digits) (decimal g.m) g.m (number_is_said g.m h.arcs_few) b.1 b.4 in
+    let fields = more_written (head_of g).counts h.small (graph_kinds g.kinds) g.util h.own.fits h.own.values b.2 b.5 in (
+      w.0,
+      w.1,
+      g.id,
+      w.4,
+      string_is_said most_id_bytes g.id h.id.short h.id.printable w.0 w.2,
+      (a.0, a.1 ++ a.2, tt, a.6, a.3, (a.1, a.2, n, refl, n_says, (b.0, b.1 ++ b.2, tt, b.6, b.3, (b.1, b.2, g.m, refl, m_says, (g.util, fields, refl))))),
+    )
 
 -- records one after another
-pub all_written : {X : Type 0} (text_of : X → List ℕ) (IsOne : X → List ℕ → Type 0) (IsGood : X → Type 0) → ((x : X) → IsGood x → IsOne x (text_of x))
-    → (xs : List X) → All IsGood xs → AreRecords IsOne xs (flat_map text_of xs)
+pub all_written : {X : Type 0} (text_of : X → List ℕ) (IsOne : List ℕ → X → Type 0) (IsGood : X → Type 0) → ((x : X) → IsGood x → IsOne (text_of x) x)
+    → (xs : List X) → All IsGood xs → Each IsOne (flat_map text_of xs) xs
 all_written text_of IsOne IsGood each [] h = refl
 all_written text_of IsOne IsGood each (x ∷ xs) h =
-    (text_of x, flat_map text_of xs, each x (All-head IsGood x xs h), all_written text_of IsOne IsGood each xs (All-tail IsGood x xs h), refl)
+    (text_of x, flat_map text_of xs, refl, each x (All-head IsGood x xs h), all_written text_of IsOne IsGood each xs (All-tail IsGood x xs h))

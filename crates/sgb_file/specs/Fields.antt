@@ -3,6 +3,7 @@ use Rattle.std.specs.Prelude.{ℕ, ◌^◌, ℤ, pos, neg_ℤ, Bool, ◌&&◌, L
 use Rattle.std.specs.List.{list_all}
 use Rattle.std.specs.Str.{bytes_eq}
 use Rattle.std.specs.Str.Parse.{digits_value}
+use Rattle.sgb_text.specs.Given.{given}
 use Rattle.sgb_vec.specs.Names.{is_text_byte}
 use Rattle.sgb_graph.specs.declared.fields.Ref.{Ref}
 use Rattle.sgb_graph.specs.declared.fields.Ref.TheVariants.{Null, One, At}
@@ -19,11 +20,6 @@ most_integer_digits = 20
 pub record Counts : Type 0 where
   pub vertices : ℕ
   pub arcs : ℕ
-
--- what is found by `next`, given what was found first
-abbrev pub given : {X Y : Type 0} → Option X → (X → Option Y) → Option Y
-given None next = None
-given (Some x) next = next x
 
 -- a decimal digit
 abbrev pub is_decimal_digit : ℕ → Bool

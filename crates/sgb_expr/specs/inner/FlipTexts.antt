@@ -1,6 +1,7 @@
 -- Reading what is asked of the random generator.
 use Rattle.std.specs.Prelude.{ℕ, List, [], codes, Result}
-use Rattle.sgb_expr.specs.inner.Readings.{integers_at, read_after, read_as, whole_by}
+use Rattle.sgb_text.proofs.Readings.{read_after, read_as, whole_by}
+use Rattle.sgb_expr.specs.inner.Readings.{integers_at}
 use Rattle.sgb_expr.specs.declared.flips.FlipParams.{FlipParams}
 use Rattle.sgb_expr.specs.FlipTexts.{flip_of}
 

@@ -1,11 +1,12 @@
 -- Texts that are files of no graph, with the code of each.
 use Rattle.std.specs.Prelude.{◌≡◌, [], ◌∷◌, ◌++◌, codes, map, replicate, take, Err, refl}
+use Rattle.sgb_text.proofs.Findings.{all_at}
 use Rattle.sgb_vec.specs.declared.panics.Panic.TheVariants.{Early, Late, Syntax}
 use Rattle.sgb_graph.specs.Graphs.{ends_from, numbers_from}
 use Rattle.sgb_file.specs.FileLines.{lines_among, without_end_spaces, text_of_lines}
 use Rattle.sgb_file.specs.Checksum.{weighted_sum}
 use Rattle.sgb_file.specs.Fields.{unbroken}
-use Rattle.sgb_file.specs.inner.ReadRecords.{more_fields_at, all_at}
+use Rattle.sgb_file.specs.inner.ReadRecords.{more_fields_at}
 use Rattle.sgb_file.specs.inner.ReadFiles.{opening_of, graph_of_text}
 use Rattle.sgb_file.proofs.Examples.GraphFiles.{two_joined_lines, nothing_lines, ring_text}
 

@@ -1,5 +1,6 @@
 -- Texts that are files of a graph.
 use Rattle.std.specs.Prelude.{◌≡◌, ◌^◌, pos, neg_ℤ, [], ◌∷◌, ◌++◌, codes, map, replicate, take, Some, None, Ok, Err, refl}
+use Rattle.sgb_text.proofs.Findings.{all_at}
 use Rattle.sgb_graph.specs.Graphs.{ends_from, numbers_from}
 use Rattle.sgb_graph.specs.Made.{no_fields, no_kinds}
 use Rattle.sgb_graph.specs.declared.fields.Ref.TheVariants.{Null, One, At}
@@ -11,7 +12,7 @@ use Rattle.sgb_file.proofs.RefusedTexts.{early_is, file_from_read}
 use Rattle.sgb_file.specs.FileLines.{lines_among, lines_of_text, without_end_spaces, clean_lines, text_of_lines}
 use Rattle.sgb_file.specs.Checksum.{weighted_sum}
 use Rattle.sgb_file.specs.Fields.{unbroken}
-use Rattle.sgb_file.specs.inner.ReadRecords.{more_fields_at, all_at}
+use Rattle.sgb_file.specs.inner.ReadRecords.{more_fields_at}
 use Rattle.sgb_file.specs.inner.ReadFiles.{opening_of, graph_of_text}
 use Rattle.sgb_file.proofs.Examples.GraphFiles.{plain_vertex, plain_arc, one_cell, one_cell_lines, two_joined, two_joined_lines, nothing, nothing_lines, ring, ring_text}
 

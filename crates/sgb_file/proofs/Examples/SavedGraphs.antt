@@ -4,6 +4,7 @@ use Rattle.std.specs.Fmt.{digits}
 use Rattle.std.proofs.Common.{arith}
 use Rattle.std.proofs.lemmas.List.Elements.{All-nil, All-cons}
 use Rattle.std.proofs.lemmas.List.Sums.{AllPass-from_list_all}
+use Rattle.sgb_text.proofs.Findings.{all_at}
 use Rattle.sgb_vec.specs.Names.{IsText, is_text_byte}
 use Rattle.sgb_vec.specs.declared.panics.Panic.TheVariants.{Early, Syntax}
 use Rattle.sgb_graph.specs.Graphs.{GraphData, ends_from, numbers_from}
@@ -17,7 +18,7 @@ use Rattle.sgb_graph.specs.declared.fields.ArcRec.{ArcRec}
 use Rattle.sgb_file.specs.FileLines.{lines_among, without_end_spaces}
 use Rattle.sgb_file.specs.Checksum.{weighted_sum}
 use Rattle.sgb_file.specs.Fields.{unbroken}
-use Rattle.sgb_file.specs.inner.ReadRecords.{more_fields_at, all_at}
+use Rattle.sgb_file.specs.inner.ReadRecords.{more_fields_at}
 use Rattle.sgb_file.specs.inner.ReadFiles.{opening_of, graph_of_text}
 use Rattle.sgb_file.specs.Saving.{pieces_of, laid_out, text_of_graph}
 use Rattle.sgb_file.specs.Saved.{CanBeSaved, ValueCanBeSaved, VertexCanBeSaved, ArcCanBeSaved}

@@ -1,21 +1,13 @@
 -- The fields of a record, as they are read: how far each one's text goes, and what it says [GB_SAVE, fill_field].
 use Rattle.std.specs.Prelude.{ℕ, ◌&&◌, ◌||◌, List, [], ◌∷◌, length, drop, Option, Some, None, option_map, ◌==◌, if◌then◌else◌}
-use Rattle.std.specs.List.{list_any, before_first, after_first, starts_with}
+use Rattle.std.specs.List.{list_any, before_first, after_first}
+use Rattle.sgb_text.proofs.Findings.{Found, found_as}
 use Rattle.sgb_vec.specs.Limits.{most_bytes}
 use Rattle.sgb_graph.specs.declared.fields.Kind.{Kind}
 use Rattle.sgb_graph.specs.declared.fields.Kind.TheVariants.{Z, I, V, S, A}
 use Rattle.sgb_graph.specs.declared.fields.Util.{Util}
 use Rattle.sgb_graph.specs.declared.fields.Util.TheVariants.{Nothing, Int, Vertex as VertexField, Str, Chain}
 use Rattle.sgb_file.specs.Fields.{Counts, integer_of, record_number_of, ref_of, string_of}
-
--- a value that a text begins with, and the text after it
-pub record Found (X : Type 0) : Type 0 where
-  pub value : X
-  pub rest : List ℕ
-
--- what was found, as another value
-abbrev pub found_as : {X Y : Type 0} → (X → Y) → Option (Found X) → Option (Found Y)
-found_as f found = option_map (λ x. record { value = f x.value; rest = x.rest }) found
 
 -- the string that a text begins with: from a `"` (34) to the next one
 abbrev pub string_at : ℕ → List ℕ → Option (Found (List ℕ))
@@ -42,7 +34,3 @@ field_at counts I text = found_as Int (plain_at integer_of text)
 field_at counts V text = found_as VertexField (plain_at (ref_of counts.vertices) text)
 field_at counts S text = found_as Str (string_at most_bytes text)
 field_at counts A text = found_as Chain (plain_at (record_number_of counts.arcs) text)
-
--- what follows this prefix of a text
-abbrev pub after_prefix : List ℕ → List ℕ → Option (List ℕ)
-after_prefix prefix text = if starts_with (λ b c. b == c) text prefix then Some (drop (length prefix) text) else None

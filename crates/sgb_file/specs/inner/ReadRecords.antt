@@ -1,5 +1,7 @@
 -- The records of a file, as they are read: the graph's, the vertices' and the arcs' [GB_SAVE, restore_graph].
-use Rattle.std.specs.Prelude.{ℕ, zero, suc, List, [], ◌∷◌, codes, Option, Some, None, option_map, unwrap_or, ◌==◌, if◌then◌else◌}
+use Rattle.std.specs.Prelude.{ℕ, List, [], ◌∷◌, codes, Option, Some, None, option_map, unwrap_or, ◌==◌, if◌then◌else◌}
+use Rattle.sgb_text.proofs.Findings.{Found, found_as, after_prefix, all_at}
+use Rattle.sgb_text.specs.Given.{given}
 use Rattle.sgb_graph.specs.Graphs.{GraphData}
 use Rattle.sgb_graph.specs.Ids.{most_id_bytes}
 use Rattle.sgb_graph.specs.Sound.{vertex_kinds, arc_kinds, graph_kinds}
@@ -9,8 +11,8 @@ use Rattle.sgb_graph.specs.declared.fields.Util.{Util}
 use Rattle.sgb_graph.specs.declared.fields.Util.TheVariants.{Nothing, Int, Vertex as VertexField, Str, Chain}
 use Rattle.sgb_graph.specs.declared.fields.Vertex.{Vertex}
 use Rattle.sgb_graph.specs.declared.fields.ArcRec.{ArcRec}
-use Rattle.sgb_file.specs.Fields.{Counts, given, number_of, most_number_digits}
-use Rattle.sgb_file.specs.inner.ReadFields.{Found, found_as, string_at, plain_at, field_at, after_prefix}
+use Rattle.sgb_file.specs.Fields.{Counts, number_of, most_number_digits}
+use Rattle.sgb_file.specs.inner.ReadFields.{string_at, plain_at, field_at}
 use Rattle.sgb_file.specs.Files.{Head}
 
 -- what follows a comma; the line may end after it, and the record then goes on with the next line
@@ -71,13 +73,6 @@ abbrev pub arc_record_at : Head → List ℕ → Option (Found ArcRec)
 arc_record_at head text =
     given (record_at head.counts V (A ∷ I ∷ arc_kinds head.kinds) text) (λ fields.
     option_map (λ r. record { value = r; rest = fields.rest }) (arc_of_fields fields.value))
-
--- so many records, one after another
-unfoldable pub all_at : {X : Type 0} → (List ℕ → Option (Found X)) → ℕ → List ℕ → Option (Found (List X))
-all_at one_at zero text = Some (record { value = []; rest = text })
-all_at one_at (suc n) text =
-    given (one_at text) (λ first.
-    found_as (λ others. first.value ∷ others) (all_at one_at n first.rest))
 
 -- what the file's records say, from the graph's to the last arc's
 abbrev pub records_at : Head → List ℕ → Option (Found GraphData)

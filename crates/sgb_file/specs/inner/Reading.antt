@@ -1,5 +1,7 @@
 -- Parts with the vertices or the arc records that a text begins with.
 use Rattle.std.specs.Prelude.{◌≡◌, ◌++◌, ℕ, List, [], ◌∷◌, codes, Option, Some, option_map}
+use Rattle.sgb_text.proofs.Findings.{Found, after_prefix, found_as, all_at}
+use Rattle.sgb_text.specs.Given.{given}
 use Rattle.sgb_graph.specs.Graphs.{GraphData}
 use Rattle.sgb_graph.specs.Parts.{with_record, with_vertex}
 use Rattle.sgb_graph.specs.Sound.{vertex_kinds}
@@ -7,10 +9,10 @@ use Rattle.sgb_graph.specs.declared.fields.Kind.{Kind}
 use Rattle.sgb_graph.specs.declared.fields.Kind.TheVariants.{I, V, S, A}
 use Rattle.sgb_graph.specs.declared.fields.Vertex.{Vertex}
 use Rattle.sgb_graph.specs.declared.fields.ArcRec.{ArcRec}
-use Rattle.sgb_file.specs.Fields.{Counts, given}
-use Rattle.sgb_file.specs.inner.ReadFields.{Found, after_prefix, field_at, found_as}
+use Rattle.sgb_file.specs.Fields.{Counts}
+use Rattle.sgb_file.specs.inner.ReadFields.{field_at}
 use Rattle.sgb_file.specs.Files.{Head}
-use Rattle.sgb_file.specs.inner.ReadRecords.{all_at, arc_of_fields, arc_record_at, more_fields_at, vertex_of_fields, vertex_record_at}
+use Rattle.sgb_file.specs.inner.ReadRecords.{arc_of_fields, arc_record_at, more_fields_at, vertex_of_fields, vertex_record_at}
 use Rattle.sgb_file.specs.inner.Found.{next_field_at}
 
 -- the parts with these vertices, or these arc records, after those that they have

@@ -1,6 +1,6 @@
 //! What stands between the fields of a record, and at its end (GB_SAVE, fill_field, finish_record).
 ghost use Rattle.std.specs.Prelude.{◌≡◌, ◌≢◌, ◌∷◌, [], codes, is_some, unwrap_or};
-ghost use Rattle.sgb_file.specs.inner.ReadFields.{after_prefix};
+ghost use Rattle.sgb_text.proofs.Findings.{after_prefix};
 ghost use Rattle.sgb_file.specs.inner.Found.{IsPassedBy};
 ghost use Rattle.sgb_file.specs.inner.LinesLeft.{text_left};
 ghost use Rattle.sgb_file.specs.inner.ReadRecords.{after_comma};

@@ -3,7 +3,7 @@ use Rattle.sgb_expr.specs.Expression.{expression_of}
 use Rattle.sgb_expr.specs.inner.Gives.{Fails}
 use Rattle.sgb_expr.specs.inner.Reading.{whole_at}
 use Rattle.sgb_expr.specs.declared.wrong.Wrong.{Wrong}
-use Rattle.sgb_expr.proofs.Readers.{ok_same}
+use Rattle.sgb_text.proofs.Readers.{ok_same}
 use Rattle.sgb_expr.proofs.WholeReading.{whole_read, whole_again, whole_wrong}
 use Rattle.sgb_expr.proofs.expressions.read_expr.Goals as goal
 

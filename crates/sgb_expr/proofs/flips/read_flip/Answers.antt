@@ -1,7 +1,7 @@
 use Rattle.std.proofs.Common.{sym, ◌∙◌}
-use Rattle.sgb_expr.proofs.Readers.{ok_same}
+use Rattle.sgb_text.proofs.Readers.{ok_same}
 use Rattle.sgb_expr.proofs.FlipReading.{reads_flip}
-use Rattle.sgb_expr.proofs.WholeWords.{goes_wrong, whole_word, word_whole}
+use Rattle.sgb_text.proofs.WholeWords.{goes_wrong, whole_word, word_whole}
 use Rattle.sgb_expr.proofs.flips.read_flip.Goals as goal
 
 pub overflow_sub-result : goal.overflow_sub-result

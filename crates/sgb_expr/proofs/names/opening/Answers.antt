@@ -1,5 +1,5 @@
 use Rattle.std.proofs.Common.{◌≡◌, ℕ, arith, min, ap, ◌∙◌, ◌+◌, Err}
-use Rattle.sgb_expr.specs.inner.Readings.{word_at, either}
+use Rattle.sgb_text.proofs.Readings.{word_at, either}
 use Rattle.sgb_expr.proofs.NameOpenings.{openings_all, openings_from, name_passed, name_found, names_end}
 use Rattle.sgb_expr.proofs.names.opening.Goals as goal
 

@@ -1,7 +1,7 @@
 use Rattle.std.proofs.Common.{◌≡◌, ◌≤◌, length, drop, map, Err}
 use Rattle.sgb_expr.specs.Names.{name_opening}
 use Rattle.sgb_expr.specs.inner.Names.{all_names, openings}
-use Rattle.sgb_expr.specs.inner.Readings.{either, word_at}
+use Rattle.sgb_text.proofs.Readings.{either, word_at}
 use Rattle.sgb_expr.proofs.names.opening.Given as goal
 
 abbrev pub invariant-loop-name : goal.invariant-loop-name

@@ -1,6 +1,6 @@
 use Rattle.std.proofs.Common.{◌≡◌, ◌-◌, ℕ, List, length, drop, Ok, Err, sym, ◌∙◌, ap, arith, length-drop}
 use Rattle.std.proofs.lemmas.List.{take_all}
-use Rattle.sgb_expr.proofs.Words.{fixed_parts, fixed_reads}
+use Rattle.sgb_text.proofs.Words.{fixed_parts, fixed_reads}
 use Rattle.sgb_expr.proofs.numbers.fixed.Goals as goal
 
 pub returns-then-same-bytes : goal.returns-then-same-bytes

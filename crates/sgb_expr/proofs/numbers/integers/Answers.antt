@@ -1,7 +1,7 @@
 use Rattle.std.proofs.Common.{◌≡◌, arith, rules, length-set, to_z, of_z, w64, ◌∙◌, ◌^◌}
 use Rattle.std.proofs.lemmas.Result.{err_from_is_err_and}
 use Rattle.sgb_expr.specs.inner.Readings.{integer_at}
-use Rattle.sgb_expr.proofs.Readers.{bind_of, bind_stops}
+use Rattle.sgb_text.proofs.Readers.{bind_of, bind_stops}
 use Rattle.sgb_expr.proofs.IntegerLists.{place_wrong, place_read, place_small, all_read, all_wrong}
 use Rattle.sgb_expr.proofs.numbers.integers.Goals as goal
 

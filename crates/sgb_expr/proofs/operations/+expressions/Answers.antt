@@ -8,10 +8,10 @@ use Rattle.sgb_expr.specs.declared.entries.EntryExpr.{EntryExpr}
 use Rattle.sgb_expr.specs.inner.Reading.{entry_at, expression_at}
 use Rattle.sgb_expr.specs.inner.Gives.{Fails}
 use Rattle.sgb_expr.specs.declared.wrong.Wrong.TheVariants.{Left}
-use Rattle.sgb_expr.proofs.Readers.{bind_of, bind_stops}
+use Rattle.sgb_text.proofs.Readers.{bind_of, bind_stops}
 use Rattle.sgb_expr.proofs.EntryLists.{entries_end, entries_wrong, entry_kept, separator_counts}
 use Rattle.sgb_expr.proofs.EntryReaders.{entry_no_longer}
-use Rattle.sgb_expr.proofs.Lengths.{fixed_takes}
+use Rattle.sgb_text.proofs.Lengths.{fixed_takes}
 use Rattle.sgb_expr.proofs.Nesting.{expression_no_longer, name_read, name_wrong, opening_shorter}
 use Rattle.sgb_expr.proofs.operations.+expressions.Goals as goal
 

@@ -1,8 +1,8 @@
 use Rattle.std.proofs.Common.{refl, sym, subst, ◌∙◌, Option, length-set, Err, rules, w64}
 use Rattle.std.proofs.lemmas.Int.{to_z-of_z}
 use Rattle.std.proofs.lemmas.Result.{err_from_is_err_and}
+use Rattle.sgb_text.proofs.Findings.{Found}
 use Rattle.sgb_graph.specs.declared.fields.Util.{Util}
-use Rattle.sgb_file.specs.inner.ReadFields.{Found}
 use Rattle.sgb_file.specs.inner.Found.{IsFoundBy}
 use Rattle.sgb_file.specs.inner.LinesLeft.{text_left}
 use Rattle.sgb_file.proofs.FoundSteps.{end_read, end_stops, int_read, int_stops, none_read, one_read, one_stops, one_unused, used_at}

@@ -1,7 +1,7 @@
 use Rattle.std.proofs.Common.{sym, ap, subst, ◌∙◌, ◌<◌, Option, Err, arith}
 use Rattle.std.proofs.lemmas.Result.{err_from_is_err_and}
+use Rattle.sgb_text.proofs.Findings.{Found}
 use Rattle.sgb_graph.specs.declared.fields.Vertex.{Vertex}
-use Rattle.sgb_file.specs.inner.ReadFields.{Found}
 use Rattle.sgb_file.specs.inner.Found.{IsFoundBy}
 use Rattle.sgb_file.specs.inner.LinesLeft.{text_left}
 use Rattle.sgb_file.specs.inner.ReadRecords.{vertex_record_at}

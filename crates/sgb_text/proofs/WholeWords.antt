@@ -1,11 +1,11 @@
 -- Whole texts read as words: what is read, and where a text goes wrong.
 use Rattle.std.proofs.Common.{◌≡◌, ◌≤◌, ◌<◌, ◌-◌, ◌+◌, ℕ, List, [], ◌∷◌, ◌++◌, length, take, Ok, Err, refl, sym, ◌∙◌, ap, subst, append_assoc, append-nil, arith, length-append, zero, suc, inl, inr}
 use Rattle.std.proofs.Math.Seq.{take-append_seam}
-use Rattle.sgb_expr.specs.Languages.{Begins, IsLongestPrefixOf, IsNoWord}
-use Rattle.sgb_expr.specs.inner.Readings.{at_end, whole_by}
-use Rattle.sgb_expr.proofs.Lengths.{Language, Reader}
-use Rattle.sgb_expr.proofs.Readers.{Reads, next, Stops, bind_ok, bind_err, bind_of, no_ok, ok_same, stops_within, stops_after, word_again}
-use Rattle.sgb_expr.proofs.Words.{err_same}
+use Rattle.sgb_text.specs.Languages.{Begins, IsLongestPrefixOf, IsNoWord}
+use Rattle.sgb_text.proofs.Readings.{at_end, whole_by}
+use Rattle.sgb_text.proofs.Lengths.{Language, Reader}
+use Rattle.sgb_text.proofs.Readers.{Reads, next, Stops, bind_ok, bind_err, bind_of, no_ok, ok_same, stops_within, stops_after, word_again}
+use Rattle.sgb_text.proofs.Words.{err_same}
 
 -- nothing is left after the word
 end_ok : {V : Type 0} (v w : V) (rest : List ℕ) → at_end v rest ≡ Ok w → (rest ≡ []) × (v ≡ w)

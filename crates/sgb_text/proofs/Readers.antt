@@ -2,8 +2,12 @@
 -- another, and one or the other.
 use Rattle.std.proofs.Common.{◌≡◌, ℕ, ◌≤◌, ◌⊎◌, List, [], ◌∷◌, ◌++◌, length, min, Option, Some, None, Result, Ok, Err, refl, sym, ◌∙◌, ap, subst, inl, inr, append_assoc, append-nil, arith, length-append}
 use Rattle.std.proofs.lemmas.Bool.{cases_lt}
-use Rattle.sgb_expr.specs.Languages.{Begins, Then, As, Or}
-use Rattle.sgb_expr.specs.inner.Readings.{◌>>=◌, then_read, read_as, either}
+use Rattle.sgb_text.specs.Languages.{Begins, Cons, Then, As, Or}
+use Rattle.sgb_text.proofs.Readings.{◌>>=◌, then_read, read_as, either}
+
+-- anything
+abbrev pub Anything : List ℕ → Type 0
+Anything text = Unit {0}
 
 -- the first byte of a text
 abbrev pub next : List ℕ → Option ℕ
@@ -11,7 +15,7 @@ next [] = None
 next (byte ∷ text) = Some byte
 
 -- a value was found: the text begins with a word of it, and what comes after the word counts by its first byte alone
-pub record Found {V : Type 0} (Word : List ℕ → V → Type 0) (read : List ℕ → Result (V × List ℕ) ℕ) (text : List ℕ) (value : V) (rest : List ℕ) : Type 0 where
+pub record IsFound {V : Type 0} (Word : List ℕ → V → Type 0) (read : List ℕ → Result (V × List ℕ) ℕ) (text : List ℕ) (value : V) (rest : List ℕ) : Type 0 where
   pub word : List ℕ
   pub whole : text ≡ word ++ rest
   pub is : Word word value
@@ -32,7 +36,7 @@ pub record Wrong {V : Type 0} (Word : List ℕ → V → Type 0) (read : List �
 
 -- a reader of the words, which finds each again before what may follow
 pub record Reads {V : Type 0} (Word : List ℕ → V → Type 0) (Tail : List ℕ → Type 0) (read : List ℕ → Result (V × List ℕ) ℕ) : Type 0 where
-  pub found : (text : List ℕ) (value : V) (rest : List ℕ) → read text ≡ Ok (value, rest) → Found Word read text value rest
+  pub found : (text : List ℕ) (value : V) (rest : List ℕ) → read text ≡ Ok (value, rest) → IsFound Word read text value rest
   pub wrong : (text : List ℕ) (left : ℕ) → read text ≡ Err left → Wrong Word read text left
   pub again : (word tail : List ℕ) (value : V) → Word word value → Tail tail → read (word ++ tail) ≡ Ok (value, tail)
   pub some : (word : List ℕ) × (value : V) × Word word value
@@ -93,8 +97,8 @@ cut_after word text rest left whole c = record {
 
 -- what the second finds after the first
 then_found : {V W : Type 0} (First : List ℕ → V → Type 0) (Second : V → List ℕ → W → Type 0) (first : List ℕ → Result (V × List ℕ) ℕ) (second : V → List ℕ → Result (W × List ℕ) ℕ)
-    (text rest remaining : List ℕ) (v : V) (w : W) → Found First first text v rest → Found (Second v) (second v) rest w remaining
-    → Found (Then First Second) (then_read first second) text w remaining
+    (text rest remaining : List ℕ) (v : V) (w : W) → IsFound First first text v rest → IsFound (Second v) (second v) rest w remaining
+    → IsFound (Then First Second) (then_read first second) text w remaining
 then_found First Second first second text rest remaining v w f g = record {
   word = f.word ++ g.word;
   whole = f.whole ∙ ap (λ u. f.word ++ u) g.whole ∙ sym (append_assoc f.word g.word remaining);
@@ -108,7 +112,7 @@ then_found First Second first second text rest remaining v w f g = record {
 
 -- where the second stops after the first
 then_wrong : {V W : Type 0} (First : List ℕ → V → Type 0) (Second : V → List ℕ → W → Type 0) (first : List ℕ → Result (V × List ℕ) ℕ) (second : V → List ℕ → Result (W × List ℕ) ℕ)
-    (text rest : List ℕ) (left : ℕ) (v : V) → Found First first text v rest → Wrong (Second v) (second v) rest left
+    (text rest : List ℕ) (left : ℕ) (v : V) → IsFound First first text v rest → Wrong (Second v) (second v) rest left
     → Wrong (Then First Second) (then_read first second) text left
 then_wrong First Second first second text rest left v f g = record {
   cut = cut_after f.word text rest left f.whole g.cut;
@@ -182,6 +186,12 @@ reads_as {V} {W} f {Word} {Tail} {read} r = record {
       ∙ ap (λ (u : W). Ok (u, tail)) (sym is.2);
   some = let a = r.some in (a.0, f a.1, (a.1, a.2, refl));
 }
+
+-- a value and others after it
+pub reads_cons : {V : Type 0} {First : List ℕ → V → Type 0} {Others : List ℕ → List V → Type 0} {Tail After : List ℕ → Type 0} {first : List ℕ → Result (V × List ℕ) ℕ} {others : List ℕ → Result (List V × List ℕ) ℕ}
+    → Reads First Tail first → Reads Others After others → ((word tail : List ℕ) (values : List V) → Others word values → After tail → Tail (word ++ tail))
+    → Reads (Cons First Others) After (then_read first (λ value. read_as (λ values. value ∷ values) others))
+reads_cons {V} f g follows = reads_then f (λ value. reads_as (λ (values : List V). value ∷ values) g) (λ value word tail values w t. follows word tail w.0 w.1 t)
 
 -- two cuts of one text, the first no longer than the second
 pub cut_in : (a u b v : List ℕ) → a ++ u ≡ b ++ v → length v ≤ length u → (x : List ℕ) × (b ≡ a ++ x) × (u ≡ x ++ v)

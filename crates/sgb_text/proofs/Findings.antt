@@ -1,4 +1,4 @@
--- What stands behind a result of readers one after another: what each of them found.
+-- What is found at the beginning of a text, where something is: a value, and the text after it.
 use Rattle.std.specs.Prelude.{◌≡◌, ◌==◌, ◌++◌, ℕ, zero, suc, List, [], ◌∷◌, length, take, drop, Bool, true, false, Option, Some, None, option_map, if◌then◌else◌, refl}
 use Rattle.std.specs.List.{starts_with}
 use Rattle.std.proofs.Common.{ap, sym, ◌∙◌, ◌⊎◌, inl, inr}
@@ -7,8 +7,27 @@ use Rattle.std.proofs.lemmas.Bool.{and_from}
 use Rattle.std.proofs.lemmas.Bool.Decides.{Decides-eqb}
 use Rattle.std.proofs.lemmas.List.{take-append-drop}
 use Rattle.std.proofs.lemmas.Slice.Eq.{bytes_eq-Decides}
-use Rattle.sgb_file.specs.Fields.{given}
-use Rattle.sgb_file.specs.inner.ReadFields.{after_prefix}
+use Rattle.sgb_text.specs.Given.{given}
+
+-- a value that a text begins with, and the text after it
+pub record Found (X : Type 0) : Type 0 where
+  pub value : X
+  pub rest : List ℕ
+
+-- what was found, as another value
+abbrev pub found_as : {X Y : Type 0} → (X → Y) → Option (Found X) → Option (Found Y)
+found_as f found = option_map (λ x. record { value = f x.value; rest = x.rest }) found
+
+-- what follows this prefix of a text
+abbrev pub after_prefix : List ℕ → List ℕ → Option (List ℕ)
+after_prefix prefix text = if starts_with (λ b c. b == c) text prefix then Some (drop (length prefix) text) else None
+
+-- so many values, one after another
+unfoldable pub all_at : {X : Type 0} → (List ℕ → Option (Found X)) → ℕ → List ℕ → Option (Found (List X))
+all_at one_at zero text = Some (record { value = []; rest = text })
+all_at one_at (suc n) text =
+    given (one_at text) (λ first.
+    found_as (λ others. first.value ∷ others) (all_at one_at n first.rest))
 
 -- what was given, and what was made of it
 pub record WasGiven {X Y : Type 0} (o : Option X) (next : X → Option Y) (y : Y) : Type 0 where

@@ -1,8 +1,8 @@
 -- How much readers leave of a text.
 use Rattle.std.proofs.Common.{◌≡◌, ◌≤◌, ◌+◌, ℕ, List, length, inl, inr, Result, Ok, Err, refl, sym, ◌∙◌, ap, arith, length-append}
-use Rattle.sgb_expr.specs.inner.Readings.{◌>>=◌, fixed_at}
-use Rattle.sgb_expr.proofs.Readers.{Reads, no_ok, ok_same}
-use Rattle.sgb_expr.proofs.Words.{fixed_cases}
+use Rattle.sgb_text.proofs.Readings.{◌>>=◌, fixed_at}
+use Rattle.sgb_text.proofs.Readers.{Reads, no_ok, ok_same}
+use Rattle.sgb_text.proofs.Words.{fixed_cases}
 
 -- texts as words of values, and readers of values
 abbrev pub Language : Type 0 → Type 1

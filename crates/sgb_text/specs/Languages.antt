@@ -1,5 +1,5 @@
 -- Languages: which texts are words, and of which values; words one after another; where texts go wrong.
-use Rattle.std.specs.Prelude.{◌≡◌, ◌≤◌, ◌<◌, ◌⊎◌, ℕ, List, ◌++◌, length, take}
+use Rattle.std.specs.Prelude.{◌≡◌, ◌≤◌, ◌<◌, ◌⊎◌, ℕ, List, [], ◌∷◌, ◌++◌, length, take, Option, Some}
 
 -- a word of the first language and then one of the second, which may depend on the first's value
 abbrev pub Then : {V W : Type 0} → (List ℕ → V → Type 0) → (V → List ℕ → W → Type 0) → List ℕ → W → Type 0
@@ -12,6 +12,23 @@ After bytes Word word value = (rest : List ℕ) × (word ≡ bytes ++ rest) × W
 -- words of the function's values
 abbrev pub As : {V W : Type 0} → (V → W) → (List ℕ → V → Type 0) → List ℕ → W → Type 0
 As {V} f Word word value = (v : V) × Word word v × (value ≡ f v)
+
+-- a word of a list's first value, and then one of its others
+abbrev pub Cons : {V : Type 0} → (List ℕ → V → Type 0) → (List ℕ → List V → Type 0) → List ℕ → List V → Type 0
+Cons First Others = Then First (λ value. As (λ values. value ∷ values) Others)
+
+-- a word of each value of a list, one after another
+abbrev pub Each : {V : Type 0} → (List ℕ → V → Type 0) → List ℕ → List V → Type 0
+Each Word text [] = text ≡ []
+Each Word text (value ∷ values) = (a b : List ℕ) × (text ≡ a ++ b) × Word a value × Each Word b values
+
+-- the one word of this value
+abbrev pub Fixed : {V : Type 0} → V → List ℕ → List ℕ → V → Type 0
+Fixed value bytes word v = (word ≡ bytes) × (v ≡ value)
+
+-- texts that say a value by this function
+abbrev pub Says : {V : Type 0} → (List ℕ → Option V) → List ℕ → V → Type 0
+Says f text value = f text ≡ Some value
 
 -- a word of either language
 abbrev pub Or : {V : Type 0} → (List ℕ → V → Type 0) → (List ℕ → V → Type 0) → List ℕ → V → Type 0

@@ -4,9 +4,9 @@ use Rattle.std.proofs.Math.Path.{fun_ext}
 use Rattle.std.specs.List.{common_prefix_len}
 use Rattle.std.proofs.lemmas.Bool.Decides.{eqb_tells}
 use Rattle.std.proofs.lemmas.Bool.{and_parts, eq-eqb}
-use Rattle.sgb_expr.specs.Languages.{After}
-use Rattle.sgb_expr.specs.inner.Readings.{◌>>=◌, either, fixed_at, fixed_as, read_after, word_at}
-use Rattle.sgb_expr.proofs.Readers.{next, Cut, Reads, bind_of, bind_stops, cut_after, no_ok, ok_same, either_wrong, reads_is, reads_or, reads_then}
+use Rattle.sgb_text.specs.Languages.{After, Fixed}
+use Rattle.sgb_text.proofs.Readings.{◌>>=◌, either, fixed_at, fixed_as, read_after, word_at}
+use Rattle.sgb_text.proofs.Readers.{Anything, next, Cut, Reads, bind_of, bind_stops, cut_after, no_ok, ok_same, either_wrong, reads_is, reads_or, reads_then}
 
 -- a byte read again
 fixed_step : (byte : ℕ) (bytes text : List ℕ) → fixed_at (byte ∷ bytes) (byte ∷ text) ≡ fixed_at bytes text
@@ -73,14 +73,6 @@ fixed_stops [] more (other ∷ bad) byte h = elim (eqb_tells byte other) [
   | inr e ↦ fixed_other byte other more bad e.0
 ]
 fixed_stops (c ∷ good) more bad byte h = fixed_step c (good ++ byte ∷ more) (good ++ bad) ∙ fixed_stops good more bad byte h
-
--- the text of this value
-abbrev pub Fixed : {V : Type 0} → V → List ℕ → List ℕ → V → Type 0
-Fixed value bytes word v = (word ≡ bytes) × (v ≡ value)
-
--- anything
-abbrev pub Anything : List ℕ → Type 0
-Anything text = Unit {0}
 
 -- two places of one reading
 pub err_same : {A : Type 0} (m n : ℕ) → ◌≡◌ {A = Result A ℕ} (Err m) (Err n) → m ≡ n
