@@ -36,6 +36,11 @@ pub trait Listed<'a> {
         ensures count { IfOk result (λ m. m ≡ (graph_described (described_by (graph self.now))).m) }
         ensures memory { IsOkUnless result Panic.NoRoom };
 
+    /// Makes what all lists have in common, where there is memory for it: they are then made faster. A listing calls it once,
+    /// before its first list. The memory is from where that of the links comes.
+    fn prepare(&mut self, links: &Links)
+        ensures { graph self.new ≡ graph self.old };
+
     /// Puts the arcs of the vertex of `x` into `links`, in the order of its list in the graph.
     ///
     /// `NoRoom` when out of memory, and nothing else.
@@ -77,6 +82,10 @@ impl<'a> Listed<'a> for BoardLists<'a> {
         self.board.arcs_count()
     }
 
+    fn prepare(&mut self, links: &Links) {
+        BoardLists::prepare(self, links)
+    }
+
     fn arcs_at(&mut self, x: &[u32], links: &mut Links) -> Result<(), Panic> {
         BoardLists::arcs_at(self, x, links)
     }
@@ -107,6 +116,8 @@ impl<'a> Listed<'a> for &'a Simplex {
         (**self).arcs_count(links)
     }
 
+    fn prepare(&mut self, _links: &Links) {}
+
     fn arcs_at(&mut self, x: &[u32], links: &mut Links) -> Result<(), Panic> {
         (**self).arcs_at(x, links)
     }
@@ -136,6 +147,8 @@ impl<'a> Listed<'a> for &'a Subsets {
     fn arcs_count(&self, _links: &Links) -> Result<u128, Panic> {
         Ok((**self).arcs_count())
     }
+
+    fn prepare(&mut self, _links: &Links) {}
 
     fn arcs_at(&mut self, x: &[u32], links: &mut Links) -> Result<(), Panic> {
         (**self).arcs_at(x, links)

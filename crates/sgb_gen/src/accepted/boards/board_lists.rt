@@ -60,18 +60,9 @@ impl Board {
     pub fn lists(&self, links: &Links) -> BoardLists<'_>
         ensures { result ≡ self.now }
     {
-        let table = DisplacementTable::new(links.alloc(), self.family.dims(), self.displacements());
-        let straight = lead_onward(self.wrap, &table);
-        let leaping = self.is_leaping(&table);
-        let widest = widest_of(&table);
-        BoardLists {
-            board: self,
-            table,
-            straight,
-            leaping,
-            widest,
-            there: Vector::new(),
-        }
+        let mut lists = BoardLists::new(self);
+        lists.prepare(links);
+        lists
     }
 
     // Puts the arcs of `x` behind the others, as `push_listed` does, where the displacements are in a table: from the last
@@ -103,6 +94,38 @@ impl Board {
 }
 
 impl<'a> BoardLists<'a> {
+    /// The board, to list its vertices one after another, with no table of its displacements yet: without one each list is
+    /// made by a walk over them. No memory is taken.
+    pub fn new(board: &'a Board) -> BoardLists<'a>
+        ensures { result ≡ board.now }
+    {
+        BoardLists {
+            board,
+            table: None,
+            straight: false,
+            leaping: false,
+            widest: 0,
+            there: Vector::new(),
+        }
+    }
+
+    /// Makes the table that is kept, once before the first list: the lists are then made faster. It takes memory from where
+    /// that of the links comes; where it would be large, or there is no memory, there is none.
+    pub fn prepare(&mut self, links: &Links)
+        ensures { self.new ≡ self.old }
+    {
+        let board = self.board;
+        let table = DisplacementTable::new(
+            links.alloc(),
+            board.family.dims(),
+            board.displacements(),
+        );
+        self.straight = lead_onward(board.wrap, &table);
+        self.leaping = board.is_leaping(&table);
+        self.widest = widest_of(&table);
+        self.table = table;
+    }
+
     /// Puts the arcs of the vertex of `x` into `links`, in the order of its list in the board's graph: from the
     /// vector alone, by undoing displacements (GB_BASIC, board). What `links` held before is dropped.
     ///
