@@ -16,6 +16,8 @@ mod locals;
 mod program;
 // A request answered.
 mod runs;
+// What is done with a generator's graph, whichever generator it is of.
+mod visits;
 // Names, listings, files and random numbers, written to a sink.
 mod writing;
 
@@ -28,5 +30,6 @@ pub use program::{run_program, unread_fault};
 pub use runs::run;
 pub use sgb_expr::Expr;
 pub use sgb_requests::{Fault, Request, parse_expr, report, request, status};
+pub use visits::{Visit, Visitor};
 pub use writing::families::list_family;
 pub use writing::write_bytes;

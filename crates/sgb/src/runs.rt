@@ -19,11 +19,11 @@ ghost use Rattle.sgb.specs.Writing.{IsEnded};
 
 use crate::answers::{Answer, run_answer};
 use crate::evaluation::{graph_from, queen_moves};
-use crate::locals::{Local, local_of};
+use crate::locals::local_of;
 use crate::writing::files::write_file;
 use crate::writing::flips::write_flip;
 use crate::writing::listing::{write_listing, write_titled_listing};
-use crate::writing::names::write_names;
+use crate::writing::names::NamesAnswer;
 use crate::writing::resumed::list_resumed;
 use crate::writing::vertices::write_vertex_names;
 use sgb_expr::{Expr, Generator};
@@ -150,11 +150,8 @@ fn answer_generator_names<W: Sink>(
     ensures certain { HasNamesAtOnce generator.now
         → IfErr result (λ f. f ≢ Fault.Panic NoRoom) }
 {
-    match local_of(alloc, generator)? {
-        Local::Board(board) => write_names(board.family(), resume, out),
-        Local::Simplex(simplex) => write_names(simplex.family(), resume, out),
-        Local::Subsets(subsets) => write_names(subsets.family(), resume, out),
-    }
+    let local = local_of(alloc, generator)?;
+    local.visit(NamesAnswer { resume }, out)
 }
 
 // Writes the listing of an expression's graph.

@@ -13,9 +13,6 @@ use Rattle.sgb_gen.proofs.RisingVectors.{vertex_in_rising}
 use Rattle.sgb_gen.specs.LocalLists.{LocalArc, list_in}
 use Rattle.sgb_graph.specs.Graphs.{GraphData, chain_of}
 use Rattle.sgb_graph.specs.Made.{graph_described}
-use Rattle.sgb.specs.Locals.{vectors_of}
-use Rattle.sgb.specs.Values.{described, vector_graph_of}
-use Rattle.sgb.specs.declared.locals.Local.{Local}
 use Rattle.sgb.proofs.LocalListings.{first_in_drop, named_by_members}
 use Rattle.sgb.proofs.LocalChains.{SayList, chain_said}
 use Rattle.sgb.proofs.NamedMembers.{rest_from}
@@ -34,11 +31,6 @@ vertices_are_members g members same =
 -- the first of the members from a place on stands there
 pub first_from : (members left : List (List ℕ)) (place : ℕ) (x : List ℕ) → left ≡ drop place members → slice_get left 0 ≡ Some x → slice_get members place ≡ Some x
 first_from members left place x from first = sym (first_in_drop place members) ∙ ap (λ ms. slice_get ms 0) (sym from) ∙ first
-
--- its size is theirs
-pub size_of_local : (now l : Local) (members : List (List ℕ)) (size : ℕ) → now ≡ l → members ≡ vectors_of l → size ≡ length members → size ≡ length (graph_described (described now)).vertices
-size_of_local now l members size is same all =
-    all ∙ sym (vertices_are_members (vector_graph_of l) members same) ∙ ap (λ m. length (graph_described (described m)).vertices) (sym is)
 
 -- the members after the one before a place are those from there on
 pub rest_from_place : (members : List (List ℕ)) → IsRising members → (place : ℕ) (x y : List ℕ) (found : Bool) (r : Option (List (List ℕ))) (rest : List (List ℕ))
@@ -107,17 +99,16 @@ name_is_there members place x there =
     sym (get_or-map name_of_vector members place x [] (slice_get_within members place x there) ∙ ap name_of_vector (get_or_from_slice_get members place x x there))
 
 -- the names of members are those of the vertices
-pub names_of_chunk : (now l : Local) (members : List (List ℕ)) (first count : ℕ) (begins text : List ℕ) → now ≡ l → members ≡ vectors_of l
+pub names_of_chunk : (g : VectorGraph) (members : List (List ℕ)) (first count : ℕ) (begins text : List ℕ) → members ≡ g.vectors
     → (first + count ≤ length members) × (begins ≡ chunk_starts (name_there members) first count) × (text ≡ chunk_of (name_there members) first count)
-    → IsThere (graph_described (described now)) first count × AreChunkNames (graph_described (described now)) first count begins text
-names_of_chunk now l members first count begins text is same (within, starts, bytes) =
-    subst (λ m. IsThere (graph_described (described m)) first count × AreChunkNames (graph_described (described m)) first count begins text) (sym is) (
-      omega (arith, vertices_are_members (vector_graph_of l) members same, within),
-      record {
-        starts = starts ∙ ap (λ names. chunk_starts (λ v. slice_index_or names v []) first count) (sym (named_by_members (vector_graph_of l) members same));
-        bytes = bytes ∙ ap (λ names. chunk_of (λ v. slice_index_or names v []) first count) (sym (named_by_members (vector_graph_of l) members same));
-      },
-    )
+    → IsThere (graph_described (described_by g)) first count × AreChunkNames (graph_described (described_by g)) first count begins text
+names_of_chunk g members first count begins text same (within, starts, bytes) = (
+  omega (arith, vertices_are_members g members same, within),
+  record {
+    starts = starts ∙ ap (λ names. chunk_starts (λ v. slice_index_or names v []) first count) (sym (named_by_members g members same));
+    bytes = bytes ∙ ap (λ names. chunk_of (λ v. slice_index_or names v []) first count) (sym (named_by_members g members same));
+  },
+)
 
 -- a chunk of members that is not there is none of the graph
 pub chunk_refused : (g : GraphData) (n first count : ℕ) (why : Fault) → length g.vertices ≡ n
@@ -126,16 +117,15 @@ chunk_refused g n first count why size (inl (e, out)) = inl (e, λ there. out (o
 chunk_refused g n first count why size (inr none) = inr none
 
 -- so the names of a chunk of members answer for the graph
-pub names_answered : (now l : Local) (members : List (List ℕ)) (first count : ℕ) (r : Result ChunkNames Fault) → now ≡ l → members ≡ vectors_of l
+pub names_answered : (g : VectorGraph) (members : List (List ℕ)) (first count : ℕ) (r : Result ChunkNames Fault) → members ≡ g.vectors
     → IfOk r (λ names. (first + count ≤ length members) × (names.starts.items ≡ chunk_starts (name_there members) first count) × (names.bytes.items ≡ chunk_of (name_there members) first count))
-    → IfOk r (λ names. IsThere (graph_described (described now)) first count × AreChunkNames (graph_described (described now)) first count names.starts.items names.bytes.items)
-names_answered now l members first count (Ok names) is same said = names_of_chunk now l members first count names.starts.items names.bytes.items is same said
-names_answered now l members first count (Err why) is same said = said
+    → IfOk r (λ names. IsThere (graph_described (described_by g)) first count × AreChunkNames (graph_described (described_by g)) first count names.starts.items names.bytes.items)
+names_answered g members first count (Ok names) same said = names_of_chunk g members first count names.starts.items names.bytes.items same said
+names_answered g members first count (Err why) same said = said
 
-pub refusal_answered : {T : Type 0} (now l : Local) (members : List (List ℕ)) (first count : ℕ) (r : Result T Fault) → now ≡ l → members ≡ vectors_of l
+pub refusal_answered : {T : Type 0} (g : VectorGraph) (members : List (List ℕ)) (first count : ℕ) (r : Result T Fault) → members ≡ g.vectors
     → IfErr r (λ why. ((why ≡ fault.NoVertex) × (first + count ≤ length members → ⊥)) ⊎ (why ≡ fault.Panic NoRoom))
-    → IfErr r (IsChunkRefusal (graph_described (described now)) first count)
-refusal_answered now l members first count (Ok x) is same said = said
-refusal_answered now l members first count (Err why) is same said =
-    subst (λ m. IsChunkRefusal (graph_described (described m)) first count why) (sym is)
-    (chunk_refused (graph_described (described l)) (length members) first count why (vertices_are_members (vector_graph_of l) members same) said)
+    → IfErr r (IsChunkRefusal (graph_described (described_by g)) first count)
+refusal_answered g members first count (Ok x) same said = said
+refusal_answered g members first count (Err why) same said =
+    chunk_refused (graph_described (described_by g)) (length members) first count why (vertices_are_members g members same) said

@@ -1,14 +1,16 @@
 //! The names of a chunk.
-ghost use Rattle.std.specs.Prelude.{◌≡◌, ◌⊎◌, ◌++◌, ◌∷◌, ◌≤◌, ◌+◌, [], length, IfErr, IfOk, IsOkUnless, OnOk};
+ghost use Rattle.std.specs.Prelude.{◌≡◌, ◌⊎◌, ◌++◌, ◌∷◌, ◌≤◌, ◌+◌, [], length, IfErr, IfOk, IsOkUnless, OnOk, ⊤};
 ghost use Rattle.sgb_vec.specs.Limits.{most_dimensions};
 ghost use Rattle.sgb_vec.specs.Names.{name_of_vector};
+ghost use Rattle.sgb_gen.specs.VectorGraphs.{described_by};
 ghost use Rattle.sgb_graph.specs.Made.{graph_described};
 ghost use Rattle.sgb.specs.Values.{described};
 ghost use Rattle.sgb_chunks.specs.Chunks.{AreChunkNames, IsChunkRefusal, IsThere, chunk_of, chunk_starts};
 ghost use Rattle.sgb_chunks.specs.inner.VectorNames.{name_there};
 
 use crate::places::{has_chunk, vectors_from};
-use sgb::{Fault, Local};
+use sgb::{Fault, Local, Visit, Visitor};
+use sgb_gen::Listed;
 use sgb_vec::{Family, Panic, name_of};
 use std::alloc::Global;
 
@@ -38,10 +40,37 @@ pub fn chunk_names(
     ensures refused { IfErr result (IsChunkRefusal (graph_described (described local.now)) first
         count) }
 {
-    match local {
-        Local::Board(board) => names_in(alloc, board.family(), first, count),
-        Local::Simplex(simplex) => names_in(alloc, simplex.family(), first, count),
-        Local::Subsets(subsets) => names_in(alloc, subsets.family(), first, count),
+    let chunk = Names {
+        alloc,
+        first,
+        count,
+    };
+    local.visit(chunk, &mut ())
+}
+
+// The names of a chunk of a generator's graph.
+#[derive(Drop)]
+struct Names {
+    alloc: Global,
+    first: u32,
+    count: u32,
+}
+
+impl Visitor<()> for Names {
+    type Answer = Result<ChunkNames, Fault>;
+
+    ghost needs = { λ _ _ _. ⊤ };
+
+    ghost gives = { λ v g _ _ result.
+        IfOk result (λ names. IsThere (graph_described (described_by g)) v.first v.count
+        × AreChunkNames (graph_described (described_by g)) v.first v.count names.starts.items
+        names.bytes.items)
+        × IfErr result (IsChunkRefusal (graph_described (described_by g)) v.first v.count) };
+}
+
+impl<'a, L: Listed<'a>> Visit<'a, L, ()> for Names {
+    fn visit(self, listed: &mut L, _state: &mut ()) -> Result<ChunkNames, Fault> {
+        names_in(self.alloc, listed.family(), self.first, self.count)
     }
 }
 

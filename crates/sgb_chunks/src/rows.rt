@@ -1,5 +1,5 @@
 //! The lists of a chunk.
-ghost use Rattle.std.specs.Prelude.{◌≡◌, ◌++◌, ◌∷◌, ◌+◌, ◌≤◌, [], ℕ, length, map, slice_get, Some, Contains, IfErr, IfOk, IsOkUnless, OnErr, OnOk};
+ghost use Rattle.std.specs.Prelude.{◌≡◌, ◌++◌, ◌∷◌, ◌+◌, ◌≤◌, [], ℕ, length, map, slice_get, Some, Contains, IfErr, IfOk, IsOkUnless, OnErr, OnOk, ⊤};
 ghost use Rattle.sgb_gen.specs.LocalLists.{LocalArc};
 ghost use Rattle.sgb_gen.specs.VectorGraphs.{described_by, vertex_among};
 ghost use Rattle.sgb_graph.specs.Made.{graph_described};
@@ -8,7 +8,7 @@ ghost use Rattle.sgb.specs.Values.{described};
 ghost use Rattle.sgb_chunks.specs.Chunks.{AreChunkRows, IsChunkRefusal, IsThere};
 
 use crate::places::{has_chunk, vectors_from};
-use sgb::{Fault, Local};
+use sgb::{Fault, Local, Visit, Visitor};
 use sgb_gen::{Links, Listed};
 use sgb_vec::Panic;
 use std::alloc::Global;
@@ -36,19 +36,38 @@ pub fn chunk_rows(alloc: Global, local: &Local, first: u32, count: u32) -> Resul
         count) }
 {
     let mut links = Links::new(alloc);
-    match local {
-        Local::Board(board) => {
-            let mut listed = board.lists(&links);
-            rows_of(alloc, &mut listed, first, count, &mut links)
-        }
-        Local::Simplex(simplex) => {
-            let mut listed = simplex;
-            rows_of(alloc, &mut listed, first, count, &mut links)
-        }
-        Local::Subsets(subsets) => {
-            let mut listed = subsets;
-            rows_of(alloc, &mut listed, first, count, &mut links)
-        }
+    let chunk = Rows {
+        alloc,
+        first,
+        count,
+    };
+    local.visit(chunk, &mut links)
+}
+
+// The lists of a chunk of a generator's graph, made in links that serve for list after list.
+#[derive(Drop)]
+struct Rows {
+    alloc: Global,
+    first: u32,
+    count: u32,
+}
+
+impl Visitor<Links> for Rows {
+    type Answer = Result<ChunkRows, Fault>;
+
+    ghost needs = { λ _ _ _. ⊤ };
+
+    ghost gives = { λ v g _ _ result.
+        IfOk result (λ rows. IsThere (graph_described (described_by g)) v.first v.count
+        × AreChunkRows (graph_described (described_by g)) v.first v.count rows.starts.items
+        rows.tips.items rows.lengths.items)
+        × IfErr result (IsChunkRefusal (graph_described (described_by g)) v.first v.count) };
+}
+
+impl<'a, L: Listed<'a>> Visit<'a, L, Links> for Rows {
+    fn visit(self, listed: &mut L, links: &mut Links) -> Result<ChunkRows, Fault> {
+        listed.prepare(links);
+        rows_of(self.alloc, listed, self.first, self.count, links)
     }
 }
 

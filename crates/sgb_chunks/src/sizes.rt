@@ -1,10 +1,12 @@
 //! How large a generator's graph is.
-ghost use Rattle.std.specs.Prelude.{◌≡◌, length, IfOk, IsOkUnless};
+ghost use Rattle.std.specs.Prelude.{◌≡◌, length, IfOk, IsOkUnless, ⊤};
+ghost use Rattle.sgb_vec.specs.declared.panics.Panic.TheVariants.{NoRoom};
+ghost use Rattle.sgb_gen.specs.VectorGraphs.{described_by};
 ghost use Rattle.sgb_graph.specs.Made.{graph_described};
 ghost use Rattle.sgb.specs.Values.{described};
 
-use sgb::Local;
-use sgb_gen::Links;
+use sgb::{Local, Visit, Visitor};
+use sgb_gen::{Links, Listed};
 use sgb_vec::{Family, Panic};
 use std::alloc::Global;
 
@@ -12,10 +14,24 @@ use std::alloc::Global;
 pub fn vertices_of_family(local: &Local) -> u32
     ensures { result ≡ length (graph_described (described local.now)).vertices }
 {
-    match local {
-        Local::Board(board) => board.family().size(),
-        Local::Simplex(simplex) => simplex.family().size(),
-        Local::Subsets(subsets) => subsets.family().size(),
+    local.visit(Vertices, &mut ())
+}
+
+// How many vertices a generator's graph has.
+#[derive(Drop)]
+struct Vertices;
+
+impl Visitor<()> for Vertices {
+    type Answer = u32;
+
+    ghost needs = { λ _ _ _. ⊤ };
+
+    ghost gives = { λ _ g _ _ n. n ≡ length (graph_described (described_by g)).vertices };
+}
+
+impl<'a, L: Listed<'a>> Visit<'a, L, ()> for Vertices {
+    fn visit(self, listed: &mut L, _state: &mut ()) -> u32 {
+        listed.family().size()
     }
 }
 
@@ -26,9 +42,25 @@ pub fn arcs_of_family(alloc: Global, local: &Local) -> Result<u128, Panic>
     ensures count { IfOk result (λ m. m ≡ (graph_described (described local.now)).m) }
     ensures memory { IsOkUnless result Panic.NoRoom }
 {
-    match local {
-        Local::Board(board) => board.arcs_count(),
-        Local::Simplex(simplex) => simplex.arcs_count(&Links::new(alloc)),
-        Local::Subsets(subsets) => Ok(subsets.arcs_count()),
+    local.visit(Arcs, &mut Links::new(alloc))
+}
+
+// How many arcs a generator's graph has, counted with memory from where that of the links comes.
+#[derive(Drop)]
+struct Arcs;
+
+impl Visitor<Links> for Arcs {
+    type Answer = Result<u128, Panic>;
+
+    ghost needs = { λ _ _ _. ⊤ };
+
+    ghost gives = { λ _ g _ _ result.
+        IfOk result (λ m. m ≡ (graph_described (described_by g)).m)
+        × IsOkUnless result NoRoom };
+}
+
+impl<'a, L: Listed<'a>> Visit<'a, L, Links> for Arcs {
+    fn visit(self, listed: &mut L, links: &mut Links) -> Result<u128, Panic> {
+        listed.arcs_count(links)
     }
 }

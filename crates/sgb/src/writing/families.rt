@@ -7,6 +7,7 @@ ghost use Rattle.sgb_vec.specs.Names.{name_of_vector};
 ghost use Rattle.sgb_gen.specs.Runs.{AreMoved, arc_along, arcs_along};
 ghost use Rattle.sgb_gen.specs.VectorGraphs.{described_by};
 ghost use Rattle.sgb_graph.specs.Made.{graph_described};
+ghost use Rattle.sgb_requests.specs.declared.faults.Fault.TheVariants as fault;
 ghost use Rattle.sgb.specs.Locals.{family_text, head_if, start_after, vectors_of};
 ghost use Rattle.sgb.specs.inner.Locals.{local_block, local_line};
 ghost use Rattle.sgb.specs.inner.Pages.{IsPaged, page_bytes};
@@ -21,6 +22,7 @@ use super::listing::push_head_of;
 use super::pages::{Page, make_room, put_page};
 use super::resumed::vectors_after;
 use crate::locals::Local;
+use crate::visits::{Visit, Visitor};
 use sgb_file::Sink;
 use sgb_gen::{Links, Listed, Runs};
 use sgb_requests::Fault;
@@ -49,19 +51,37 @@ pub fn list_family<W: Sink>(
         (head_if head (graph_described (described local.now)))
         (W.written out.old) (W.written out.new)) }
 {
-    match local {
-        Local::Board(board) => {
-            let mut listed = board.lists(links);
-            list_vectors(&mut listed, head, after, links, out)
-        }
-        Local::Simplex(simplex) => {
-            let mut listed = simplex;
-            list_vectors(&mut listed, head, after, links, out)
-        }
-        Local::Subsets(subsets) => {
-            let mut listed = subsets;
-            list_vectors(&mut listed, head, after, links, out)
-        }
+    local.visit(FamilyListing { head, after, links }, out)
+}
+
+// The listing of a generator's graph, as `list_family` writes it.
+#[derive(Drop)]
+struct FamilyListing<'l> {
+    // Whether the head is written.
+    head: bool,
+    // The vector after which it begins, if any.
+    after: Option<&'l [u32]>,
+    // Room for one list after another.
+    links: &'l mut Links,
+}
+
+impl<'l, W: Sink> Visitor<W> for FamilyListing<'l> {
+    type Answer = Result<(), Fault>;
+
+    ghost needs = { λ v g old. IfSome v.after (λ x. Contains g.vectors x.now)
+        × (W.has_failed old ≡ false) };
+
+    ghost gives = { λ v g old new result. IsWritten (family_text (graph_described (described_by g))
+        v.head (start_after g.vectors (option_map (λ x. x.now) v.after)))
+        (change W.written W.has_failed old new) result
+        × IfErr result (λ f. f ≢ fault.Write → IsLeftOrBegun (new ≡ old)
+        (head_if v.head (graph_described (described_by g))) (W.written old) (W.written new)) };
+}
+
+impl<'a, 'l, L: Listed<'a>, W: Sink> Visit<'a, L, W> for FamilyListing<'l> {
+    fn visit(self, listed: &mut L, out: &mut W) -> Result<(), Fault> {
+        listed.prepare(self.links);
+        list_vectors(listed, self.head, self.after, self.links, out)
     }
 }
 

@@ -1,5 +1,5 @@
 //! Where the answer to a request about a family begins.
-ghost use Rattle.std.specs.Prelude.{◌≡◌, false, drop, map, option_map, Contains, Err, IfSome};
+ghost use Rattle.std.specs.Prelude.{◌≡◌, false, drop, map, option_map, Contains, Err, IfSome, ⊤};
 ghost use Rattle.std.specs.Result.{MatchResult};
 ghost use Rattle.sgb_file.specs.Devices.{change};
 ghost use Rattle.sgb_graph.specs.Graphs.{GraphData};
@@ -15,8 +15,9 @@ ghost use Rattle.sgb.specs.Writing.{IsEnded};
 
 use super::families::list_family;
 use crate::locals::Local;
+use crate::visits::{Visit, Visitor};
 use sgb_file::Sink;
-use sgb_gen::Links;
+use sgb_gen::{Links, Listed};
 use sgb_requests::{Fault, Resume};
 use sgb_vec::{Family, Vector, Vectors, vector_of};
 
@@ -48,10 +49,28 @@ fn start_in(local: &Local, resume: &Resume) -> Result<Option<Vector>, Fault>
         (option_map (λ vector. vector.items) start))
         (λ fault. left_out (map name_of_vector (vectors_of local.now)) resume.now ≡ Err fault) }
 {
-    match local {
-        Local::Board(board) => start_of(board.family(), resume),
-        Local::Simplex(simplex) => start_of(simplex.family(), resume),
-        Local::Subsets(subsets) => start_of(subsets.family(), resume),
+    local.visit(Start { resume }, &mut ())
+}
+
+// Where the answer begins in a generator's graph.
+#[derive(Drop)]
+struct Start<'r> {
+    resume: &'r Resume,
+}
+
+impl<'r> Visitor<()> for Start<'r> {
+    type Answer = Result<Option<Vector>, Fault>;
+
+    ghost needs = { λ _ _ _. ⊤ };
+
+    ghost gives = { λ v g _ _ result. MatchResult result
+        (λ start. BeginsAfter g.vectors v.resume.now (option_map (λ vector. vector.items) start))
+        (λ fault. left_out (map name_of_vector g.vectors) v.resume.now ≡ Err fault) };
+}
+
+impl<'a, 'r, L: Listed<'a>> Visit<'a, L, ()> for Start<'r> {
+    fn visit(self, listed: &mut L, _state: &mut ()) -> Result<Option<Vector>, Fault> {
+        start_of(listed.family(), self.resume)
     }
 }
 
