@@ -1,13 +1,15 @@
 //! Each public name of the library once, from outside.
+ghost use Rattle.std.specs.Prelude.{⊤};
+
 use crate::calls::words_of;
 use crate::inputs::EMPTY;
 use sgb::{
-    Answer, Expr, Fault, Local, Request, answered_once_law, graph_of, input_unread_law,
-    list_family, local_of, parse_expr, read_input, report, request, run, run_answer,
-    run_endings_law, run_program, status, unread_fault, write_bytes,
+    Answer, Expr, Fault, Local, Request, Visit, Visitor, answered_once_law, graph_of,
+    input_unread_law, list_family, local_of, parse_expr, read_input, report, request, run,
+    run_answer, run_endings_law, run_program, status, unread_fault, write_bytes,
 };
 use sgb_file::{CutSource, MemSink, MemSource};
-use sgb_gen::{Board, BoardParams, Links};
+use sgb_gen::{Board, BoardParams, Links, Listed};
 use sgb_vec::{Family, Panic};
 use std::alloc::Global;
 use std::io::{Error, ErrorKind};
@@ -141,11 +143,20 @@ fn a_fault_is_reported(rt: HostRuntime) {
 }
 
 // How many vectors the accepted parameters of a generator's call have.
-fn size_of(local: &Local) -> u32 {
-    match local {
-        Local::Board(board) => board.family().size(),
-        Local::Simplex(simplex) => simplex.family().size(),
-        Local::Subsets(subsets) => subsets.family().size(),
+#[derive(Drop)]
+struct Size;
+
+impl Visitor<()> for Size {
+    type Answer = u32;
+
+    ghost needs = { λ _ _ _. ⊤ };
+
+    ghost gives = { λ _ _ _ _ _. ⊤ };
+}
+
+impl<'a, L: Listed<'a>> Visit<'a, L, ()> for Size {
+    fn visit(self, listed: &mut L, _state: &mut ()) -> u32 {
+        listed.family().size()
     }
 }
 
@@ -154,7 +165,7 @@ fn size_of_call(alloc: Global, text: &[u8]) -> Option<Result<u32, Panic>> {
     let Ok(Expr::Generator(generator)) = parse_expr(alloc, text) else {
         return None;
     };
-    Some(local_of(alloc, &generator).map(|local| size_of(&local)))
+    Some(local_of(alloc, &generator).map(|local| local.visit(Size, &mut ())))
 }
 
 #[test]

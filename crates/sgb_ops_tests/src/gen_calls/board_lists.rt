@@ -1,6 +1,6 @@
 use super::board_counts::board_of;
 use super::cases::is_list;
-use sgb_gen::{Board, BoardParams, Links};
+use sgb_gen::{Board, BoardLists, BoardParams, Links};
 use sgb_graph::Graph;
 use sgb_vec::{Family, Panic, Vectors};
 use std::alloc::Global;
@@ -39,7 +39,7 @@ fn params_of(numbers: &[i64; 6], directed: bool) -> BoardParams {
     }
 }
 
-// Whether the list of this vector is that of vertex v of the graph, by itself and as one of all of them.
+// Whether the list of this vector is that of vertex v of the graph, by itself, with no table and with one.
 fn is_list_at(graph: &Graph, v: u32, board: &Board, x: &[u32], links: &mut Links) -> bool {
     if !board.family().holds(x) {
         return false;
@@ -47,7 +47,11 @@ fn is_list_at(graph: &Graph, v: u32, board: &Board, x: &[u32], links: &mut Links
     if board.arcs_at(x, links).is_err() || !is_list(graph, v, links) {
         return false;
     }
-    let mut lists = board.lists(links);
+    let mut lists = BoardLists::new(board);
+    if lists.arcs_at(x, links).is_err() || !is_list(graph, v, links) {
+        return false;
+    }
+    lists.prepare(links);
     lists.arcs_at(x, links).is_ok() && is_list(graph, v, links)
 }
 
