@@ -11,7 +11,7 @@ ghost use Rattle.sgb_gen.specs.Moves.{moves_from, sides_of, place, opposite};
 ghost use Rattle.sgb_gen.specs.inner.Moves.{destination, leads_onward, longest_move};
 ghost use Rattle.sgb_gen.specs.VectorGraphs.{vertex_among};
 
-use super::Board;
+use super::{Board, BoardLists};
 use crate::displacements::{Displacement, put_opposite};
 use crate::links::Links;
 use crate::moves::{destination, leads_onward};
@@ -30,9 +30,7 @@ impl Board {
         ensures err { OnErr result (links.new.arcs ≡ []) }
         ensures memory { IsOkUnless result Panic.NoRoom }
     {
-        links.clear(x.len());
-        let put = self.push_listed(x, links);
-        links.ended(put)
+        BoardLists::new(self).arcs_at(x, links)
     }
 
     // Puts the arcs of `x` behind the others, those by earlier moves first.
