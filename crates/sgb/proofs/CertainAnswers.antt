@@ -22,7 +22,7 @@ use Rattle.sgb_requests.specs.declared.faults.Fault.TheVariants as fault
 use Rattle.sgb_requests.specs.declared.requests.Request.{Request}
 use Rattle.sgb_requests.specs.declared.requests.Request.TheVariants as request
 use Rattle.sgb_requests.specs.declared.requests.Resume.{Resume}
-use Rattle.sgb.specs.Certain.{BeginsNowhere, BeginsNowhereOn, IsBoard, IsCertain, IsGeneratorRefused, IsRefusedAtOnce, IsRefusedFirst, NeedsNoMemory}
+use Rattle.sgb.specs.Certain.{BeginsNowhere, IsBoard, IsCertain, IsGeneratorRefused, IsRefusedAtOnce, IsRefusedFirst, NeedsNoMemory}
 use Rattle.sgb.specs.Outcomes.{answer_of, left_out, outcome_of, reads_input}
 use Rattle.sgb.specs.Runs.{IsGiven}
 use Rattle.sgb.specs.Locals.{IsLocalOf}
@@ -83,7 +83,9 @@ names_refused f p refused board (inr h) = λ e.
 -- where its listing needs none
 pub listing_refused : (f : Generator) (resume : Resume) (p : Panic) → ((code : Panic) → IsGeneratorRefused f code → ◌≡◌ {A = Result Local Panic} (Err p) (Err code))
     → ((params : BoardParams) → f ≡ generator.Board params → p ≢ NoRoom) → HasListingAtOnce f resume → p ≢ NoRoom
-listing_refused f resume p refused board (inl h) = board h.0 h.1
+listing_refused f resume p refused board (inl (params, same, from)) =
+    let alike : f ≡ generator.Board params = cc in
+    board params alike
 listing_refused f resume p refused board (inr h) = names_refused f p refused board (inr h)
 
 -- its listing begins nowhere
@@ -92,7 +94,8 @@ pub listing_begun : {T : Type 0} (f : Generator) (resume : Resume) (l : Local) (
     → (left_out (names_of (graph_described (described l))) resume ≡ Err fault.NoVertex → r ≡ Err fault.NoVertex)
     → HasListingAtOnce f resume → IfErr r (λ g. g ≢ fault.Panic NoRoom)
 listing_begun {T = T} f resume l r is refused nowhere (inl (p, same, from)) =
-    let value : made (generator_value (generator.Board p)) ≡ Ok (graph_described (described l)) = ap made (ap generator_value (sym same) ∙ is) in
+    let alike : generator.Board p ≡ f = cc in
+    let value : made (generator_value (generator.Board p)) ≡ Ok (graph_described (described l)) = ap made (ap generator_value alike ∙ is) in
     let ended = nowhere (from (graph_described (described l)) value) in
     subst (λ (x : Result T Fault). IfErr x (λ g. g ≢ fault.Panic NoRoom)) (sym ended) (λ e. cc)
 listing_begun f resume l r is refused nowhere (inr h) =
@@ -107,10 +110,8 @@ names_of_generator e f is (inl h) =
     inl (h.0, board)
 names_of_generator e f is (inr h) = inr (h.code, subst (λ (x : Expr). IsRefusedFirst [] (expression_of x) h.code) is (h.refused []))
 
-pub listing_of_generator : (e : Expr) (f : Generator) (resume : Resume) → e ≡ expr.Generator f → BeginsNowhereOn e resume ⊎ IsRefusedAtOnce (expression_of e) → HasListingAtOnce f resume
-listing_of_generator e f resume is (inl (g, same, nowhere)) =
-    let alike : g ≡ f = cc in
-    inl (subst (λ (x : Generator). BeginsNowhere x resume) alike nowhere)
+pub listing_of_generator : (e : Expr) (f : Generator) (resume : Resume) → e ≡ expr.Generator f → BeginsNowhere e resume ⊎ IsRefusedAtOnce (expression_of e) → HasListingAtOnce f resume
+listing_of_generator e f resume is (inl h) = inl (subst (λ (x : Expr). BeginsNowhere x resume) is h)
 listing_of_generator e f resume is (inr h) = inr (h.code, subst (λ (x : Expr). IsRefusedFirst [] (expression_of x) h.code) is (h.refused []))
 
 -- ---- graphs
@@ -121,8 +122,8 @@ names_of_graph e other (inl h) = absurd (other (generator.Board h.0) h.1)
 names_of_graph e other (inr h) = h
 
 -- where its listing needs none
-pub listing_of_graph : (e : Expr) (resume : Resume) → ((f : Generator) → e ≢ expr.Generator f) → BeginsNowhereOn e resume ⊎ IsRefusedAtOnce (expression_of e) → IsRefusedAtOnce (expression_of e)
-listing_of_graph e resume other (inl h) = absurd (other h.0 h.1)
+pub listing_of_graph : (e : Expr) (resume : Resume) → ((f : Generator) → e ≢ expr.Generator f) → BeginsNowhere e resume ⊎ IsRefusedAtOnce (expression_of e) → IsRefusedAtOnce (expression_of e)
+listing_of_graph e resume other (inl h) = absurd (other (generator.Board h.0) h.1)
 listing_of_graph e resume other (inr h) = h
 
 -- the refusal of an expression that is refused at once

@@ -2,7 +2,8 @@
 use Rattle.std.proofs.Common.{◌≡◌, ◌++◌, ◌+◌, ◌%◌, ◌≤◌, ◌∙◌, [], ◌∷◌, ℕ, zero, suc, ap, sym, refl, arith}
 use Rattle.sgb_graph.specs.Draws.{IsUniformDraw, draw, modulus, plain_draws, uniform_draws}
 use Rattle.sgb_graph.proofs.UniformDraws.{uniform_draw_only}
-use Rattle.sgb.specs.FlipAnswers.{drawn_from, number_line, number_lines}
+use Rattle.sgb.specs.FlipAnswers.{drawn_from, number_lines}
+use Rattle.sgb.specs.inner.Texts.{number_line}
 
 -- where m is 0, the next draw comes first
 pub plain_first : (seed m k number count : ℕ) → m ≡ 0 → number ≡ draw seed k → drawn_from seed m k (suc count) ≡ number ∷ drawn_from seed m (k + 1) count

@@ -2,14 +2,14 @@
 use Rattle.std.proofs.Common.{arith, rules, ◌≡◌, ◌⊎◌, ℕ, Bool, true, false, List, [], Option, Result, Ok, Err, IfErr, is_err, refl, inl, inr, ap, sym, subst}
 use Rattle.std.specs.Io.KnownBytes.{Appends, Keeps}
 use Rattle.std.proofs.KnownBytes.{Appends-nil, Appends-kept}
-use Rattle.std.specs.Result.{IsErrAnd}
+use Rattle.std.specs.Result.{IsErrAnd, result_map_both}
 use Rattle.std.proofs.lemmas.Bool.{both_ways}
 use Rattle.std.proofs.lemmas.Result.{err_from_is_err_and}
 use Rattle.sgb_vec.specs.declared.panics.Panic.TheVariants.{NoRoom}
 use Rattle.sgb_vec.specs.declared.panics.Panic.{Panic}
 use Rattle.sgb_graph.specs.Graphs.{GraphData}
 use Rattle.sgb_vec.specs.Results.{IsValue}
-use Rattle.sgb.specs.Outcomes.{answer_after, answer_from, outcome_of}
+use Rattle.sgb.specs.Outcomes.{answer_from, outcome_of}
 use Rattle.sgb_file.specs.Devices.{AppendsUnlessFailed, Change}
 use Rattle.sgb_requests.specs.Faults.{fault_line, status_of}
 use Rattle.sgb.specs.Runs.{IsRunOf}
@@ -108,14 +108,14 @@ exit_ended a same out r f exit ended = grind (arith, err_from_is_err_and)
 
 -- an answer that was written or cut off, once it is known where it begins
 pub ended_after : {T : Type 0} (from : Result ℕ Fault) (k : ℕ) (text : ℕ → List ℕ) (same : Type 0) (out : Change) (r : Result T Fault)
-    → Ok k ≡ from → IsWritten (text k) out r → IsEnded (answer_after from text) same out r
-ended_after {T = T} from k text same out r e p = subst (λ (a : Result ℕ Fault). IsEnded {T = T} (answer_after a text) same out r) e p
+    → Ok k ≡ from → IsWritten (text k) out r → IsEnded (result_map_both text (λ f. f) from) same out r
+ended_after {T = T} from k text same out r e p = subst (λ (a : Result ℕ Fault). IsEnded {T = T} (result_map_both text (λ f. f) a) same out r) e p
 
 -- an answer refused because it is not known where it begins
 pub refused_after : (T : Type 0) (from : Result ℕ Fault) (text : ℕ → List ℕ) (same : Type 0) (f : Fault) (w : Option (List ℕ)) (failed : Bool)
-    → Err f ≡ from → failed ≡ false → same → IsEnded {T = T} (answer_after from text) same (change_of w w failed) (Err f)
+    → Err f ≡ from → failed ≡ false → same → IsEnded {T = T} (result_map_both text (λ f. f) from) same (change_of w w failed) (Err f)
 refused_after T from text same f w failed e h left =
-    refused_at_once T (answer_after from text) same f w failed (ap (λ (a : Result ℕ Fault). answer_after a text) (sym e)) h left
+    refused_at_once T (result_map_both text (λ f. f) from) same f w failed (ap (result_map_both text (λ f. f)) (sym e)) h left
 
 -- the exit of a `?` with a refusal of the graph that an answer is made of
 pub refused_value : {T : Type 0} (v : Result GraphData Panic) (answer : GraphData → Result (List ℕ) Fault) (same : Type 0) (p : Panic) (r : Result T Fault) (w : Option (List ℕ)) (failed : Bool)

@@ -1,5 +1,7 @@
 -- Parameters are refused for what they are: never out of memory.
-use Rattle.std.proofs.Common.{rules, ◌≡◌, ◌≢◌, ◌&&◌, not, nat_lt, length, ℕ, ℤ, pos, negsuc, Bool, true, false, cond, List, [], ◌∷◌, Option, Some, None, Result, Ok, Err, ap, inl, inr, subst, sym}
+use Rattle.std.proofs.Common.{rules, ◌≡◌, ◌≢◌, ◌&&◌, not, nat_lt, length, ℕ, suc, option_map, ℤ, pos, negsuc, Bool, true, false, cond, List, [], ◌∷◌, Option, Some, None, Result, Ok, Err, ap, inl, inr, subst, sym}
+use Rattle.std.specs.Prelude.{ok_or}
+use Rattle.std.specs.Result.{result_map_both}
 use Rattle.sgb_vec.specs.Bounds.{simplex_of}
 use Rattle.sgb_vec.specs.Boxes.{box_of}
 use Rattle.sgb_vec.specs.Limits.{most_vertices}
@@ -25,8 +27,8 @@ use Rattle.sgb_expr.specs.Expression.{Expression, Generated, Complement, Gunion,
 use Rattle.sgb_expr.specs.declared.expressions.Generator.{Generator}
 use Rattle.sgb_expr.specs.declared.expressions.Generator.TheVariants as generator
 use Rattle.sgb_expr.specs.declared.flips.FlipParams.{FlipParams}
-use Rattle.sgb.specs.FlipAnswers.{accepted_draws, answer_of_draws, flip_answer, number_within}
-use Rattle.sgb.specs.Outcomes.{IsAnswered, answer_after, answer_from, answer_of, left_out, left_out_by, queen_moves, vertex_named}
+use Rattle.sgb.specs.FlipAnswers.{accepted_draws, drawn, flip_answer, number_lines, number_within}
+use Rattle.sgb.specs.Outcomes.{IsAnswered, answer_from, answer_of, left_out, queen_moves, vertex_named}
 use Rattle.sgb.specs.Values.{IsStdinValue, both, generator_value, value_of, values_of}
 use Rattle.sgb_requests.specs.declared.faults.Fault.{Fault}
 use Rattle.sgb_requests.specs.declared.faults.Fault.TheVariants as fault
@@ -197,12 +199,12 @@ left_out_own names resume.Whole = λ e. cc
 left_out_own names (resume.Skip k) = λ e. cc
 left_out_own names (resume.After name) = at_vertex (vertex_named name names)
   where
-    at_vertex : (v : Option ℕ) → IsOwn (left_out_by v)
+    at_vertex : (v : Option ℕ) → IsOwn (ok_or (option_map suc v) fault.NoVertex)
     at_vertex (Some v) e = cc
     at_vertex None e = cc
 
 -- what is written once that is known
-skipped_own : (from : Result ℕ Fault) (text : ℕ → List ℕ) → IsOwn from → IsOwn (answer_after from text)
+skipped_own : (from : Result ℕ Fault) (text : ℕ → List ℕ) → IsOwn from → IsOwn (result_map_both text (λ f. f) from)
 skipped_own (Ok k) text p e = cc
 skipped_own (Err f) text p e =
     let same : f ≡ fault.Panic NoRoom = cc in
@@ -219,7 +221,7 @@ from_own (Err r) answer p q = λ e.
 flip_own : (p : FlipParams) → IsOwn (flip_answer p)
 flip_own p = from_draws (accepted_draws p) (draws_judged p)
   where
-    from_draws : (r : Result Draws Panic) → IsJudged r → IsOwn (answer_of_draws r)
+    from_draws : (r : Result Draws Panic) → IsJudged r → IsOwn (result_map_both (λ d. number_lines (drawn d)) fault.Panic r)
     from_draws (Ok d) h e = cc
     from_draws (Err p) h e =
         let same : p ≡ NoRoom = cc in

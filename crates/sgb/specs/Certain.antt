@@ -62,20 +62,16 @@ pub record IsRefusedAtOnce (e : Expression) : Type 0 where
 abbrev pub IsBoard : Expr → Type 0
 IsBoard e = (p : BoardParams) × (e ≡ expr.Generator (generator.Board p))
 
--- an answer is to begin after a name that no vertex of a board has
-abbrev pub BeginsNowhere : Generator → Resume → Type 0
-BeginsNowhere f resume = (p : BoardParams) × (f ≡ generator.Board p)
+-- an expression is a board, and an answer is to begin after a name that no vertex of it has
+abbrev pub BeginsNowhere : Expr → Resume → Type 0
+BeginsNowhere e resume = (p : BoardParams) × (e ≡ expr.Generator (generator.Board p))
     × ((g : GraphData) → made (board p) ≡ Ok g → left_out (names_of g) resume ≡ Err fault.NoVertex)
-
--- so it is with the board that an expression is
-abbrev pub BeginsNowhereOn : Expr → Resume → Type 0
-BeginsNowhereOn e resume = (f : Generator) × (e ≡ expr.Generator f) × BeginsNowhere f resume
 
 -- answering the request takes no memory: random numbers, the names of a board, what is refused at once, and the listing of a
 -- board that is to begin after a name that no vertex has
 abbrev pub NeedsNoMemory : Request → Type 0
 NeedsNoMemory (request.Names e resume) = IsBoard e ⊎ IsRefusedAtOnce (expression_of e)
-NeedsNoMemory (request.List e resume) = BeginsNowhereOn e resume ⊎ IsRefusedAtOnce (expression_of e)
+NeedsNoMemory (request.List e resume) = BeginsNowhere e resume ⊎ IsRefusedAtOnce (expression_of e)
 NeedsNoMemory (request.Save e) = IsRefusedAtOnce (expression_of e)
 NeedsNoMemory request.Queen = ⊥
 NeedsNoMemory (request.Flip p) = Unit {0}

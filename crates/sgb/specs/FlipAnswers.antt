@@ -1,6 +1,7 @@
 -- What `flip` writes: random numbers of GB_FLIP, one a line [GB_FLIP, gb_init_rand, gb_next_rand and gb_unif_rand].
 use Rattle.std.specs.Prelude.{ℕ, zero, suc, ℤ, pos, negsuc, cond, nat_le, decimal, List, [], ◌∷◌, ◌++◌, Result, Ok, Err}
 use Rattle.std.specs.List.{flat_map}
+use Rattle.std.specs.Result.{result_map_both}
 use Rattle.sgb_vec.specs.Results.{and_then}
 use Rattle.sgb_vec.specs.declared.panics.Panic.{Panic}
 use Rattle.sgb_vec.specs.declared.panics.Panic.TheVariants.{Bad}
@@ -36,19 +37,10 @@ drawn_from seed (suc m) k count = uniform_draws seed (suc m) k count
 abbrev pub drawn : Draws → List ℕ
 drawn d = drawn_from (seed_of d.start) d.m d.skip d.count
 
--- the line of a number: its decimal digits and a newline (10)
-abbrev pub number_line : ℕ → List ℕ
-number_line number = decimal number ++ 10 ∷ []
-
--- the lines of numbers
+-- the lines of numbers, each its decimal digits and a newline (10)
 unfoldable pub number_lines : List ℕ → List ℕ
-number_lines numbers = flat_map number_line numbers
-
--- what is written of draws that are accepted; a refusal stays as it is
-abbrev pub answer_of_draws : Result Draws Panic → Result (List ℕ) Fault
-answer_of_draws (Ok d) = Ok (number_lines (drawn d))
-answer_of_draws (Err p) = Err (fault.Panic p)
+number_lines numbers = flat_map (λ number. decimal number ++ 10 ∷ []) numbers
 
 -- the output of a flip, or the fault that refuses it
 abbrev pub flip_answer : FlipParams → Result (List ℕ) Fault
-flip_answer p = answer_of_draws (accepted_draws p)
+flip_answer p = result_map_both (λ d. number_lines (drawn d)) fault.Panic (accepted_draws p)

@@ -1,5 +1,6 @@
 -- What a request is answered with: the output, the line on standard error, and the exit status.
-use Rattle.std.specs.Prelude.{ℕ, suc, ℤ, pos, neg_ℤ, Bool, false, codes, List, [], ◌++◌, Option, Some, None, Result, Ok, Err, nat_eq}
+use Rattle.std.specs.Prelude.{ℕ, suc, ℤ, pos, neg_ℤ, Bool, false, codes, List, [], ◌++◌, Option, Result, Ok, Err, nat_eq, ok_or, option_map}
+use Rattle.std.specs.Result.{result_map_both}
 use Rattle.std.specs.List.{position}
 use Rattle.std.specs.Cmp.Lexicographic.{pointwise}
 use Rattle.sgb_vec.specs.declared.panics.Panic.{Panic}
@@ -26,25 +27,15 @@ use Rattle.sgb_requests.specs.declared.requests.Resume.TheVariants as resume
 abbrev pub vertex_named : List ℕ → List (List ℕ) → Option ℕ
 vertex_named name names = position (λ other. pointwise nat_eq other name) names
 
--- how many first vertices are left out: those up to a vertex that is there
-abbrev pub left_out_by : Option ℕ → Result ℕ Fault
-left_out_by (Some v) = Ok (suc v)
-left_out_by None = Err fault.NoVertex
-
--- how many first vertices of these names are left out
+-- how many first vertices of these names are left out: those up to the first one of a name, which has to be there
 abbrev pub left_out : List (List ℕ) → Resume → Result ℕ Fault
 left_out names resume.Whole = Ok 0
 left_out names (resume.Skip k) = Ok k
-left_out names (resume.After name) = left_out_by (vertex_named name names)
-
--- what is written once it is known how many vertices are left out
-abbrev pub answer_after : Result ℕ Fault → (ℕ → List ℕ) → Result (List ℕ) Fault
-answer_after (Ok k) text = Ok (text k)
-answer_after (Err f) text = Err f
+left_out names (resume.After name) = ok_or (option_map suc (vertex_named name names)) fault.NoVertex
 
 -- the answer of a command `names`, of names
 abbrev pub names_answer : List (List ℕ) → Resume → Result (List ℕ) Fault
-names_answer names resume = answer_after (left_out names resume) (name_lines names)
+names_answer names resume = result_map_both (name_lines names) (λ f. f) (left_out names resume)
 
 -- what stands before the blocks: nothing where the listing is resumed
 abbrev pub head_for : Resume → List ℕ → List ℕ
@@ -54,7 +45,7 @@ head_for (resume.After name) text = []
 
 -- the answer of a command `list`, of a graph
 abbrev pub list_answer : GraphData → Resume → Result (List ℕ) Fault
-list_answer g resume = answer_after (left_out (names_of g) resume) (λ k. head_for resume (head g) ++ blocks g k)
+list_answer g resume = result_map_both (λ k. head_for resume (head g) ++ blocks g k) (λ f. f) (left_out (names_of g) resume)
 
 -- the answer that is made of an accepted graph; a refusal stays as it is
 abbrev pub answer_from : Result GraphData Panic → (GraphData → Result (List ℕ) Fault) → Result (List ℕ) Fault

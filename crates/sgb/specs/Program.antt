@@ -17,19 +17,12 @@ abbrev pub unread_fault : ErrorKind → Fault
 unread_fault OutOfMemory = fault.Panic NoRoom
 unread_fault _ = fault.Usage
 
--- the words make a request, and a run answered it, in full where that takes no memory and the output is sound
-abbrev pub IsRequestRun : List (List ℕ) → Input → Type 0 → Change → Change → ℕ → Type 0
-IsRequestRun words source same out err status =
-    (r : Request) × IsRequest words r × IsRunOn r source same out err status × IsCertain r out err status
-
--- the words are refused with a fault, and it was reported
-abbrev pub IsRefusalReported : List (List ℕ) → Type 0 → Change → Change → ℕ → Type 0
-IsRefusalReported words same out err status = (f : Fault) × IsRefusedCommandLine words f × IsReported f same out err status
-
--- a run of the program with these words leaves this: what they ask for was answered, or their refusal was reported;
--- `same` says that the output is as it was
+-- a run of the program with these words leaves this: they make a request, which was answered, in full where that takes no memory
+-- and the output is sound; or they are refused with a fault, and it was reported. `same` says that the output is as it was
 abbrev pub IsProgramRun : List (List ℕ) → Input → Type 0 → Change → Change → ℕ → Type 0
-IsProgramRun words source same out err status = IsRequestRun words source same out err status ⊎ IsRefusalReported words same out err status
+IsProgramRun words source same out err status =
+    ((r : Request) × IsRequest words r × IsRunOn r source same out err status × IsCertain r out err status)
+    ⊎ ((f : Fault) × IsRefusedCommandLine words f × IsReported f same out err status)
 
 -- the words make no request that reads standard input
 abbrev pub AskForNoInput : List (List ℕ) → Type 0

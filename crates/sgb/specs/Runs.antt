@@ -51,16 +51,12 @@ pub record Input : Type 0 where
   pub bytes : Option (List ℕ)
   pub failed : Bool
 
--- whether the request reads standard input, and that failed
-abbrev pub fails_to_read : Request → Input → Bool
-fails_to_read r source = reads_input r && source.failed
-
 -- a run that answers this request leaves this: standard input holds a text, the one that it tells, on which the request is
 -- answered (one that does not read it is answered alike on every text: input_unread_law)
 abbrev pub IsRunOn : Request → Input → Type 0 → Change → Change → ℕ → Type 0
 IsRunOn r source same out err status =
     (held : List ℕ) × IfSome source.bytes (λ bytes. held ≡ bytes)
-    × (answer : Result (List ℕ) Fault) × IsAnswered r held answer × IsRunFrom (fails_to_read r source) answer same out err status
+    × (answer : Result (List ℕ) Fault) × IsAnswered r held answer × IsRunFrom (reads_input r && source.failed) answer same out err status
 
 -- a program that answers leaves this: of standard input these first bytes count, and for each answer on them it was answered so,
 -- in full where no input is read, `certain` says that no memory is wanted, and the output sink is sound

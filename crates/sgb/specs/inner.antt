@@ -17,5 +17,5 @@ pub mod Pages
 pub mod StdinValues
 -- what is left of vectors
 pub mod Remaining
--- the entries of a name, and how long lines are
+-- the entries of a name, the line of a number, and how long lines are
 pub mod Texts

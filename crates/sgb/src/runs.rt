@@ -8,7 +8,7 @@ ghost use Rattle.sgb_vec.specs.declared.panics.Panic.TheVariants.{Early, NoRoom}
 ghost use Rattle.sgb_expr.specs.Expression.{expression_of};
 ghost use Rattle.sgb_file.specs.Saving.{text_of_graph};
 ghost use Rattle.sgb_graph.specs.Vertices.{names_of};
-ghost use Rattle.sgb.specs.Certain.{BeginsNowhereOn, IsBoard, IsCertain, IsRefusedAtOnce, NeedsNoMemory};
+ghost use Rattle.sgb.specs.Certain.{BeginsNowhere, IsBoard, IsCertain, IsRefusedAtOnce, NeedsNoMemory};
 ghost use Rattle.sgb.specs.inner.Certain.{HasListingAtOnce, HasNamesAtOnce};
 ghost use Rattle.sgb.specs.Outcomes.{IsAnswered, answer_from, answer_of, list_answer, names_answer, queen_moves, queen_title, reads_input};
 ghost use Rattle.sgb.specs.Inputs.{LosesAtMost};
@@ -167,7 +167,7 @@ fn answer_list<W: Sink>(
         × IsValueOn input.items (expression_of expression.now) value
         × IsEnded (answer_from value (λ g. list_answer g resume.now)) (out.new ≡ out.old)
         (change W.written W.has_failed out.old out.new) result }
-    ensures certain { BeginsNowhereOn expression.now resume.now
+    ensures certain { BeginsNowhere expression.now resume.now
         ⊎ IsRefusedAtOnce (expression_of expression.now)
         → IfErr result (λ f. f ≢ Fault.Panic NoRoom) }
 {

@@ -2,6 +2,7 @@
 use Rattle.std.specs.Prelude.{◌≡◌, ◌⊎◌}
 use Rattle.sgb_vec.specs.declared.panics.Panic.{Panic}
 use Rattle.sgb_gen.specs.declared.params.BoardParams.{BoardParams}
+use Rattle.sgb_expr.specs.declared.expressions.Expr.TheVariants as expr
 use Rattle.sgb_expr.specs.declared.expressions.Generator.{Generator}
 use Rattle.sgb_expr.specs.declared.expressions.Generator.TheVariants as generator
 use Rattle.sgb_requests.specs.declared.requests.Resume.{Resume}
@@ -17,4 +18,4 @@ HasNamesAtOnce f = ((p : BoardParams) × (f ≡ generator.Board p)) ⊎ IsRefuse
 
 -- the listing of its graph needs no memory: it begins nowhere, or the generator is refused so
 abbrev pub HasListingAtOnce : Generator → Resume → Type 0
-HasListingAtOnce f resume = BeginsNowhere f resume ⊎ IsRefusedGenerator f
+HasListingAtOnce f resume = BeginsNowhere (expr.Generator f) resume ⊎ IsRefusedGenerator f

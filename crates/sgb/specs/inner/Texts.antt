@@ -1,4 +1,4 @@
--- The texts of the entries of a vector, and how long lines are.
+-- The texts of the entries of a vector, the line of a number, and how long lines are.
 use Rattle.std.specs.Prelude.{ℕ, Bool, true, false, List, [], ◌∷◌, ◌++◌, decimal}
 
 -- an entry of a vector in its name: after a dot (46) where it is not the first
@@ -10,6 +10,10 @@ entry_text false entry = decimal entry
 abbrev pub entries_text : Bool → List ℕ → List ℕ
 entries_text dotted [] = []
 entries_text dotted (entry ∷ entries) = entry_text dotted entry ++ entries_text true entries
+
+-- the line of a number: its decimal digits and a newline (10)
+abbrev pub number_line : ℕ → List ℕ
+number_line number = decimal number ++ 10 ∷ []
 
 -- a line that is put together has at most this many bytes
 abbrev pub most_line_bytes : ℕ

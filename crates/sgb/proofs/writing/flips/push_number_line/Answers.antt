@@ -1,5 +1,5 @@
 use Rattle.std.proofs.Common.{◌≡◌, ◌∙◌, ◌++◌, List, ℕ, [], ◌∷◌, decimal, ap, append_assoc}
-use Rattle.sgb.specs.FlipAnswers.{number_line}
+use Rattle.sgb.specs.inner.Texts.{number_line}
 use Rattle.sgb.proofs.CutOff.{exit_write}
 use Rattle.sgb.proofs.Pages.{exit_untaken, held_line}
 use Rattle.sgb.proofs.writing.flips.push_number_line.Goals as goal

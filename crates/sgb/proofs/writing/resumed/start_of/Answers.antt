@@ -1,7 +1,9 @@
 use Rattle.std.proofs.Common.{◌≡◌, ◌∙◌, List, ℕ, Some, suc, map, option_map, refl, sym, ap}
+use Rattle.std.specs.Prelude.{ok_or}
 use Rattle.sgb_vec.specs.Names.{name_of_vector}
+use Rattle.sgb_requests.specs.declared.faults.Fault.TheVariants as fault
 use Rattle.sgb_gen.specs.VectorGraphs.{vertex_among}
-use Rattle.sgb.specs.Outcomes.{left_out_by, vertex_named}
+use Rattle.sgb.specs.Outcomes.{vertex_named}
 use Rattle.sgb.proofs.ResumedListings.{skipped_begins}
 use Rattle.sgb.proofs.writing.resumed.start_of.Goals as goal
 
@@ -16,4 +18,4 @@ returns-in-Some g c =
     let x = c.in-Some.vector.items in
     let names : List (List ℕ) = map name_of_vector members in
     let here : vertex_named c.in-After.name names ≡ Some (vertex_among members x) = ap (λ (name : List ℕ). vertex_named name names) (sym c.bytes.ensures) ∙ c.in-Some.ensures.1 in
-    rw c.in-After.is (c.in-Some.ensures.0, (suc (vertex_among members x), ap left_out_by here, refl))
+    rw c.in-After.is (c.in-Some.ensures.0, (suc (vertex_among members x), ap (λ v. ok_or (option_map suc v) fault.NoVertex) here, refl))
