@@ -2,8 +2,9 @@
 use Rattle.std.proofs.Common.{rules, arith, ◌≡◌, ℕ, ◌≤◌, ℤ, Bool, true, false, cond, ltb, List, [], ◌∷◌, length, Result, Ok, Err, refl, ap, ◌∙◌}
 use Rattle.std.proofs.lemmas.Bool.{cases_lt, lt-ltb}
 use Rattle.sgb_vec.specs.Boxes.{box_of, product_of}
-use Rattle.sgb_vec.specs.Limits.{most_dimensions, most_vertices}
-use Rattle.sgb_vec.specs.Sizes.{Normalized, chessboard, board_of, board_by_stop, zero_after_stop, count_by_stop, sizes_by_stop, has_great_size}
+use Rattle.std.specs.List.{list_any}
+use Rattle.sgb_vec.specs.Limits.{most_dimensions, most_entry, most_vertices}
+use Rattle.sgb_vec.specs.Sizes.{Normalized, chessboard, board_of, board_by_stop, zero_after_stop, repeated, count_by_stop}
 use Rattle.sgb_vec.specs.declared.panics.Panic.{Panic}
 use Rattle.sgb_vec.specs.declared.panics.Panic.TheVariants.{Bad, VeryBad}
 use Rattle.sgb_vec.proofs.SimplexBounds.{length-zero_after_stop}
@@ -28,9 +29,10 @@ parameters_by_stop : (entries : List ℤ) (before : List ℕ) (e : ℤ) (s : Nor
 parameters_by_stop entries [] e s four h =
     ap (λ r. length r.params) (same_ok s chessboard h)
 parameters_by_stop entries (n ∷ before) e s four h =
-    let few = chosen (ltb most_dimensions (count_by_stop (n ∷ before) e)) Bad _ s h in
-    let small = chosen (has_great_size (sizes_by_stop (n ∷ before) e)) VeryBad _ s few.1 in
-    ap (λ r. length r.params) (same_ok s (record { params = zero_after_stop entries; sizes = sizes_by_stop (n ∷ before) e }) small.1) ∙ length-zero_after_stop entries ∙ four
+    let sizes = repeated (n ∷ before) (count_by_stop 0 (n ∷ before) e) in
+    let few = chosen (ltb most_dimensions (count_by_stop 0 (n ∷ before) e)) Bad _ s h in
+    let small = chosen (list_any (λ m. ltb most_entry m) sizes) VeryBad _ s few.1 in
+    ap (λ r. length r.params) (same_ok s (record { params = zero_after_stop entries; sizes = sizes }) small.1) ∙ length-zero_after_stop entries ∙ four
 
 -- an accepted board has four parameters
 pub parameters_accepted : (n1 n2 n3 n4 : ℤ) (s : Normalized) → Ok s ≡ board_of n1 n2 n3 n4 → length s.params ≡ 4

@@ -1,13 +1,13 @@
 -- The sizes and parameters of a board, one entry or one size at a time.
-use Rattle.std.proofs.Common.{◌≡◌, ℕ, ℤ, pos, negsuc, ◌+◌, ◌%◌, ◌<◌, ◌≤◌, List, [], ◌∷◌, ◌++◌, true, false, get_or, length, map, Ok, Err, refl, sym, ap, arith}
+use Rattle.std.proofs.Common.{◌≡◌, ℕ, ℤ, pos, ◌+◌, ◌%◌, ◌<◌, ◌≤◌, List, [], ◌∷◌, ◌++◌, true, false, get_or, length, map, Ok, Err, refl, arith}
 use Rattle.std.specs.Prelude.{nat_lt}
 use Rattle.std.specs.List.{range_with_len}
-use Rattle.std.proofs.Math.Nat.{mod-eq_of_lt}
 use Rattle.std.proofs.lemmas.Bool.Decides.{nat_tests}
-use Rattle.std.proofs.lemmas.List.FromFn.{map-range_with_len_more, fill_by_all, get_or-map-range_with_len, length-map-range_with_len}
+use Rattle.std.proofs.lemmas.List.FromFn.{map-range_with_len_more, get_or-map-range_with_len, length-map-range_with_len}
 use Rattle.std.proofs.lemmas.List.Folds.{list_any_at, list_any-append}
 use Rattle.sgb_vec.specs.Limits.{most_dimensions, most_entry}
-use Rattle.sgb_vec.specs.Sizes.{zero_after_stop, repeated, has_great_size, count_by_stop, sizes_by_stop, board_by_stop}
+use Rattle.sgb_vec.specs.Sizes.{chessboard, zero_after_stop, repeated, count_by_stop, board_by_stop}
+use Rattle.sgb_vec.specs.inner.Sizes.{has_great_size}
 use Rattle.sgb_vec.specs.declared.panics.Panic.TheVariants.{VeryBad}
 
 -- no size repeated
@@ -19,12 +19,6 @@ repeated-none s = refl
 pub repeated-more : (s : List ℕ) (k : ℕ) → repeated s (k + 1) ≡ repeated s k ++ get_or s (k % length s) 0 ∷ []
 unfolding repeated
 repeated-more s k = map-range_with_len_more (λ i. get_or s (i % length s) 0) 0 k k (omega arith)
-
--- the sizes repeated to their own number are themselves
-pub repeated_once : (s : List ℕ) → repeated s (length s) ≡ s
-unfolding repeated
-repeated_once s =
-    sym (fill_by_all (λ i. get_or s (i % length s) 0) s (length s) 0 refl (λ k h. ap (λ i. get_or s i 0) (sym (mod-eq_of_lt h))))
 
 -- a size too great among the repeated ones
 pub has_great_size-repeated : (s : List ℕ) (n i : ℕ) → i < n → most_entry < get_or s (i % length s) 0 → has_great_size (repeated s n) ≡ true
@@ -38,21 +32,21 @@ has_great_size-repeated s n i h great =
 pub has_great_size-push : (s : List ℕ) (n : ℕ) → n ≤ most_entry → has_great_size s ≡ false → has_great_size (s ++ n ∷ []) ≡ false
 has_great_size-push s n h small = grind (arith, list_any-append, nat_tests)
 
--- the sizes are the given ones repeated to as many as the stop says
-pub sizes_by_stop-repeated : (s : List ℕ) (e : ℤ) → sizes_by_stop s e ≡ repeated s (count_by_stop s e)
-sizes_by_stop-repeated s (pos n) = sym (repeated_once s)
-sizes_by_stop-repeated s (negsuc n) = refl
-
 -- few dimensions, with a size too great
-pub board_by_stop-great : (entries : List ℤ) (s : List ℕ) (e : ℤ) → 0 < length s → count_by_stop s e ≤ most_dimensions → has_great_size (repeated s (count_by_stop s e)) ≡ true → board_by_stop entries s e ≡ Err VeryBad
+pub board_by_stop-great : (entries : List ℤ) (s : List ℕ) (e : ℤ) → 0 < length s → count_by_stop 0 s e ≤ most_dimensions → has_great_size (repeated s (count_by_stop 0 s e)) ≡ true → board_by_stop entries s e ≡ Err VeryBad
 board_by_stop-great entries [] e some few great = absurd (omega arith)
 board_by_stop-great entries (x ∷ s) e some few great =
-    let t : nat_lt most_dimensions (count_by_stop (x ∷ s) e) ≡ false = grind (arith, nat_tests) in
-    rw (t, sizes_by_stop-repeated (x ∷ s) e, great) refl
+    let t : nat_lt most_dimensions (count_by_stop 0 (x ∷ s) e) ≡ false = grind (arith, nat_tests) in
+    rw (t, great) refl
 
 -- few dimensions, with no size too great
-pub board_by_stop-fits : (entries : List ℤ) (s : List ℕ) (e : ℤ) → 0 < length s → count_by_stop s e ≤ most_dimensions → has_great_size (repeated s (count_by_stop s e)) ≡ false → board_by_stop entries s e ≡ Ok (record { params = zero_after_stop entries; sizes = repeated s (count_by_stop s e) })
+pub board_by_stop-fits : (entries : List ℤ) (s : List ℕ) (e : ℤ) → 0 < length s → count_by_stop 0 s e ≤ most_dimensions → has_great_size (repeated s (count_by_stop 0 s e)) ≡ false → board_by_stop entries s e ≡ Ok (record { params = zero_after_stop entries; sizes = repeated s (count_by_stop 0 s e) })
 board_by_stop-fits entries [] e some few small = absurd (omega arith)
 board_by_stop-fits entries (x ∷ s) e some few small =
-    let t : nat_lt most_dimensions (count_by_stop (x ∷ s) e) ≡ false = grind (arith, nat_tests) in
-    rw (t, sizes_by_stop-repeated (x ∷ s) e, small) refl
+    let t : nat_lt most_dimensions (count_by_stop 0 (x ∷ s) e) ≡ false = grind (arith, nat_tests) in
+    rw (t, small) refl
+
+-- 8 and 8 with zeros after them are the chessboard
+pub chessboard_by_stop : board_by_stop (pos 8 ∷ pos 8 ∷ pos 0 ∷ pos 0 ∷ []) (8 ∷ 8 ∷ []) (pos 0) ≡ Ok chessboard
+unfolding repeated
+chessboard_by_stop = refl

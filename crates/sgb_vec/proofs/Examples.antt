@@ -20,6 +20,7 @@ sizes_count (Err e) = 0
 
 -- board(0,5,5,5,..) is the chessboard
 pub board_default : board_of (pos 0) (pos 5) (pos 5) (pos 5) ≡ Ok (record { params = pos 8 ∷ pos 8 ∷ pos 0 ∷ pos 0 ∷ []; sizes = 8 ∷ 8 ∷ [] })
+unfolding repeated
 board_default = refl
 
 -- board(2,3,5,-7,..) repeats its three sizes seven times over
@@ -64,9 +65,11 @@ unfolding repeated
 board_refused_twice = refl
 
 pub board_of_a_great_size : board_of (pos 4294967296) (pos 0) (pos 0) (pos 0) ≡ Err VeryBad
+unfolding repeated
 board_of_a_great_size = refl
 
 pub board_of_the_greatest_size : board_of (pos 4294967295) (pos 0) (pos 0) (pos 0) ≡ Ok (record { params = pos 4294967295 ∷ pos 0 ∷ pos 0 ∷ pos 0 ∷ []; sizes = 4294967295 ∷ [] })
+unfolding repeated
 board_of_the_greatest_size = refl
 
 pub board_of_250_dimensions : sizes_count (board_of (pos 1) (negsuc 249) (pos 0) (pos 0)) ≡ 250
@@ -109,10 +112,12 @@ simplex_repeated = refl
 -- simplex(0,3,0,..): the bound is clamped to 0, in the name too, and there are no dimensions
 pub simplex_cut : simplex_of (pos 0) (pos 3) (pos 0) (pos 0) (pos 0) (pos 0)
     ≡ Ok (record { params = pos 0 ∷ pos 0 ∷ pos 0 ∷ pos 0 ∷ pos 0 ∷ pos 0 ∷ []; sizes = 0 ∷ [] })
+unfolding repeated
 simplex_cut = refl
 
 -- a negative n, more than 250 dimensions, n above 1,000,000,000
 pub simplex_negative : simplex_of (negsuc 0) (pos 0) (pos 0) (pos 0) (pos 0) (pos 0) ≡ Err Bad
+unfolding repeated
 simplex_negative = refl
 
 pub simplex_of_250_dimensions : sizes_count (simplex_of (pos 1) (negsuc 249) (pos 0) (pos 0) (pos 0) (pos 0)) ≡ 251
@@ -125,9 +130,11 @@ simplex_of_251_dimensions = refl
 
 -- simplex(1000000001,-251,..) has too many dimensions and a sum too great: that there are too many dimensions comes first
 pub simplex_refused_twice : simplex_of (pos 1_000_000_001) (negsuc 250) (pos 0) (pos 0) (pos 0) (pos 0) ≡ Err Bad
+unfolding repeated
 simplex_refused_twice = refl
 
 pub simplex_of_a_great_sum : simplex_of (pos 1_000_000_001) (negsuc 249) (pos 0) (pos 0) (pos 0) (pos 0) ≡ Err VeryBad
+unfolding repeated
 simplex_of_a_great_sum = refl
 
 -- the entries after the stop become 0, and those before it that are above n become n
@@ -137,6 +144,7 @@ unfolding repeated
 simplex_name = refl
 
 pub simplex_too_great : simplex_of (pos 1_000_000_001) (pos 1) (pos 0) (pos 0) (pos 0) (pos 0) ≡ Err VeryBad
+unfolding repeated
 simplex_too_great = refl
 
 -- ---- sums

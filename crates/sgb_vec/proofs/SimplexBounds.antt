@@ -1,19 +1,14 @@
 -- The bounds and parameters of a simplex, one bound or one entry at a time.
-use Rattle.std.proofs.Common.{◌≡◌, ℕ, zero, suc, ℤ, pos, negsuc, ◌+◌, ◌%◌, ◌≤◌, min, List, [], ◌∷◌, ◌++◌, false, get_or, length, map, Ok, Err, refl, sym, ap, subst, arith, rules}
+use Rattle.std.proofs.Common.{◌≡◌, ℕ, zero, suc, ℤ, pos, negsuc, ◌+◌, ◌%◌, ◌≤◌, min, List, [], ◌∷◌, ◌++◌, false, get_or, length, map, Ok, Err, refl, ap, subst, arith, rules}
 use Rattle.std.specs.Prelude.{Bool, nat_abs, All, if◌then◌else◌}
 use Rattle.std.proofs.lemmas.Bool.Decides.{nat_tests}
 use Rattle.std.proofs.lemmas.List.{map-append, length-map}
 use Rattle.std.proofs.lemmas.List.Elements.{All-nil, All-cons}
 use Rattle.sgb_vec.specs.Limits.{most_dimensions, most_vertices}
-use Rattle.sgb_vec.specs.Sizes.{Normalized, before_stop, stop_of, zero_after_stop, repeated}
-use Rattle.sgb_vec.specs.Bounds.{first_parameter, bounds_to_repeat, bounds_count, bounds_by_stop, clamped_parameter, simplex_by_stop, simplex_of}
+use Rattle.sgb_vec.specs.Sizes.{Normalized, before_stop, count_by_stop, stop_of, zero_after_stop, repeated}
+use Rattle.sgb_vec.specs.Bounds.{first_parameter, bounds_to_repeat, clamped_parameter, simplex_by_stop, simplex_of}
 use Rattle.sgb_vec.specs.declared.panics.Panic.TheVariants.{Bad, VeryBad}
-use Rattle.sgb_vec.proofs.BoardSizes.{repeated-none, repeated-more, repeated_once}
-
--- the bounds are the given ones repeated to as many as the stop says
-pub bounds_by_stop-repeated : (s : List ℕ) (e : ℤ) → bounds_by_stop s e ≡ repeated s (bounds_count s e)
-bounds_by_stop-repeated s (pos n) = sym (repeated_once s)
-bounds_by_stop-repeated s (negsuc n) = refl
+use Rattle.sgb_vec.proofs.BoardSizes.{repeated-none, repeated-more}
 
 -- no bound clamped
 pub clamped-none : (n : ℕ) (s : List ℕ) → map (λ b. min b n) (repeated s 0) ≡ []
@@ -31,8 +26,8 @@ length-zero_after_stop (pos (suc n) ∷ rest) = grind (arith, length-zero_after_
 length-zero_after_stop (negsuc d ∷ rest) = grind (arith, length-map rest (λ (n : ℤ). pos 0))
 
 -- an accepted simplex
-pub simplex_by_stop-fits : (n : ℕ) (entries : List ℤ) (s : List ℕ) (e : ℤ) → bounds_count s e ≤ most_dimensions + 1 → n ≤ most_vertices → simplex_by_stop n entries s e ≡ Ok (record { params = pos n ∷ map (clamped_parameter n) (zero_after_stop entries); sizes = map (λ b. min b n) (repeated s (bounds_count s e)) })
-simplex_by_stop-fits n entries s e few small = grind (arith, nat_tests, bounds_by_stop-repeated)
+pub simplex_by_stop-fits : (n : ℕ) (entries : List ℤ) (s : List ℕ) (e : ℤ) → count_by_stop 1 s e ≤ most_dimensions + 1 → n ≤ most_vertices → simplex_by_stop n entries s e ≡ Ok (record { params = pos n ∷ map (clamped_parameter n) (zero_after_stop entries); sizes = map (λ b. min b n) (repeated s (count_by_stop 1 s e)) })
+simplex_by_stop-fits n entries s e few small = grind (arith, nat_tests)
 
 -- what is accepted where neither test refuses it
 accepted_of : (b c : Bool) (given shape : Normalized) → (if b then Err Bad else (if c then Err VeryBad else Ok given)) ≡ Ok shape → (b ≡ false) × (c ≡ false) × (given ≡ shape)
@@ -58,8 +53,8 @@ small_parameters (pos n) n0 n1 n2 n3 n4 shape accepted =
     let entries = first_parameter n0 ∷ n1 ∷ n2 ∷ n3 ∷ n4 ∷ [] in
     let s = bounds_to_repeat n (before_stop entries) in
     let w = accepted_of _ _ _ shape accepted in
-    let few : bounds_count s (stop_of entries) ≤ most_dimensions + 1 = grind (arith, nat_tests, w.0) in
+    let few : count_by_stop 1 s (stop_of entries) ≤ most_dimensions + 1 = grind (arith, nat_tests, w.0) in
     let low : n ≤ most_vertices = grind (arith, nat_tests, w.1) in
-    let stop : (e : ℕ) → stop_of entries ≡ negsuc e → e + 1 ≤ most_vertices = λ e same. omega (arith, few, ap (bounds_count s) same) in
+    let stop : (e : ℕ) → stop_of entries ≡ negsuc e → e + 1 ≤ most_vertices = λ e same. omega (arith, few, ap (count_by_stop 1 s) same) in
     subst (λ (r : Normalized). All (λ p. nat_abs p ≤ most_vertices) r.params) w.2
     (All-cons (λ p. nat_abs p ≤ most_vertices) (pos n) _ low (entries_small n most_vertices entries low stop))

@@ -1,9 +1,9 @@
 -- The bounds of a simplex [GB_BASIC, simplex]: (n0, n1, n2, n3, n4, 0) is read up to the first entry that is
 -- not positive, the stop. The entries before it are the bounds, or are repeated where the stop is negative; no
 -- bound is above n. Where n0 itself is the stop, each bound is n.
-use Rattle.std.specs.Prelude.{ℕ, zero, suc, ◌+◌, min, ℤ, pos, negsuc, List, [], ◌∷◌, length, map, Result, Ok, Err, nat_lt, if◌then◌else◌}
+use Rattle.std.specs.Prelude.{ℕ, zero, suc, ◌+◌, min, ℤ, pos, negsuc, List, [], ◌∷◌, map, Result, Ok, Err, nat_lt, if◌then◌else◌}
 use Rattle.sgb_vec.specs.Limits.{most_dimensions, most_vertices}
-use Rattle.sgb_vec.specs.Sizes.{Normalized, before_stop, stop_of, repeated, zero_after_stop}
+use Rattle.sgb_vec.specs.Sizes.{Normalized, before_stop, count_by_stop, stop_of, repeated, zero_after_stop}
 use Rattle.sgb_vec.specs.declared.panics.Panic.{Panic}
 use Rattle.sgb_vec.specs.declared.panics.Panic.TheVariants.{Bad, VeryBad}
 
@@ -18,29 +18,19 @@ abbrev pub bounds_to_repeat : ℕ → List ℕ → List ℕ
 bounds_to_repeat n [] = n ∷ []
 bounds_to_repeat n (b ∷ s) = b ∷ s
 
--- how many bounds, one more than dimensions: as many as stand before a stop of 0, and d + 1 before a stop of -d
-abbrev pub bounds_count : List ℕ → ℤ → ℕ
-bounds_count s (pos e) = length s
-bounds_count s (negsuc e) = e + 2
-
--- the bounds: those before a stop of 0, and the first d + 1 of them repeated before a stop of -d
-abbrev pub bounds_by_stop : List ℕ → ℤ → List ℕ
-bounds_by_stop s (pos e) = s
-bounds_by_stop s (negsuc e) = repeated s (e + 2)
-
 -- a parameter as the official name has it: n in the place of a bound above n
 abbrev pub clamped_parameter : ℕ → ℤ → ℤ
 clamped_parameter n (pos b) = pos (min b n)
 clamped_parameter n (negsuc d) = negsuc d
 
--- the parameters and bounds, where s is to be repeated before the stop e of the entries
+-- the parameters and bounds, where s is to be repeated before the stop e of the entries: to d + 1 bounds where e is -d
 abbrev pub simplex_by_stop : ℕ → List ℤ → List ℕ → ℤ → Result Normalized Panic
 simplex_by_stop n entries s e =
-    if nat_lt (most_dimensions + 1) (bounds_count s e) then Err Bad
+    if nat_lt (most_dimensions + 1) (count_by_stop 1 s e) then Err Bad
     else (if nat_lt most_vertices n then Err VeryBad
     else Ok (record {
       params = pos n ∷ map (clamped_parameter n) (zero_after_stop entries);
-      sizes = map (λ b. min b n) (bounds_by_stop s e);
+      sizes = map (λ b. min b n) (repeated s (count_by_stop 1 s e));
     }))
 
 -- the parameters n, n0, n1, n2, n3, n4 of a simplex normalised, with its bounds; or why they are refused: a

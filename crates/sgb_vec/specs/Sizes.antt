@@ -1,6 +1,6 @@
 -- The sizes of a board [GB_BASIC, board]: (n1, n2, n3, n4, 0) is read up to the first entry that is not
 -- positive, the stop. The entries before it are the sizes, or are repeated where the stop is negative.
-use Rattle.std.specs.Prelude.{ℕ, ◌+◌, ◌%◌, ℤ, pos, negsuc, Bool, zero, suc, List, [], ◌∷◌, length, map, Result, Ok, Err, slice_index, nat_lt, if◌then◌else◌}
+use Rattle.std.specs.Prelude.{ℕ, ◌+◌, ◌%◌, ℤ, pos, negsuc, zero, suc, List, [], ◌∷◌, length, map, Result, Ok, Err, slice_index, nat_lt, if◌then◌else◌}
 use Rattle.std.specs.List.{range_with_len, list_any}
 use Rattle.sgb_vec.specs.Limits.{most_dimensions, most_entry}
 use Rattle.sgb_vec.specs.declared.panics.Panic.{Panic}
@@ -24,15 +24,10 @@ stop_of (negsuc n ∷ rest) = negsuc n
 unfoldable pub repeated : List ℕ → ℕ → List ℕ
 repeated s k = map (λ i. slice_index s (i % length s)) (range_with_len 0 k)
 
--- how many sizes: as many as stand before a stop of 0, and d before a stop of -d
-abbrev pub count_by_stop : List ℕ → ℤ → ℕ
-count_by_stop s (pos n) = length s
-count_by_stop s (negsuc n) = n + 1
-
--- the sizes: those before a stop of 0, and the first d of them repeated before a stop of -d
-abbrev pub sizes_by_stop : List ℕ → ℤ → List ℕ
-sizes_by_stop s (pos n) = s
-sizes_by_stop s (negsuc n) = repeated s (n + 1)
+-- how many sizes, or bounds: as many as stand before a stop of 0, and d and so many more before a stop of -d
+abbrev pub count_by_stop : ℕ → List ℕ → ℤ → ℕ
+count_by_stop more s (pos n) = length s
+count_by_stop more s (negsuc n) = n + 1 + more
 
 -- the parameters as the official name has them: 0 in the place of each entry after the stop
 abbrev pub zero_after_stop : List ℤ → List ℤ
@@ -50,17 +45,14 @@ pub record Normalized : Type 0 where
 abbrev pub chessboard : Normalized
 chessboard = record { params = pos 8 ∷ pos 8 ∷ pos 0 ∷ pos 0 ∷ []; sizes = 8 ∷ 8 ∷ [] }
 
--- some size is above 4,294,967,295
-abbrev pub has_great_size : List ℕ → Bool
-has_great_size sizes = list_any (λ n. nat_lt most_entry n) sizes
-
--- the parameters and sizes, where s stands before the stop e of the entries
+-- the parameters and sizes, where s stands before the stop e of the entries: s repeated to d sizes where e is -d
 abbrev pub board_by_stop : List ℤ → List ℕ → ℤ → Result Normalized Panic
 board_by_stop entries [] e = Ok chessboard
 board_by_stop entries (n ∷ s) e =
-    if nat_lt most_dimensions (count_by_stop (n ∷ s) e) then Err Bad
-    else (if has_great_size (sizes_by_stop (n ∷ s) e) then Err VeryBad
-    else Ok (record { params = zero_after_stop entries; sizes = sizes_by_stop (n ∷ s) e }))
+    let sizes = repeated (n ∷ s) (count_by_stop 0 (n ∷ s) e) in
+    if nat_lt most_dimensions (count_by_stop 0 (n ∷ s) e) then Err Bad
+    else (if list_any (λ m. nat_lt most_entry m) sizes then Err VeryBad
+    else Ok (record { params = zero_after_stop entries; sizes = sizes }))
 
 -- the parameters n1, n2, n3, n4 of a board normalised, with its sizes; or why they are refused:
 -- too many dimensions first, then a size above 4,294,967,295

@@ -5,6 +5,8 @@ pub mod BoxWidth
 pub mod Ranges
 -- the vectors of the families rise
 pub mod Rising
+-- sizes that are too great
+pub mod Sizes
 -- how many vectors of a bounded sum have a smaller first entry
 pub mod SumPlaces
 -- rows of counts of a bounded sum

@@ -1,6 +1,7 @@
 ghost use Rattle.std.specs.Prelude.{◌≡◌, ◌<◌, ◌≤◌, length, true, false, MatchResult};
 ghost use Rattle.sgb_vec.specs.Limits.{most_dimensions};
-ghost use Rattle.sgb_vec.specs.Sizes.{before_stop, stop_of, repeated, count_by_stop, has_great_size, board_by_stop, board_of};
+ghost use Rattle.sgb_vec.specs.Sizes.{before_stop, stop_of, repeated, count_by_stop, board_by_stop, board_of};
+ghost use Rattle.sgb_vec.specs.inner.Sizes.{has_great_size};
 
 use super::entries::{before_stop, stop_of, zero_after_stop};
 use super::{MOST_DIMENSIONS, Shape};
@@ -38,7 +39,7 @@ fn board_of(entries: &[i64; 4]) -> Result<Shape, Panic>
 
 // How many sizes the board has; -stop may be as great as 2^63.
 fn dimension_count(before: &[u64], stop: i64) -> u64
-    ensures { result ≡ count_by_stop before.now stop }
+    ensures { result ≡ count_by_stop 0 before.now stop }
 {
     if stop < 0 {
         return stop.unsigned_abs();

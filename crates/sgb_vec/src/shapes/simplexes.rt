@@ -1,7 +1,7 @@
 ghost use Rattle.std.specs.Prelude.{◌≡◌, ◌+◌, ◌<◌, ◌≤◌, pos, ◌∷◌, length, map, min};
 ghost use Rattle.sgb_vec.specs.Limits.{most_dimensions};
-ghost use Rattle.sgb_vec.specs.Sizes.{before_stop, stop_of, repeated, zero_after_stop};
-ghost use Rattle.sgb_vec.specs.Bounds.{first_parameter, bounds_to_repeat, bounds_count, clamped_parameter, simplex_by_stop, simplex_of};
+ghost use Rattle.sgb_vec.specs.Sizes.{before_stop, count_by_stop, stop_of, repeated, zero_after_stop};
+ghost use Rattle.sgb_vec.specs.Bounds.{first_parameter, bounds_to_repeat, clamped_parameter, simplex_by_stop, simplex_of};
 
 use super::entries::{before_stop, stop_of, zero_after_stop};
 use super::{MOST_DIMENSIONS, Shape};
@@ -62,7 +62,7 @@ fn bounds_to_repeat(n: u64, mut before: ArrayVec<u64, 5>) -> ArrayVec<u64, 5>
 
 // How many bounds the simplex has; -stop may be as great as 2^63.
 fn bounds_count(to_repeat: &[u64], stop: i64) -> u64
-    ensures { result ≡ bounds_count to_repeat.now stop }
+    ensures { result ≡ count_by_stop 1 to_repeat.now stop }
 {
     if stop < 0 {
         return stop.unsigned_abs() + 1;

@@ -1,5 +1,6 @@
 use Rattle.std.proofs.Common.{◌≡◌, length, false}
-use Rattle.sgb_vec.specs.Sizes.{repeated, has_great_size}
+use Rattle.sgb_vec.specs.Sizes.{repeated}
+use Rattle.sgb_vec.specs.inner.Sizes.{has_great_size}
 use Rattle.sgb_vec.proofs.shapes.boards.repeated.Given as goal
 
 -- the sizes so far are the first ones, and none is too great
