@@ -16,8 +16,8 @@ use Rattle.sgb_vec.proofs.Lists.{passing_first}
 use Rattle.sgb_vec.specs.Limits.{most_vertices}
 use Rattle.sgb_vec.proofs.BoxPlaces.{IsBelow-from_Contains, length-box}
 use Rattle.sgb_vec.proofs.Products.{factors-pos}
-use Rattle.sgb_gen.specs.Boards.{BoardData, board_graph, moves_of_board}
-use Rattle.sgb_gen.specs.VectorGraphs.{family_graph}
+use Rattle.sgb_gen.specs.Boards.{BoardData, board_vector_graph, moves_of_board}
+use Rattle.sgb_gen.specs.VectorGraphs.{described_by, family_graph}
 use Rattle.sgb_gen.specs.Moves.{Side, is_bit_set, sides_from_bit, sides_of, place}
 use Rattle.sgb_gen.specs.inner.BoardCounts.{starts_on, is_home_on, starts_product, is_home, comes_home, starts_count}
 use Rattle.sgb_gen.specs.inner.LocalBoards.{moves_by}
@@ -193,17 +193,17 @@ great (Some x) n e h = absurd (cc)
 
 -- ---- the arcs of the graph
 
-pub arcs-of-directed : (b : BoardData) → b.directed ≡ true → (graph_described (board_graph b)).m ≡ length (moves_of_board b)
+pub arcs-of-directed : (b : BoardData) → b.directed ≡ true → (graph_described (described_by (board_vector_graph b))).m ≡ length (moves_of_board b)
 unfolding family_graph
 arcs-of-directed b e = grind (arith, arcs-directed, length-map)
 
-pub arcs-of-undirected : (b : BoardData) → b.directed ≡ false → (graph_described (board_graph b)).m ≡ length (moves_of_board b) * 2
+pub arcs-of-undirected : (b : BoardData) → b.directed ≡ false → (graph_described (described_by (board_vector_graph b))).m ≡ length (moves_of_board b) * 2
 unfolding family_graph
 arcs-of-undirected b e = grind (arith, arcs-undirected, length-map)
 
 -- there are as many arcs as moves at least
-moves-le-arcs : (b : BoardData) → length (moves_of_board b) ≤ (graph_described (board_graph b)).m
+moves-le-arcs : (b : BoardData) → length (moves_of_board b) ≤ (graph_described (described_by (board_vector_graph b))).m
 moves-le-arcs b = grind (arith, cases_Bool, arcs-of-directed, arcs-of-undirected)
 
-pub great-moves : (b : BoardData) → 2 ^ 128 ≤ length (moves_of_board b) → 2 ^ 128 ≤ (graph_described (board_graph b)).m
+pub great-moves : (b : BoardData) → 2 ^ 128 ≤ length (moves_of_board b) → 2 ^ 128 ≤ (graph_described (described_by (board_vector_graph b))).m
 great-moves b h = omega (arith, h, moves-le-arcs b)

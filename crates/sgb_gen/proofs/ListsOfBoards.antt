@@ -13,7 +13,7 @@ use Rattle.sgb_vec.specs.Boxes.{box}
 use Rattle.sgb_vec.specs.Lexicographic.{IsBefore, IsBelow, IsRising}
 use Rattle.sgb_vec.proofs.FamilyLaws.{box_vectors_rise}
 use Rattle.sgb_vec.proofs.BoxPlaces.{Contains-from_IsBelow, IsBelow-from_Contains}
-use Rattle.sgb_gen.specs.Boards.{BoardData, board_vectors, moves_of_board}
+use Rattle.sgb_gen.specs.Boards.{BoardData, moves_of_board}
 use Rattle.sgb_gen.specs.Displacements.{signings, sum_of_squares}
 use Rattle.sgb_gen.specs.inner.EntryBounds.{displacements_within, vectors_within}
 use Rattle.sgb_gen.specs.inner.LocalArcs.{arcs_by, arcs_of_moves}
@@ -129,22 +129,22 @@ moves_end vectors x leads (l ∷ ls) from to = next (leads l) refl (moves_end ve
     next None e rest = All-nil (HasEnds vectors)
     next (Some y) e rest = All-cons (HasEnds vectors) (move x l y) (moves_until x leads ls) (from, to l y e) rest
 
-moves_end_on_board : (b : BoardData) (t : List ℤ) (x : List ℕ) → Contains (board_vectors b) x → All (HasEnds (board_vectors b)) (moves_from (sides_of b.sizes b.wrap) b.piece x t)
+moves_end_on_board : (b : BoardData) (t : List ℤ) (x : List ℕ) → Contains (box b.sizes) x → All (HasEnds (box b.sizes)) (moves_from (sides_of b.sizes b.wrap) b.piece x t)
 moves_end_on_board b t x there =
     let sides = sides_of b.sizes b.wrap in
     let below : IsBelow x b.sizes = IsBelow-from_Contains b.sizes x there in
-    subst (All (HasEnds (board_vectors b))) (sym (moves_from-until sides b.piece x t))
-    (moves_end (board_vectors b) x (destination sides b.piece x t) (range_with_len 1 (longest_move sides b.piece)) there
+    subst (All (HasEnds (box b.sizes))) (sym (moves_from-until sides b.piece x t))
+    (moves_end (box b.sizes) x (destination sides b.piece x t) (range_with_len 1 (longest_move sides b.piece)) there
     (λ l y leads. Contains-from_IsBelow b.sizes y (destination-below b.sizes b.wrap b.piece x t l y below leads)))
 
-pub ends_on_board : (b : BoardData) → All (HasEnds (board_vectors b)) (moves_of_board b)
+pub ends_on_board : (b : BoardData) → All (HasEnds (box b.sizes)) (moves_of_board b)
 unfolding board_moves
 ends_on_board b = search (rules, All-flat_map, moves_end_on_board, All-contains_itself)
 
 -- the list of a vector is what all moves make one after another, turned round
-pub list_of_board : (b : BoardData) (x : List ℕ) → Contains (board_vectors b) x → list_at b.directed (board_vectors b) (moves_of_board b) x ≡ reverse (arcs_onward b.directed x (moves_of_board b))
+pub list_of_board : (b : BoardData) (x : List ℕ) → Contains (box b.sizes) x → list_at b.directed (box b.sizes) (moves_of_board b) x ≡ reverse (arcs_onward b.directed x (moves_of_board b))
 list_of_board b x there =
-    cc (list_at-moves (board_vectors b) (box_vectors_rise b.sizes) b.directed x (moves_of_board b) there (ends_on_board b), list_turned b.directed x (moves_of_board b))
+    cc (list_at-moves (box b.sizes) (box_vectors_rise b.sizes) b.directed x (moves_of_board b) there (ends_on_board b), list_turned b.directed x (moves_of_board b))
 
 -- what the moves by one displacement make stands before what those by the others make
 pub onward-first : (directed : Bool) (x : List ℕ) (sides : List Side) (piece : ℤ) (vectors : List (List ℕ)) (t : List ℤ) (ts : List (List ℤ))

@@ -5,7 +5,8 @@ use Rattle.std.proofs.lemmas.List.{reverse-append}
 use Rattle.std.proofs.lemmas.List.Concat.{flat_map-append}
 use Rattle.sgb_gen.specs.LocalLists.{LocalArc, LinksData}
 use Rattle.sgb_gen.specs.inner.LocalSimplexes.{arc_by_unit, can_return, returned, arcs_back, arcs_on, pairs_down, with_arcs}
-use Rattle.sgb_gen.specs.Simplexes.{Places, can_shift, shifted, pairs_from, pairs_of_places}
+use Rattle.sgb_gen.specs.Simplexes.{Places, pairs_of_places}
+use Rattle.sgb_gen.specs.inner.Simplexes.{can_shift, shifted, pairs_from}
 use Rattle.sgb_vec.proofs.Lists.{made-append, range-more}
 use Rattle.sgb_gen.proofs.SimplexEvents.{pairs_left, pairs_left-next, pairs_left-none, pairs_after, pairs_after-all, pairs_after-next}
 

@@ -3,7 +3,8 @@ use Rattle.std.proofs.Common.{◌≡◌, ℕ, zero, suc, ◌<◌, ◌≤◌, tru
 use Rattle.std.proofs.lemmas.Bool.{and_parts, ltb-true}
 use Rattle.std.proofs.lemmas.List.Sums.{sum_by-set}
 use Rattle.sgb_vec.specs.Lexicographic.{IsWithin}
-use Rattle.sgb_gen.specs.Simplexes.{Places, can_shift, shifted}
+use Rattle.sgb_gen.specs.Simplexes.{Places}
+use Rattle.sgb_gen.specs.inner.Simplexes.{can_shift, shifted}
 
 -- an entry within its bound in the place of another
 pub IsWithin-set : (v bounds : List ℕ) (i x : ℕ) → IsWithin v bounds → x ≤ get_or bounds i 0 → IsWithin (set v i x) bounds

@@ -4,7 +4,8 @@ use Rattle.std.proofs.lemmas.Bool.{and_parts, and_from, cases_eq, ltb-true}
 use Rattle.std.proofs.lemmas.Bool.Decides.{Decides-ltb}
 use Rattle.std.proofs.lemmas.List.{ext_get_or, get_or-set_same, get_or-set_other}
 use Rattle.sgb_vec.specs.Lexicographic.{IsBefore, IsWithin}
-use Rattle.sgb_gen.specs.Simplexes.{Places, unit_moved, can_shift, shifted}
+use Rattle.sgb_gen.specs.Simplexes.{Places, unit_moved}
+use Rattle.sgb_gen.specs.inner.Simplexes.{can_shift, shifted}
 use Rattle.sgb_gen.specs.inner.LocalSimplexes.{can_return, returned}
 use Rattle.sgb_gen.proofs.OrderedLists.{before_at}
 use Rattle.sgb_gen.proofs.ShiftLemmas.{IsWithin-set, entry_within, shifted-in_sum}

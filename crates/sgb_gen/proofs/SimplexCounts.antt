@@ -14,8 +14,9 @@ use Rattle.sgb_vec.specs.declared.panics.Panic.{Panic}
 use Rattle.sgb_vec.specs.declared.panics.Panic.TheVariants.{NoRoom}
 use Rattle.sgb_vec.proofs.Lists.{AllPairs-follows, AllPairs-map, Contains-image, Contains-passing, filter-none, never_true, passing_first}
 use Rattle.sgb_vec.proofs.SumMembers.{Contains-bounded_sums, IsWithin-length, bounded_sums-rise}
-use Rattle.sgb_gen.specs.VectorGraphs.{family_graph}
-use Rattle.sgb_gen.specs.Simplexes.{SimplexData, Places, can_shift, pairs_of_places, moves_by, moves_to, moves_of_simplex, simplex_graph, simplex_vectors}
+use Rattle.sgb_gen.specs.VectorGraphs.{described_by, family_graph}
+use Rattle.sgb_gen.specs.Simplexes.{SimplexData, Places, pairs_of_places, moves_to, moves_of_simplex, simplex_vector_graph, simplex_vectors}
+use Rattle.sgb_gen.specs.inner.Simplexes.{can_shift, moves_by}
 use Rattle.sgb_gen.specs.inner.SimplexCounts.{less_at, lowered, shifts_count, shifts_by}
 use Rattle.sgb_gen.proofs.BoardCountsBoards.{arcs-directed, arcs-undirected}
 use Rattle.sgb_gen.proofs.LoweredBounds.{before-less_at, within-less_both, within-less, more_at, less-more_at, within-more, within-more_both, sum-less_at, none_great-lowered}
@@ -157,11 +158,11 @@ moves-counted s =
 
 -- ---- the arcs of the graph
 
-pub arcs-of-directed : (s : SimplexData) → s.directed ≡ true → (graph_described (simplex_graph s)).m ≡ length (moves_of_simplex s)
+pub arcs-of-directed : (s : SimplexData) → s.directed ≡ true → (graph_described (described_by (simplex_vector_graph s))).m ≡ length (moves_of_simplex s)
 unfolding family_graph
 arcs-of-directed s e = grind (arith, arcs-directed, length-map)
 
-pub arcs-of-undirected : (s : SimplexData) → s.directed ≡ false → (graph_described (simplex_graph s)).m ≡ length (moves_of_simplex s) * 2
+pub arcs-of-undirected : (s : SimplexData) → s.directed ≡ false → (graph_described (described_by (simplex_vector_graph s))).m ≡ length (moves_of_simplex s) * 2
 unfolding family_graph
 arcs-of-undirected s e = grind (arith, arcs-undirected, length-map)
 

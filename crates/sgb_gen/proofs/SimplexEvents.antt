@@ -6,7 +6,8 @@ use Rattle.std.proofs.lemmas.List.Elements.{filter-append, length_all_zip}
 use Rattle.sgb_vec.proofs.SumMembers.{Contains-bounded_sums, bounded_sums-rise}
 use Rattle.sgb_graph.specs.Events.{Event}
 use Rattle.sgb_gen.specs.VectorGraphs.{event_among, vertex_among}
-use Rattle.sgb_gen.specs.Simplexes.{SimplexData, Places, can_shift, shifted, pairs_from, pairs_of_places, moves_by, moves_to, moves_of_simplex, simplex_vectors}
+use Rattle.sgb_gen.specs.Simplexes.{SimplexData, Places, pairs_of_places, moves_to, moves_of_simplex, simplex_vectors}
+use Rattle.sgb_gen.specs.inner.Simplexes.{can_shift, shifted, pairs_from, moves_by}
 use Rattle.sgb_gen.proofs.FamilyWalks.{map-flat_map}
 use Rattle.sgb_gen.proofs.RisingVectors.{vertex_in_rising}
 use Rattle.sgb_gen.proofs.ShiftLemmas.{shifted-in_sum}

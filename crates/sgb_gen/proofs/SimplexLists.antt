@@ -12,7 +12,8 @@ use Rattle.sgb_vec.specs.Sums.{bounded_sums}
 use Rattle.sgb_vec.proofs.SumMembers.{Contains-bounded_sums, bounded_sums-rise}
 use Rattle.sgb_graph.proofs.Lists.{map-map}
 use Rattle.sgb_gen.specs.VectorGraphs.{HasEnds, Move, same_vector}
-use Rattle.sgb_gen.specs.Simplexes.{SimplexData, simplex_vectors, moves_of_simplex, Places, can_shift, shifted, pairs_from, pairs_of_places, moves_by, moves_to}
+use Rattle.sgb_gen.specs.Simplexes.{SimplexData, simplex_vectors, moves_of_simplex, Places, pairs_of_places, moves_to}
+use Rattle.sgb_gen.specs.inner.Simplexes.{can_shift, shifted, pairs_from, moves_by}
 use Rattle.sgb_gen.specs.inner.LocalArcs.{arc_if, arcs_by, arcs_of_moves}
 use Rattle.sgb_gen.specs.LocalLists.{LocalArc, list_at}
 use Rattle.sgb_gen.specs.inner.LocalSimplexes.{can_return, returned, arcs_back, arcs_on, pairs_down, pairs_back, arcs_by_pairs}

@@ -16,8 +16,8 @@ use Rattle.sgb_vec.proofs.Lists.{reverse-first}
 use Rattle.sgb_vec.proofs.SumMembers.{Contains-bounded_sums, bounded_sums-rise}
 use Rattle.sgb_vec.proofs.SumSuccessors.{sum-cons}
 use Rattle.sgb_gen.specs.LocalLists.{LocalArc}
-use Rattle.sgb_gen.specs.Subsets.{SubsetsData, common_size, is_wanted_size, moves_of_subsets, moves_to_place, subsets_graph, subsets_vectors}
-use Rattle.sgb_gen.specs.VectorGraphs.{Move, family_graph, vertex_among}
+use Rattle.sgb_gen.specs.Subsets.{SubsetsData, common_size, is_wanted_size, moves_of_subsets, moves_to_place, subsets_vector_graph, subsets_vectors}
+use Rattle.sgb_gen.specs.VectorGraphs.{Move, described_by, family_graph, vertex_among}
 use Rattle.sgb_gen.specs.inner.Descents.{IsBegun, arcs_under, down_from, row, rows}
 use Rattle.sgb_gen.specs.inner.SubsetsCounts.{moves_among, wanted_among}
 use Rattle.sgb_gen.proofs.BoardCountsBoards.{arcs-directed, arcs-undirected}
@@ -250,10 +250,10 @@ moves-few s few = grind (arith, length-range_with_len, few_joined, few_to_place)
 
 -- ---- the arcs of the graph
 
-pub arcs-of-directed : (s : SubsetsData) → s.directed ≡ true → (graph_described (subsets_graph s)).m ≡ length (moves_of_subsets s)
+pub arcs-of-directed : (s : SubsetsData) → s.directed ≡ true → (graph_described (described_by (subsets_vector_graph s))).m ≡ length (moves_of_subsets s)
 unfolding family_graph
 arcs-of-directed s e = grind (arith, arcs-directed, length-map)
 
-pub arcs-of-undirected : (s : SubsetsData) → s.directed ≡ false → (graph_described (subsets_graph s)).m ≡ length (moves_of_subsets s) * 2
+pub arcs-of-undirected : (s : SubsetsData) → s.directed ≡ false → (graph_described (described_by (subsets_vector_graph s))).m ≡ length (moves_of_subsets s) * 2
 unfolding family_graph
 arcs-of-undirected s e = grind (arith, arcs-undirected, length-map)

@@ -21,15 +21,10 @@ pub record BoardData : Type 0 where
   pub wrap : ℤ
   pub directed : Bool
 
--- the piece that a parameter stands for: 1 in the place of 0
-abbrev pub piece_for : ℤ → ℤ
-piece_for (pos zero) = pos 1
-piece_for (pos (suc p)) = pos (suc p)
-piece_for (negsuc p) = negsuc p
-
--- the piece, or why it is refused
+-- the piece that a parameter stands for, 1 in the place of 0, or why it is refused
 abbrev pub piece_of : ℤ → Result ℤ Panic
-piece_of piece = if nat_lt most_piece (nat_abs piece) then Err VeryBad else Ok (piece_for piece)
+piece_of piece =
+    if nat_lt most_piece (nat_abs piece) then Err VeryBad else Ok (if nat_abs piece == 0 then pos 1 else piece)
 
 -- the board of these parameters, or why they are refused: too many dimensions first, then too many vertices,
 -- then a piece too great
@@ -45,23 +40,15 @@ unfoldable pub board_id : BoardData → List ℕ
 board_id b =
     call_text (codes "board") (integer_texts (b.params ++ (b.piece ∷ b.wrap ∷ [])) ++ flag_text b.directed ∷ [])
 
--- its vertices: the vectors of the box of its sizes
-abbrev pub board_vectors : BoardData → List (List ℕ)
-board_vectors b = box b.sizes
-
 -- its moves, from one vertex to another
 abbrev pub moves_of_board : BoardData → List Move
-moves_of_board b = board_moves (sides_of b.sizes b.wrap) b.piece (board_vectors b) (length b.sizes)
+moves_of_board b = board_moves (sides_of b.sizes b.wrap) b.piece (box b.sizes) (length b.sizes)
 
--- its graph, as one of vectors
+-- its graph, as one of vectors: its vertices are those of the box of its sizes
 abbrev pub board_vector_graph : BoardData → VectorGraph
 board_vector_graph b =
-    record { id = board_id b; directed = b.directed; vectors = board_vectors b; moves = moves_of_board b }
-
--- its graph
-abbrev pub board_graph : BoardData → Description
-board_graph b = described_by (board_vector_graph b)
+    record { id = board_id b; directed = b.directed; vectors = box b.sizes; moves = moves_of_board b }
 
 -- the graph of board(n1,n2,n3,n4,piece,wrap,directed), or why it is refused
 abbrev pub board : BoardParams → Result Description Panic
-board p = and_then (accepted_board p) (λ b. Ok (board_graph b))
+board p = and_then (accepted_board p) (λ b. Ok (described_by (board_vector_graph b)))

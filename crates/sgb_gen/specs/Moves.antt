@@ -64,13 +64,10 @@ abbrev pub rider_reach : List Side → List ℕ → List ℤ → List ℕ
 rider_reach sides x t =
     take_while (λ l. is_elsewhere x (place sides x t l)) (range_with_len 1 (places_count sides))
 
--- the lengths of a leaper's moves: 1, where that place exists
-abbrev pub leaper_reach : List Side → List ℕ → List ℤ → List ℕ
-leaper_reach sides x t = filter (λ l. is_some (place sides x t l)) (1 ∷ [])
-
--- the lengths of the moves from x by t: of a leaper where piece is positive, of a rider where it is negative
+-- the lengths of the moves from x by t: of a leaper, where piece is positive, 1 where that place exists; of a rider
+-- where it is negative
 abbrev pub reach : List Side → ℤ → List ℕ → List ℤ → List ℕ
-reach sides (pos p) x t = leaper_reach sides x t
+reach sides (pos p) x t = filter (λ l. is_some (place sides x t l)) (1 ∷ [])
 reach sides (negsuc p) x t = rider_reach sides x t
 
 -- the moves from x by t, by their lengths

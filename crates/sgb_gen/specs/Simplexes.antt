@@ -31,13 +31,10 @@ pub record Places : Type 0 where
   pub lower : ℕ
   pub higher : ℕ
 
--- the pairs of place j and a higher one of a vector of n entries, in order
-abbrev pub pairs_from : ℕ → ℕ → List Places
-pairs_from n j = map (λ k. record { lower = j; higher = k }) (range_with_len (j + 1) (n - (j + 1)))
-
 -- the pairs of places j < k of a vector of n entries, in lexicographic order
 abbrev pub pairs_of_places : ℕ → List Places
-pairs_of_places n = flat_map (pairs_from n) (range_with_len 0 n)
+pairs_of_places n =
+    flat_map (λ j. map (λ k. record { lower = j; higher = k }) (range_with_len (j + 1) (n - (j + 1)))) (range_with_len 0 n)
 
 -- a unit of v can go from one place to another: there is one, and room for it below the bound
 abbrev pub can_move_unit : List ℕ → List ℕ → ℕ → ℕ → Bool
@@ -47,22 +44,11 @@ can_move_unit bounds v from to = nat_lt 0 (slice_index v from) && nat_lt (slice_
 abbrev pub unit_moved : List ℕ → ℕ → ℕ → List ℕ
 unit_moved v from to = slice_set (slice_set v from (slice_index v from - 1)) to (slice_index v to + 1)
 
--- a unit of v can go from the lower place to the higher one
-abbrev pub can_shift : List ℕ → List ℕ → Places → Bool
-can_shift bounds v at = can_move_unit bounds v at.lower at.higher
-
--- v with a unit gone from the lower place to the higher one
-abbrev pub shifted : List ℕ → Places → List ℕ
-shifted v at = unit_moved v at.lower at.higher
-
--- the moves to v by these pairs of places: from each vector that v becomes when a unit goes to the higher place
-abbrev pub moves_by : List ℕ → List ℕ → List Places → List Move
-moves_by bounds v pairs =
-    map (λ at. record { from = shifted v at; to = v; len = 1 }) (filter (can_shift bounds v) pairs)
-
--- the moves to v, by all pairs of places
+-- the moves to v, for each pair of places: from the vector that v becomes when a unit goes to the higher place
 abbrev pub moves_to : List ℕ → List ℕ → List Move
-moves_to bounds v = moves_by bounds v (pairs_of_places (length v))
+moves_to bounds v =
+    map (λ at. record { from = unit_moved v at.lower at.higher; to = v; len = 1 })
+    (filter (λ at. can_move_unit bounds v at.lower at.higher) (pairs_of_places (length v)))
 
 -- its id: simplex(n,n0,n1,n2,n3,n4,directed)
 unfoldable pub simplex_id : SimplexData → List ℕ
@@ -81,15 +67,12 @@ abbrev pub simplex_vector_graph : SimplexData → VectorGraph
 simplex_vector_graph s =
     record { id = simplex_id s; directed = s.directed; vectors = simplex_vectors s; moves = moves_of_simplex s }
 
--- its graph
-abbrev pub simplex_graph : SimplexData → Description
-simplex_graph s = described_by (simplex_vector_graph s)
-
 -- the graph of simplex(n,n0,n1,n2,n3,n4,directed), or why it is refused
 abbrev pub simplex : SimplexParams → Result Description Panic
-simplex p = and_then (accepted_simplex p) (λ s. Ok (simplex_graph s))
+simplex p = and_then (accepted_simplex p) (λ s. Ok (described_by (simplex_vector_graph s)))
 
 -- a unit that goes to a higher place leaves the vector within its bounds, and its sum as it is
 abbrev pub ShiftsStayInSum : Type 0
 ShiftsStayInSum = (bounds v : List ℕ) (at : Places) → at.lower < at.higher → at.higher < length v
-    → can_shift bounds v at ≡ true → IsWithin v bounds → IsWithin (shifted v at) bounds × (sum (shifted v at) ≡ sum v)
+    → can_move_unit bounds v at.lower at.higher ≡ true → IsWithin v bounds
+    → IsWithin (unit_moved v at.lower at.higher) bounds × (sum (unit_moved v at.lower at.higher) ≡ sum v)

@@ -63,10 +63,6 @@ abbrev pub subsets_vector_graph : SubsetsData → VectorGraph
 subsets_vector_graph s =
     record { id = subsets_id s; directed = s.directed; vectors = subsets_vectors s; moves = moves_of_subsets s }
 
--- their graph
-abbrev pub subsets_graph : SubsetsData → Description
-subsets_graph s = described_by (subsets_vector_graph s)
-
 -- the graph of subsets(n,n0,n1,n2,n3,n4,size_bits,directed), or why it is refused
 abbrev pub subsets : SubsetsParams → Result Description Panic
-subsets p = and_then (accepted_subsets p) (λ s. Ok (subsets_graph s))
+subsets p = and_then (accepted_subsets p) (λ s. Ok (described_by (subsets_vector_graph s)))

@@ -18,7 +18,7 @@ pub mod LocalSubsets
 pub mod Descents
 -- where a piece moves at one length
 pub mod Moves
--- what accepted simplexes and subsets keep
+-- what accepted simplexes and subsets keep, and the shifts of one unit
 pub mod Simplexes
 -- what the parameters of accepted subsets keep
 pub mod Subsets

@@ -11,7 +11,7 @@ use Rattle.sgb_vec.proofs.Lists.{All-flat_map, Contains-cases, Contains-first, C
 use Rattle.sgb_graph.specs.Graphs.{GraphData, HasNoFields, arc_record, ends_from, ends_of, link_of, links_of, vertex_of}
 use Rattle.sgb_graph.specs.Events.{Event, HasEndsBelow, Record, all_records, list_of, records_of}
 use Rattle.sgb_graph.specs.Descriptions.{Description, IsGraphOf}
-use Rattle.sgb_graph.specs.Made.{first_number, graph_described, number_after, records_of_events, vertices_of}
+use Rattle.sgb_graph.specs.Made.{first_number, graph_described, number_after}
 use Rattle.sgb_graph.specs.Growth.{link}
 use Rattle.sgb_graph.specs.declared.fields.Ref.TheVariants.{At}
 use Rattle.sgb_graph.specs.declared.fields.Util.{Util}
@@ -124,7 +124,7 @@ described_only d g h =
     let chain_ends : (v : ℕ) (x : Vertex) → slice_get g.vertices v ≡ Some x → ends_of g.records x.arcs ≡ true = λ v x is. at_get (λ (y : Vertex). ends_of g.records y.arcs ≡ true) g.vertices v x h.arcs.ends is in
     let first_at : (i : ℕ) (x : Vertex) → slice_get g.vertices i ≡ Some x → x.arcs ≡ first_number (lists (0 + i)) = λ i x is.
     sym (first_is g.records x.arcs (chain_ends i x is)) ∙ ap first_number (chain_is i x is) ∙ ap (λ (j : ℕ). first_number (lists j)) (omega arith) in
-    let vertices : g.vertices ≡ vertices_of d = vertices_are lists 0 g.vertices first_at
+    let vertices : g.vertices ≡ (graph_described d).vertices = vertices_are lists 0 g.vertices first_at
     ∙ ap (λ ns. map (λ p. vertex_with p.1.0 p.1.1 (lists p.0)) (enumerate_from 0 (zip ns (map (λ v. v.util) g.vertices)))) h.names
     ∙ ap (λ fs. map (λ p. vertex_with p.1.0 p.1.1 (lists p.0)) (enumerate_from 0 (zip d.names fs))) h.fields in
     let next_at : (i : ℕ) (r : ArcRec) (a : Record) → slice_get g.records i ≡ Some r → slice_get wanted i ≡ Some a → r.next ≡ number_after (0 + i) (lists a.start) = λ i r a is at.
@@ -132,7 +132,7 @@ described_only d g h =
     let x = element_at g.vertices a.start below in
     sym (after_is (lists a.start) g.records x.element.arcs (link i a.tip a.len) r (chain_ends a.start x.element x.is) (chain_is a.start x.element x.is) (each_on_list d.directed d.events i a at) is)
     ∙ ap (λ (j : ℕ). number_after j (lists a.start)) (omega arith) in
-    let records : g.records ≡ records_of_events d.directed d.events = records_are lists 0 g.records wanted h.arcs.tips h.arcs.lengths h.arc_fields next_at in
+    let records : g.records ≡ (graph_described d).records = records_are lists 0 g.records wanted h.arcs.tips h.arcs.lengths h.arc_fields next_at in
     rw (← h.id, ← h.arcs.count, ← h.kinds, ← h.util, ← vertices, ← records) refl
 
 -- the vertices of a description have its names
@@ -223,10 +223,10 @@ way_is (suc fuel) records (l ∷ links) short apart stand =
 pub described_is : (d : Description) → All (HasEndsBelow (length d.names)) d.events → length d.fields ≡ length d.names → IsGraphOf d (graph_described d)
 described_is d within same =
     let wanted = all_records d.directed d.events in
-    let records = records_of_events d.directed d.events in
+    let records = (graph_described d).records in
     let lists : ℕ → List Link = λ v. list_of d.directed d.events v in
-    let size : length (vertices_of d) ≡ length d.names = sym (length-map (vertices_of d) (λ v. v.name)) ∙ ap length (described_names d same) in
-    let first_at : (v : ℕ) (x : Vertex) → slice_get (vertices_of d) v ≡ Some x → x.arcs ≡ first_number (lists v) = λ v x is.
+    let size : length (graph_described d).vertices ≡ length d.names = sym (length-map (graph_described d).vertices (λ v. v.name)) ∙ ap length (described_names d same) in
+    let first_at : (v : ℕ) (x : Vertex) → slice_get (graph_described d).vertices v ≡ Some x → x.arcs ≡ first_number (lists v) = λ v x is.
     firsts_are lists 0 d.names d.fields v x is ∙ ap (λ (j : ℕ). first_number (lists j)) (omega arith) in
     let stands : (v : ℕ) (l : Link) → Contains (lists v) l → StandsIn records (lists v) l = λ v l has. record {
       here = record_in (lists v) (0 + l.number) (record_from v l.tip l.len);
@@ -248,10 +248,10 @@ described_is d within same =
         count = refl;
         tips = record_tips lists 0 wanted;
         lengths = record_lengths lists 0 wanted;
-        lists = λ v below. let x = element_at (vertices_of d) v below in chain_at (graph_described d) v x.element x.is ∙ ap (links_of records) (first_at v x.element x.is) ∙ (way v).arcs;
+        lists = λ v below. let x = element_at (graph_described d).vertices v below in chain_at (graph_described d) v x.element x.is ∙ ap (links_of records) (first_at v x.element x.is) ∙ (way v).arcs;
         within = subst (λ n. All (HasEndsBelow n) d.events) (sym size) within;
-        ends = λ v x below. let y = element_at (vertices_of d) v below in
-            subst (λ z. ends_of records z.arcs ≡ true) (sym (get_or_from_slice_get (vertices_of d) v y.element x y.is))
+        ends = λ v x below. let y = element_at (graph_described d).vertices v below in
+            subst (λ z. ends_of records z.arcs ≡ true) (sym (get_or_from_slice_get (graph_described d).vertices v y.element x y.is))
             (ap (ends_of records) (first_at v y.element y.is) ∙ (way v).ends);
       };
       arc_fields = record_fields lists 0 wanted;

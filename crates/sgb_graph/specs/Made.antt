@@ -42,25 +42,18 @@ abbrev pub number_after : ℕ → List Link → Option ℕ
 number_after k [] = None
 number_after k (l ∷ links) = if l.number == k then first_number links else number_after k links
 
--- the vertices of a description, each with the list of its arcs
-abbrev pub vertices_of : Description → List Vertex
-vertices_of d =
-    map (λ p. record { name = p.1.0; arcs = first_number (list_of d.directed d.events p.0); util = p.1.1 })
-    (enumerate_from 0 (zip d.names d.fields))
-
--- the records of the events, each in the list of the vertex where it starts
-abbrev pub records_of_events : Bool → List Event → List ArcRec
-records_of_events directed events =
-    map (λ p. arc_record p.1.tip (number_after p.0 (list_of directed events p.1.start)) p.1.len)
-    (enumerate_from 0 (all_records directed events))
-
--- the graph that is described
+-- the graph that is described: its vertices, each with the first record of its list, and the records of its events, each with the
+-- next one in the list of the vertex where it starts
 abbrev pub graph_described : Description → GraphData
 graph_described d = record {
   id = d.id;
   m = length (all_records d.directed d.events);
   kinds = d.kinds;
   util = d.util;
-  vertices = vertices_of d;
-  records = records_of_events d.directed d.events;
+  vertices =
+    map (λ p. record { name = p.1.0; arcs = first_number (list_of d.directed d.events p.0); util = p.1.1 })
+    (enumerate_from 0 (zip d.names d.fields));
+  records =
+    map (λ p. arc_record p.1.tip (number_after p.0 (list_of d.directed d.events p.1.start)) p.1.len)
+    (enumerate_from 0 (all_records d.directed d.events));
 }

@@ -2,7 +2,8 @@
 use Rattle.std.specs.Prelude.{ℕ, pos, Bool, true, false, List, [], ◌∷◌, ◌++◌, length, map, filter, reverse, if◌then◌else◌}
 use Rattle.std.specs.List.{flat_map, range_with_len}
 use Rattle.sgb_gen.specs.LocalLists.{LocalArc, LinksData}
-use Rattle.sgb_gen.specs.Simplexes.{Places, can_move_unit, unit_moved, can_shift, shifted, pairs_from, pairs_of_places}
+use Rattle.sgb_gen.specs.Simplexes.{Places, can_move_unit, unit_moved, pairs_of_places}
+use Rattle.sgb_gen.specs.inner.Simplexes.{can_shift, shifted, pairs_from}
 
 -- a unit of v can go back from the higher place to the lower one
 abbrev pub can_return : List ℕ → List ℕ → Places → Bool

@@ -2,7 +2,8 @@
 use Rattle.std.specs.Prelude.{◌≡◌, ◌<◌, ◌≤◌, ℕ, ◌+◌, ◌-◌, List, [], ◌∷◌, length, filter, slice_index, slice_set, All}
 use Rattle.sgb_vec.specs.Limits.{most_vertices}
 use Rattle.sgb_vec.specs.Sums.{BoundedSum, bounded_sums}
-use Rattle.sgb_gen.specs.Simplexes.{Places, can_shift}
+use Rattle.sgb_gen.specs.Simplexes.{Places}
+use Rattle.sgb_gen.specs.inner.Simplexes.{can_shift}
 use Rattle.sgb_gen.specs.declared.accepted.simplexes.known.KnownCount.{KnownCount}
 
 -- numbers with one less at a place

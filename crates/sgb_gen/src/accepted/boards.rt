@@ -1,5 +1,5 @@
 ghost use Rattle.std.specs.Prelude.{◌≡◌, ◌<◌, ◌≤◌, All, nat_abs, IfOk, length, map, option_map, slice_get, Some, Ok, IfSome, OnOk, IsOkUnless};
-ghost use Rattle.sgb_gen.specs.Boards.{accepted_board, board_id, piece_of, board_graph, moves_of_board};
+ghost use Rattle.sgb_gen.specs.Boards.{accepted_board, board_id, piece_of, board_vector_graph, moves_of_board};
 ghost use Rattle.sgb_gen.specs.Limits.{most_piece};
 ghost use Rattle.std.specs.List.{flat_map};
 ghost use Rattle.sgb_vec.specs.Boxes.{box};
@@ -7,7 +7,7 @@ ghost use Rattle.sgb_vec.specs.Lexicographic.{IsBelow};
 ghost use Rattle.sgb_graph.specs.Descriptions.{IsAnswerOf};
 ghost use Rattle.sgb_graph.specs.Growth.{AddsEvents, HasPlainArcs};
 ghost use Rattle.sgb_graph.specs.Made.{graph_described};
-ghost use Rattle.sgb_gen.specs.VectorGraphs.{event_among, vertex_among};
+ghost use Rattle.sgb_gen.specs.VectorGraphs.{described_by, event_among, vertex_among};
 ghost use Rattle.sgb_gen.specs.Moves.{sides_of, moves_from};
 ghost use Rattle.sgb_gen.specs.inner.EntryBounds.{displacements_within, entry_bounds};
 ghost use Rattle.sgb_gen.specs.inner.Moves.{destination, longest_move};
@@ -147,7 +147,7 @@ impl Board {
 
     // The graph of the board. `NoRoom` when out of memory, and nothing else.
     pub(crate) fn graph(&self, alloc: Global) -> Result<Graph, Panic>
-        ensures { IsAnswerOf (Ok (board_graph self.now)) result }
+        ensures { IsAnswerOf (Ok (described_by (board_vector_graph self.now))) result }
     {
         let names = vector_names(alloc, &self.family)?;
         let mut graph = Graph::new(alloc, names)?;
@@ -160,7 +160,7 @@ impl Board {
 
     // How many arc records the board's graph has. `NoRoom` where no memory holds so many, and nothing else.
     fn records_count(&self) -> Result<usize, Panic>
-        ensures count { IfOk result (λ m. m ≡ (graph_described (board_graph self.now)).m) }
+        ensures count { IfOk result (λ m. m ≡ (graph_described (described_by (board_vector_graph self.now))).m) }
         ensures memory { IsOkUnless result Panic.NoRoom }
     {
         let arcs = self.arcs_count()?;

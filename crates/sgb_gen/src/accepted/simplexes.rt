@@ -1,10 +1,11 @@
 ghost use Rattle.std.specs.Prelude.{◌≡◌, ◌⊎◌, Err, ◌<◌, ◌≤◌, ◌+◌, length, map, slice_get, Contains, Some, None, Ok, IfSome, OnOk, IsOkUnless, if◌then◌else◌};
-ghost use Rattle.sgb_gen.specs.Simplexes.{accepted_simplex, simplex_id, can_shift, shifted, pairs_from, moves_by, moves_to, moves_of_simplex, simplex_vectors, simplex_graph};
+ghost use Rattle.sgb_gen.specs.Simplexes.{accepted_simplex, simplex_id, moves_to, moves_of_simplex, simplex_vectors, simplex_vector_graph};
+ghost use Rattle.sgb_gen.specs.inner.Simplexes.{can_shift, shifted, pairs_from, moves_by};
 ghost use Rattle.sgb_vec.specs.Bounds.{simplex_of};
 ghost use Rattle.sgb_vec.specs.Limits.{most_dimensions};
 ghost use Rattle.sgb_graph.specs.Descriptions.{IsAnswerOf};
 ghost use Rattle.sgb_graph.specs.Growth.{AddsEvents, HasPlainArcs};
-ghost use Rattle.sgb_gen.specs.VectorGraphs.{event_among, vertex_among};
+ghost use Rattle.sgb_gen.specs.VectorGraphs.{described_by, event_among, vertex_among};
 
 mod counts;
 mod known;
@@ -131,7 +132,7 @@ impl Simplex {
 
     // The graph of the simplex. `NoRoom` when out of memory, and nothing else.
     pub(crate) fn graph(&self, alloc: Global) -> Result<Graph, Panic>
-        ensures { IsAnswerOf (Ok (simplex_graph self.now)) result }
+        ensures { IsAnswerOf (Ok (described_by (simplex_vector_graph self.now))) result }
     {
         let names = vector_names(alloc, &self.family)?;
         let mut graph = Graph::new(alloc, names)?;

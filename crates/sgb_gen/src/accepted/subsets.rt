@@ -1,9 +1,9 @@
 ghost use Rattle.std.specs.Prelude.{◌≡◌, ◌⊎◌, Err, ◌<◌, [], ◌∷◌, pos, length, map, min, slice_get, Some, Ok, OnOk, IsOkUnless, if◌then◌else◌, ◌≤◌, ◌^◌};
-ghost use Rattle.sgb_gen.specs.Subsets.{accepted_subsets, subsets_id, is_wanted_size, moves_to_place, subsets_vectors, moves_of_subsets, subsets_graph, common_size};
+ghost use Rattle.sgb_gen.specs.Subsets.{accepted_subsets, subsets_id, is_wanted_size, moves_to_place, subsets_vectors, moves_of_subsets, subsets_vector_graph, common_size};
 ghost use Rattle.sgb_vec.specs.Bounds.{simplex_of};
 ghost use Rattle.sgb_graph.specs.Descriptions.{IsAnswerOf};
 ghost use Rattle.sgb_graph.specs.Growth.{AddsEvents, HasPlainArcs};
-ghost use Rattle.sgb_gen.specs.VectorGraphs.{event_among};
+ghost use Rattle.sgb_gen.specs.VectorGraphs.{described_by, event_among};
 ghost use Rattle.std.specs.Simd.Lanes.{sum_l, zip2};
 
 mod counts;
@@ -147,7 +147,7 @@ impl Subsets {
 
     // The graph of the subsets. `NoRoom` when out of memory, and nothing else.
     pub(crate) fn graph(&self, alloc: Global) -> Result<Graph, Panic>
-        ensures { IsAnswerOf (Ok (subsets_graph self.now)) result }
+        ensures { IsAnswerOf (Ok (described_by (subsets_vector_graph self.now))) result }
     {
         let names = vector_names(alloc, &self.family)?;
         let mut graph = Graph::new(alloc, names)?;

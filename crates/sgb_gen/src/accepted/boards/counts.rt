@@ -3,7 +3,8 @@ ghost use Rattle.std.specs.Prelude.{◌≡◌, ◌≢◌, ◌≤◌, ◌<◌, �
 ghost use Rattle.sgb_graph.specs.Made.{graph_described};
 ghost use Rattle.sgb_vec.specs.Boxes.{box, product_of};
 ghost use Rattle.sgb_vec.specs.Limits.{most_vertices};
-ghost use Rattle.sgb_gen.specs.Boards.{board_graph, moves_of_board};
+ghost use Rattle.sgb_gen.specs.Boards.{board_vector_graph, moves_of_board};
+ghost use Rattle.sgb_gen.specs.VectorGraphs.{described_by};
 ghost use Rattle.sgb_gen.specs.Moves.{sides_of};
 ghost use Rattle.sgb_gen.specs.inner.LocalBoards.{moves_by};
 ghost use Rattle.sgb_gen.specs.inner.BoardCounts.{starts_on, is_home_on, starts_product, is_home, comes_home, stops_on, stops_at, starts_along};
@@ -21,8 +22,8 @@ impl Board {
     /// `NoRoom` where the number is 2^128 or more, and nothing else: only a board that wraps around in hundreds of
     /// dimensions has so many arcs, and no time would do to list them.
     pub fn arcs_count(&self) -> Result<u128, Panic>
-        ensures count { IfOk result (λ m. m ≡ (graph_described (board_graph self.now)).m) }
-        ensures great { IfErr result (λ e. 2 ^ 128 ≤ (graph_described (board_graph self.now)).m) }
+        ensures count { IfOk result (λ m. m ≡ (graph_described (described_by (board_vector_graph self.now))).m) }
+        ensures great { IfErr result (λ e. 2 ^ 128 ≤ (graph_described (described_by (board_vector_graph self.now))).m) }
         ensures memory { IsOkUnless result Panic.NoRoom }
     {
         let Some(moves) = self.moves_count() else {

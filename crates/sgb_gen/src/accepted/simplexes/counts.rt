@@ -3,7 +3,9 @@ ghost use Rattle.std.specs.Prelude.{◌≡◌, ◌≤◌, ◌<◌, ◌*◌, ◌+
 ghost use Rattle.sgb_graph.specs.Made.{graph_described};
 ghost use Rattle.sgb_vec.specs.Limits.{most_dimensions, most_vertices};
 ghost use Rattle.sgb_vec.specs.Sums.{BoundedSum};
-ghost use Rattle.sgb_gen.specs.Simplexes.{simplex_graph, moves_of_simplex, pairs_from};
+ghost use Rattle.sgb_gen.specs.Simplexes.{simplex_vector_graph, moves_of_simplex};
+ghost use Rattle.sgb_gen.specs.inner.Simplexes.{pairs_from};
+ghost use Rattle.sgb_gen.specs.VectorGraphs.{described_by};
 ghost use Rattle.sgb_gen.specs.inner.SimplexCounts.{lowered, shifts_count, shifts_by, AreKnown, IsKnown};
 
 use super::Simplex;
@@ -21,7 +23,7 @@ impl Simplex {
     /// vectors of one entry, for which none is taken. The memory is from where that of the links comes; for each pair of
     /// bounds, of which there are at most sixteen, it is that of `sgb_vec::SumFamily::new`, as is the time.
     pub fn arcs_count(&self, links: &Links) -> Result<u128, Panic>
-        ensures count { IfOk result (λ m. m ≡ (graph_described (simplex_graph self.now)).m) }
+        ensures count { IfOk result (λ m. m ≡ (graph_described (described_by (simplex_vector_graph self.now))).m) }
         ensures memory { IsOkUnless result Panic.NoRoom }
         ensures some { IfErr result (λ p. 0 < self.now.sum.total) }
         ensures pair { IfErr result (λ p. 1 < length self.now.sum.bounds) }

@@ -5,7 +5,8 @@ ghost use Rattle.std.specs.Prelude.{◌≡◌, ◌+◌, ◌≤◌, ◌∷◌, le
 ghost use Rattle.sgb_graph.specs.Made.{graph_described};
 ghost use Rattle.sgb_vec.specs.Limits.{most_vertices};
 ghost use Rattle.sgb_vec.specs.Sums.{bounded_sums};
-ghost use Rattle.sgb_gen.specs.Subsets.{is_wanted_size, moves_of_subsets, subsets_graph};
+ghost use Rattle.sgb_gen.specs.Subsets.{is_wanted_size, moves_of_subsets, subsets_vector_graph};
+ghost use Rattle.sgb_gen.specs.VectorGraphs.{described_by};
 ghost use Rattle.sgb_gen.specs.inner.Descents.{IsBegun, down_from, rows};
 ghost use Rattle.sgb_gen.specs.inner.SubsetsCounts.{wanted_among};
 
@@ -19,7 +20,7 @@ impl Subsets {
     /// in a table in place, within some milliseconds. Else the vectors are walked, and of each the joined ones up to it are
     /// counted, by their beginnings.
     pub fn arcs_count(&self) -> u128
-        ensures { result ≡ (graph_described (subsets_graph self.now)).m }
+        ensures { result ≡ (graph_described (described_by (subsets_vector_graph self.now))).m }
     {
         let moves = self.moves_count();
         if self.directed {

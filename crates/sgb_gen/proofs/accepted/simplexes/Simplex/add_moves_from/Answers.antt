@@ -1,6 +1,7 @@
 use Rattle.std.proofs.Common.{rules, ◌+◌, [], ◌∷◌, pos, length, sym, ap, subst, ◌∙◌}
 use Rattle.sgb_graph.specs.Growth.{AddsEvents}
-use Rattle.sgb_gen.specs.Simplexes.{Places, pairs_from}
+use Rattle.sgb_gen.specs.Simplexes.{Places}
+use Rattle.sgb_gen.specs.inner.Simplexes.{pairs_from}
 use Rattle.sgb_graph.proofs.AddedEvents.{up_to-more}
 use Rattle.sgb_gen.proofs.SimplexEvents.{events_by, events_by-out, events_by-next, pairs_left, pairs_left-next}
 use Rattle.sgb_gen.proofs.accepted.simplexes.Simplex.add_moves_from.Goals as goal

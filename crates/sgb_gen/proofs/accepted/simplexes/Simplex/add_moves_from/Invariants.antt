@@ -1,6 +1,6 @@
 use Rattle.std.proofs.Common.{length}
 use Rattle.sgb_graph.proofs.AddedEvents.{AddsUpTo}
-use Rattle.sgb_gen.specs.Simplexes.{pairs_from}
+use Rattle.sgb_gen.specs.inner.Simplexes.{pairs_from}
 use Rattle.sgb_gen.proofs.SimplexEvents.{events_by, pairs_left}
 use Rattle.sgb_gen.proofs.accepted.simplexes.Simplex.add_moves_from.Given as goal
 

@@ -1,6 +1,6 @@
 use Rattle.std.proofs.Common.{◌≡◌, ◌≤◌, ◌+◌, ◌*◌, length}
 use Rattle.sgb_vec.specs.Limits.{most_vertices}
-use Rattle.sgb_gen.specs.Simplexes.{pairs_from}
+use Rattle.sgb_gen.specs.inner.Simplexes.{pairs_from}
 use Rattle.sgb_gen.specs.inner.SimplexCounts.{shifts_by, AreKnown}
 use Rattle.sgb_gen.proofs.SimplexEvents.{pairs_left}
 use Rattle.sgb_gen.proofs.accepted.simplexes.Simplex.shifts_from.Given as goal

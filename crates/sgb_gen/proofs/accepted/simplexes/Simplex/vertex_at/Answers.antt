@@ -2,7 +2,8 @@ use Rattle.std.proofs.Common.{rules, ◌≡◌, true, sym, ap, subst, ◌∙◌,
 use Rattle.std.specs.List.{Contains}
 use Rattle.std.proofs.lemmas.Option.{slice_get_within}
 use Rattle.sgb_vec.proofs.SumMembers.{bounded_sums-rise}
-use Rattle.sgb_gen.specs.Simplexes.{Places, can_shift, simplex_vectors}
+use Rattle.sgb_gen.specs.Simplexes.{Places, simplex_vectors}
+use Rattle.sgb_gen.specs.inner.Simplexes.{can_shift}
 use Rattle.sgb_gen.proofs.SimplexEvents.{length_in_sum, shifted_in_simplex, vertex_in_simplex}
 use Rattle.sgb_gen.proofs.accepted.simplexes.Simplex.vertex_at.Goals as goal
 
