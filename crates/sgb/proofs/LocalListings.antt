@@ -15,6 +15,7 @@ use Rattle.sgb_graph.specs.Graphs.{GraphData, chain_of}
 use Rattle.sgb_graph.specs.Made.{graph_described}
 use Rattle.sgb_graph.proofs.Described.{described_is, described_names}
 use Rattle.sgb_gen.specs.LocalLists.{LocalArc, list_at, list_in, local_arc}
+use Rattle.sgb_gen.proofs.FamilyWalks.{first_in_drop}
 use Rattle.sgb_gen.specs.VectorGraphs.{HasEnds, Move, VectorGraph, described_by, event_among, family_graph, fields_of_vector, vertex_among}
 use Rattle.sgb_gen.proofs.RisingVectors.{vertex_in_rising}
 use Rattle.sgb_graph.specs.Vertices.{names_of}
@@ -37,12 +38,6 @@ unfolding name_of_vector
 name_there [] t = refl
 name_there (v ∷ vectors) zero = refl
 name_there (v ∷ vectors) (suc t) = name_there vectors t
-
--- what stands first after others is at their number
-pub first_in_drop : (k : ℕ) (xs : List (List ℕ)) → slice_get (drop k xs) 0 ≡ slice_get xs k
-first_in_drop zero xs = refl
-first_in_drop (suc k) [] = refl
-first_in_drop (suc k) (x ∷ xs) = first_in_drop k xs
 
 -- what stands first after others is among them all
 pub contains_in_drop : (k : ℕ) (members : List (List ℕ)) (x : List ℕ) → slice_get (drop k members) 0 ≡ Some x → Contains members x

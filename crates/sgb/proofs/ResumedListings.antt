@@ -20,7 +20,8 @@ use Rattle.sgb_requests.specs.declared.faults.Fault.{Fault}
 use Rattle.sgb_requests.specs.declared.requests.Resume.{Resume}
 use Rattle.sgb_requests.specs.declared.requests.Resume.TheVariants as resume
 use Rattle.sgb.proofs.Listings.{blocks-none}
-use Rattle.sgb.proofs.LocalListings.{contains_in_drop, first_in_drop, named_by_vectors, names_count}
+use Rattle.sgb_gen.proofs.FamilyWalks.{first_in_drop}
+use Rattle.sgb.proofs.LocalListings.{contains_in_drop, named_by_vectors, names_count}
 
 -- nothing is left out of a list by a number that is its length at least
 pub all_skipped : (members : List (List ℕ)) (count n : ℕ) → n ≡ length members → n ≤ count → drop count members ≡ drop n members

@@ -13,7 +13,7 @@ use Rattle.sgb_gen.proofs.RisingVectors.{vertex_in_rising}
 use Rattle.sgb_gen.specs.LocalLists.{LocalArc, list_in}
 use Rattle.sgb_graph.specs.Graphs.{GraphData, chain_of}
 use Rattle.sgb_graph.specs.Made.{graph_described}
-use Rattle.sgb.proofs.LocalListings.{first_in_drop, named_by_members}
+use Rattle.sgb.proofs.LocalListings.{named_by_members}
 use Rattle.sgb.proofs.LocalChains.{SayList, chain_said}
 use Rattle.sgb.proofs.NamedMembers.{rest_from}
 use Rattle.sgb_chunks.specs.Chunks.{AreChunkNames, IsChunkRefusal, IsThere, chunk_of, chunk_starts}
@@ -27,10 +27,6 @@ use Rattle.sgb_vec.specs.declared.panics.Panic.TheVariants.{NoRoom}
 pub vertices_are_members : (g : VectorGraph) (members : List (List ℕ)) → members ≡ g.vectors → length (graph_described (described_by g)).vertices ≡ length members
 vertices_are_members g members same =
     sym (length-map (graph_described (described_by g)).vertices (λ x. x.name)) ∙ ap length (named_by_members g members same) ∙ length-map members name_of_vector
-
--- the first of the members from a place on stands there
-pub first_from : (members left : List (List ℕ)) (place : ℕ) (x : List ℕ) → left ≡ drop place members → slice_get left 0 ≡ Some x → slice_get members place ≡ Some x
-first_from members left place x from first = sym (first_in_drop place members) ∙ ap (λ ms. slice_get ms 0) (sym from) ∙ first
 
 -- the members after the one before a place are those from there on
 pub rest_from_place : (members : List (List ℕ)) → IsRising members → (place : ℕ) (x y : List ℕ) (found : Bool) (r : Option (List (List ℕ))) (rest : List (List ℕ))

@@ -1,17 +1,18 @@
 -- A walk over the vectors of a family, from the first to the last.
-use Rattle.std.proofs.Common.{◌≡◌, ℕ, ◌+◌, ◌≤◌, List, [], ◌∷◌, ◌++◌, length, map, take, drop, get_or, Some, refl, sym, ap, ◌∙◌, arith, append-nil}
+use Rattle.std.proofs.Common.{◌≡◌, ℕ, zero, suc, ◌+◌, ◌≤◌, List, [], ◌∷◌, ◌++◌, length, map, take, drop, get_or, Some, refl, sym, ap, ◌∙◌, arith, append-nil}
 use Rattle.std.specs.List.{slice_get, flat_map}
 use Rattle.std.proofs.lemmas.List.{at_drop_more, drop-drop, get_or-drop, length-drop, map-append, take_more}
 use Rattle.std.proofs.lemmas.Option.{slice_get_within, slice_get_read, get_or_from_slice_get}
 
+-- what stands first after others is at their number
+pub first_in_drop : (k : ℕ) (xs : List (List ℕ)) → slice_get (drop k xs) 0 ≡ slice_get xs k
+first_in_drop zero xs = refl
+first_in_drop (suc k) [] = refl
+first_in_drop (suc k) (x ∷ xs) = first_in_drop k xs
+
 -- of the vectors from a place on the first stands at the place
 pub at_front : (vectors left : List (List ℕ)) (u : ℕ) (v : List ℕ) → left ≡ drop u vectors → slice_get left 0 ≡ Some v → slice_get vectors u ≡ Some v
-at_front vectors left u v is first =
-    let here : slice_get (drop u vectors) 0 ≡ Some v = ap (λ (vs : List (List ℕ)). slice_get vs 0) (sym is) ∙ first in
-    let within = slice_get_within (drop u vectors) 0 v here in
-    let place : u + 0 ≡ u = omega arith in
-    slice_get_read vectors (length vectors) u v refl (omega (arith, length-drop u vectors))
-    (sym (ap (λ k. get_or vectors k v) (sym place) ∙ sym (get_or-drop u vectors 0 v) ∙ get_or_from_slice_get (drop u vectors) 0 v v here))
+at_front vectors left u v is first = sym (first_in_drop u vectors) ∙ ap (λ (vs : List (List ℕ)). slice_get vs 0) (sym is) ∙ first
 
 -- the others are those from the next place on
 pub next_left : (vectors left rest : List (List ℕ)) (u : ℕ) → left ≡ drop u vectors → rest ≡ drop 1 left → rest ≡ drop (u + 1) vectors

@@ -91,7 +91,7 @@ pairs_after-none n j h =
 
 -- the events of the moves to x, and those of all moves
 abbrev pub events_to : SimplexData → List ℕ → List Event
-events_to s x = events_by s x (pairs_of_places (length x))
+events_to s x = map (event_among (simplex_vectors s)) (moves_to s.sum.bounds x)
 
 abbrev pub events_of : SimplexData → List Event
 events_of s = flat_map (events_to s) (simplex_vectors s)

@@ -105,7 +105,3 @@ module _ (b : BoardData) (t : List ℤ) (long : length t ≡ length b.sizes) (on
 -- a leaper leads to each place there is
 pub leaps_there : (b : BoardData) → IsLeaper b → (x : List ℕ) (t : List ℤ) → NeverHome b x t
 leaps_there b leaper x t l some = ap (λ p. destination (sides_of b.sizes b.wrap) p x t l) leaper
-
-pub leaper_is : (piece : ℤ) → SFits w64 piece → lt_z (pos 0) (to_z w64 (of_z w64 piece)) ≡ true → piece ≡ pos (nat_abs piece)
-leaper_is (pos p) fits leaps = refl
-leaper_is (negsuc p) fits leaps = absurd (true≢false (sym (ap (lt_z (pos 0)) (sym (to_z-of_z w64 (negsuc p) fits)) ∙ leaps)))

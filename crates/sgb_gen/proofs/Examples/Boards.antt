@@ -199,12 +199,12 @@ id_of (Err e) = []
 -- board(0,5,5,5,0,0,0) is the chessboard with its official name
 pub chessboard_id : id_of (accepted_board (params (pos 0) (pos 5) (pos 5) (pos 5) (pos 0) (pos 0) false))
     ≡ codes "board(8,8,0,0,1,0,0)"
-unfolding digits board_id
+unfolding repeated digits board_id
 chessboard_id = refl
 
 -- a negative wrap and the flag stand as given
 pub directed_id : id_of (accepted_board (params (pos 2) (pos 3) (pos 4) (pos 0) (negsuc 2) (negsuc 0) true)) ≡ codes "board(2,3,4,0,-3,-1,1)"
-unfolding digits board_id
+unfolding repeated digits board_id
 directed_id = refl
 
 -- the chessboard has 64 vertices and 224 arcs
@@ -223,15 +223,19 @@ unfolding repeated
 refused_vertices = refl
 
 pub refused_product : accepted_board (params (pos 65536) (pos 65536) (pos 0) (pos 0) (pos 1) (pos 0) false) ≡ Err VeryBad
+unfolding repeated
 refused_product = refl
 
 pub refused_piece : board (params (pos 2) (pos 0) (pos 0) (pos 0) (pos 2147483648) (pos 0) false) ≡ Err VeryBad
+unfolding repeated
 refused_piece = refl
 
 pub refused_negative_piece : board (params (pos 2) (pos 0) (pos 0) (pos 0) (negsuc 2147483647) (pos 0) false) ≡ Err VeryBad
+unfolding repeated
 refused_negative_piece = refl
 
 -- at the limits: 1,000,000,000 vertices and the greatest piece
 pub greatest_board : accepted_board (params (pos 1_000_000_000) (pos 0) (pos 0) (pos 0) (negsuc 2147483646) (pos 0) true)
     ≡ Ok (record { params = pos 1_000_000_000 ∷ pos 0 ∷ pos 0 ∷ pos 0 ∷ []; sizes = 1_000_000_000 ∷ []; piece = negsuc 2147483646; wrap = pos 0; directed = true })
+unfolding repeated
 greatest_board = refl

@@ -4,6 +4,7 @@ use Rattle.std.proofs.Common.{arith}
 use Rattle.std.proofs.lemmas.List.Elements.{All-from_recursion}
 use Rattle.std.specs.Fmt.{digits}
 use Rattle.sgb_vec.specs.Boxes.{box}
+use Rattle.sgb_vec.specs.Sizes.{repeated}
 use Rattle.sgb_vec.specs.Names.{name_of_vector}
 use Rattle.sgb_graph.specs.Graphs.{GraphData, chain_of, ends_from, ends_of, numbers_from}
 use Rattle.sgb_graph.specs.Events.{Event, HasArcsOf, HasEndsBelow, list_from, list_of}
@@ -58,7 +59,7 @@ arcs = record {
 
 -- the graph of complete(2)
 pub pair_is_complete : IfOk (board (complete (pos 2))) (λ d. IsGraphOf d pair)
-unfolding box digits name_of_vector displacements vectors_of_norm board_moves board_id family_graph
+unfolding box repeated digits name_of_vector displacements vectors_of_norm board_moves board_id family_graph
 pair_is_complete = record {
   id = refl;
   kinds = refl;

@@ -3,7 +3,8 @@ use Rattle.std.specs.Prelude.{Some, slice_get}
 use Rattle.sgb_chunks.specs.Chunks.{chunk_of}
 use Rattle.sgb_chunks.specs.inner.VectorNames.{name_there}
 use Rattle.sgb_chunks.proofs.ChunkSteps.{bytes_more, chunk_none, start_more, starts_none}
-use Rattle.sgb_chunks.proofs.LocalChunks.{first_from, left_after, name_is_there, said_of, some_front}
+use Rattle.sgb_chunks.proofs.LocalChunks.{left_after, name_is_there, said_of, some_front}
+use Rattle.sgb_gen.proofs.FamilyWalks.{at_front}
 use Rattle.sgb_chunks.proofs.names.put_names.Goals as goal
 
 pub loop-k-init : goal.loop-k-init
@@ -30,7 +31,7 @@ loop-k-preserved g c =
     let k = c.loop-k._k in
     let x = c.unwrap-x.result.now in
     let there : slice_get members (first + k) ≡ Some x =
-    first_from members c.loop-k.left (first + k) x c.loop-k.invariant.left
+    at_front members c.loop-k.left (first + k) x c.loop-k.invariant.left
     (said_of (λ v. slice_get c.loop-k.left 0 ≡ Some v.now) c.front.result c.unwrap-x.result c.unwrap-x.ensures c.front.ensures.first) in
     let bytes : c.push.new.self.bytes.items ≡ chunk_of (name_there members) first (k + 1) =
     bytes_more (name_there members) first k c.loop-k.names.bytes.items _ c.push.new.self.bytes.items c.loop-k.invariant.bytes (name_is_there members (first + k) x there) c.in_ok-push.ensures.bytes in

@@ -7,7 +7,8 @@ use Rattle.sgb_gen.specs.LocalLists.{LocalArc, list_in}
 use Rattle.sgb_gen.specs.VectorGraphs.{described_by}
 use Rattle.sgb_chunks.specs.Chunks.{chunk_of}
 use Rattle.sgb_chunks.proofs.ChunkSteps.{chunk_none, start_more, starts_none, values_more}
-use Rattle.sgb_chunks.proofs.LocalChunks.{contained, first_from, left_after, row_said, said_of, some_front, tips_contained}
+use Rattle.sgb_chunks.proofs.LocalChunks.{contained, left_after, row_said, said_of, some_front, tips_contained}
+use Rattle.sgb_gen.proofs.FamilyWalks.{at_front}
 use Rattle.sgb_chunks.proofs.rows.put_rows.Goals as goal
 
 pub loop-k-init : goal.loop-k-init
@@ -39,7 +40,7 @@ arcs_at-requires g c =
     let place = c.args.first + c.loop-k._k in
     let x = c.unwrap-x.result.now in
     let there : slice_get listed.vectors place ≡ Some x =
-    first_from listed.vectors c.loop-k.left place x c.loop-k.invariant.left
+    at_front listed.vectors c.loop-k.left place x c.loop-k.invariant.left
     (said_of (λ v. slice_get c.loop-k.left 0 ≡ Some v.now) c.front.result c.unwrap-x.result c.unwrap-x.ensures c.front.ensures.first) in
     let member : Contains (g.L.Listed.graph c.loop-k.listed).vectors x = contained listed (g.L.Listed.graph c.loop-k.listed) place x c.loop-k.invariant.same there in
     search rules
@@ -58,7 +59,7 @@ loop-k-preserved g c =
     let k = c.loop-k._k in
     let x = c.unwrap-x.result.now in
     let there : slice_get listed.vectors (first + k) ≡ Some x =
-    first_from listed.vectors c.loop-k.left (first + k) x c.loop-k.invariant.left
+    at_front listed.vectors c.loop-k.left (first + k) x c.loop-k.invariant.left
     (said_of (λ v. slice_get c.loop-k.left 0 ≡ Some v.now) c.front.result c.unwrap-x.result c.unwrap-x.ensures c.front.ensures.first) in
     let same : g.L.Listed.graph c.arcs_at.new.self ≡ listed = c.in_ok-arcs_at.ensures.same ∙ c.loop-k.invariant.same in
     let arcs : c.arcs_at.new.links.arcs ≡ list_in listed x = c.in_ok-arcs_at.ensures.ok ∙ ap (λ q. list_in q x) c.loop-k.invariant.same in
