@@ -1,4 +1,4 @@
-use Rattle.std.proofs.Common.{◌∙◌, sym, eqb-true}
+use Rattle.std.proofs.Common.{rules, ◌∙◌, sym, eqb-true}
 use Rattle.sgb_vec.proofs.BoxPlaces.{IsBelow-test, IsBelow-length}
 use Rattle.sgb_vec.proofs.boxes.each_below.Goals as goal
 
@@ -8,7 +8,4 @@ returns-then-entries-sizes c =
     (λ yes. means.0 (sym c.pairs_below.ensures ∙ yes), λ below. c.pairs_below.ensures ∙ means.1 below)
 
 pub returns-else-entries-sizes : goal.returns-else-entries-sizes
-returns-else-entries-sizes c = (
-  λ yes. absurd (c.if-entries-sizes.false (eqb-true _ _ yes)),
-  λ below. absurd (c.if-entries-sizes.false (IsBelow-length _ _ below)),
-)
+returns-else-entries-sizes c = search (rules, eqb-true, IsBelow-length)

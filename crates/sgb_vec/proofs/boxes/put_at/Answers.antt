@@ -1,19 +1,16 @@
-use Rattle.std.proofs.Common.{◌≡◌, ◌+◌, ◌-◌, length, arith}
+use Rattle.std.proofs.Common.{rules, ◌≡◌, ◌+◌, ◌-◌, arith}
 use Rattle.std.proofs.lemmas.List.{length-set}
 use Rattle.sgb_vec.proofs.BoxDigits.{size-pos, digits-none, digits-more, digits-all}
 use Rattle.sgb_vec.proofs.boxes.put_at.Goals as goal
 
 pub loop-k-init : goal.loop-k-init
-loop-k-init c =
-    (digits-none c.args.sizes.now c.args.entries.now (length c.args.sizes.now) c.args.place (omega arith) c.requires.same_length, c.requires.same_length)
+loop-k-init c = search (rules, digits-none)
 
 pub nonzero_rem-entries : goal.nonzero_rem-entries
-nonzero_rem-entries c =
-    size-pos c.args.sizes.now (c.loop-k.k - 1) (omega (arith, c.requires.within)) (omega (arith, c.loop-k-test.true, c.loop-k.auto.k))
+nonzero_rem-entries c = search (rules, size-pos)
 
 pub nonzero_div-rest : goal.nonzero_div-rest
-nonzero_div-rest c =
-    size-pos c.args.sizes.now (c.loop-k.k - 1) (omega (arith, c.requires.within)) (omega (arith, c.loop-k-test.true, c.loop-k.auto.k))
+nonzero_div-rest c = search (rules, size-pos)
 
 pub loop-k-preserved : goal.loop-k-preserved
 loop-k-preserved c =
@@ -24,5 +21,4 @@ loop-k-preserved c =
     )
 
 pub returns : goal.returns
-returns c =
-    digits-all c.args.sizes.now c.loop-k.entries c.loop-k.k c.loop-k.rest c.args.place (omega (arith, c.loop-k-test.false)) c.requires.within c.loop-k.invariant.0
+returns c = search (rules, digits-all)

@@ -1,4 +1,4 @@
-use Rattle.std.proofs.Common.{◌<◌, ◌+◌, ◌-◌, map, ◌∙◌, ap, rules, arith}
+use Rattle.std.proofs.Common.{◌<◌, ◌+◌, ◌-◌, map, ◌∙◌, ap, rules}
 use Rattle.std.proofs.lemmas.List.{places, take_rest}
 use Rattle.std.proofs.lemmas.List.Elements.{All-drop, All-take}
 use Rattle.sgb_vec.proofs.BoxPlaces.{IsBelow-from_Contains, IsBelow-length}
@@ -15,14 +15,10 @@ returns-in_default-clause-visits c =
     HasVisited-all c.args.entries.now _ _ _ (IsBelow-length _ _ below) c.in_default.ensures.all_visited
 
 pub slice_bounds-put_tops-count : goal.slice_bounds-put_tops-count
-slice_bounds-put_tops-count c =
-    let long = IsBelow-length _ _ (IsBelow-from_Contains c.args.sizes.now c.args.entries.now c.requires.member) in
-    omega (arith, long, c.in-Some.ensures.above)
+slice_bounds-put_tops-count c = search (rules, IsBelow-length, IsBelow-from_Contains)
 
 pub slice_bounds-put_tops-start : goal.slice_bounds-put_tops-start
-slice_bounds-put_tops-start c =
-    let long = IsBelow-length _ _ (IsBelow-from_Contains c.args.sizes.now c.args.entries.now c.requires.member) in
-    omega (arith, long, c.in-Some.ensures.above)
+slice_bounds-put_tops-start c = search (rules, IsBelow-length, IsBelow-from_Contains)
 
 pub put_tops-requires-clause-same_length : goal.put_tops-requires-clause-same_length
 put_tops-requires-clause-same_length c =

@@ -1,24 +1,16 @@
-use Rattle.std.proofs.Common.{arith}
+use Rattle.std.proofs.Common.{rules, arith}
 use Rattle.std.proofs.lemmas.Grind.{common_steps}
 use Rattle.sgb_vec.proofs.Numerals.{next_digit}
 use Rattle.sgb_vec.proofs.digits.digits_value.Goals as goal
 
 pub unwrap-digit-requires : goal.unwrap-digit-requires
-unwrap-digit-requires c =
-    let n = next_digit c.args.radix c.args.digits.now c.loop-byte.byte-index c.requires.low c.requires.numeral c.requires.fits c.loop-byte-test.true in
-    c.to_digit.ensures.succeeds (grind (arith, common_steps, n.below))
+unwrap-digit-requires c = search (rules, next_digit, common_steps)
 
 pub overflow_mul-value : goal.overflow_mul-value
-overflow_mul-value c =
-    let n = next_digit c.args.radix c.args.digits.now c.loop-byte.byte-index c.requires.low c.requires.numeral c.requires.fits c.loop-byte-test.true in
-    grind (arith, common_steps, n.more, n.fits)
+overflow_mul-value c = grind (arith, next_digit, common_steps)
 
 pub overflow_add-value : goal.overflow_add-value
-overflow_add-value c =
-    let n = next_digit c.args.radix c.args.digits.now c.loop-byte.byte-index c.requires.low c.requires.numeral c.requires.fits c.loop-byte-test.true in
-    grind (arith, common_steps, n.more, n.fits)
+overflow_add-value c = grind (arith, next_digit, common_steps)
 
 pub loop-byte-preserved : goal.loop-byte-preserved
-loop-byte-preserved c =
-    let n = next_digit c.args.radix c.args.digits.now c.loop-byte.byte-index c.requires.low c.requires.numeral c.requires.fits c.loop-byte-test.true in
-    grind (arith, common_steps, n.more)
+loop-byte-preserved c = search (rules, next_digit, common_steps)

@@ -1,4 +1,4 @@
-use Rattle.std.proofs.Common.{◌≡◌, ◌≢◌, length, decimal, sym, ap, ◌∙◌, true, false, not, nat_eq, eqb-true, arith}
+use Rattle.std.proofs.Common.{rules, ◌≢◌, length, decimal, sym, ◌∙◌, nat_eq, eqb-true, arith}
 use Rattle.std.specs.Cmp.Lexicographic.{pointwise, bytes_decides}
 use Rattle.std.proofs.lemmas.Bool.{eqb-false}
 use Rattle.std.specs.Str.Parse.{digits_value}
@@ -7,11 +7,7 @@ use Rattle.sgb_vec.proofs.NamedNumbers.{leading_are_digits, ten_digits_fit, deci
 use Rattle.sgb_vec.proofs.named.entry_of.Goals as goal
 
 pub returns-then-is_empty-clause-none : goal.returns-then-is_empty-clause-none
-returns-then-is_empty-clause-none c = λ entry small same.
-    let back = decimal_is_read_back entry small in
-    let digits : c.leading_digits-digits.result.now ≡ decimal entry = c.leading_digits-digits.ensures ∙ (ap (leading_digits 10 10) (sym same) ∙ back.leading) in
-    let none : length c.leading_digits-digits.result.now ≡ 0 = eqb-true _ _ (sym c.is_empty.ensures ∙ c.if-is_empty.true) in
-    omega (arith, back.some, ap length digits, none)
+returns-then-is_empty-clause-none c = search (rules, decimal_is_read_back, decimal, leading_digits, eqb-true)
 
 pub digits_value-requires-clause-numeral : goal.digits_value-requires-clause-numeral
 digits_value-requires-clause-numeral c =
@@ -23,17 +19,7 @@ pub digits_value-requires-clause-fits : goal.digits_value-requires-clause-fits
 digits_value-requires-clause-fits c = rw c.leading_digits-digits.ensures (ten_digits_fit _ (leading_are_digits 10 10 c.args.text.now))
 
 pub returns-in_default-clause-none : goal.returns-in_default-clause-none
-returns-in_default-clause-none c = λ entry small same.
-    let back = decimal_is_read_back entry small in
-    let digits : c.leading_digits-digits.result.now ≡ decimal entry = c.leading_digits-digits.ensures ∙ (ap (leading_digits 10 10) (sym same) ∙ back.leading) in
-    c.in_default.ensures (omega (arith, small, c.digits_value.ensures, ap (digits_value 10) digits, back.value))
+returns-in_default-clause-none c = search (rules, decimal_is_read_back, decimal, leading_digits, digits_value)
 
 pub returns-then-ne-clause-none : goal.returns-then-ne-clause-none
-returns-then-ne-clause-none c = λ entry small same.
-    let back = decimal_is_read_back entry small in
-    let digits : c.leading_digits-digits.result.now ≡ decimal entry = c.leading_digits-digits.ensures ∙ (ap (leading_digits 10 10) (sym same) ∙ back.leading) in
-    let number : c.in-Ok.entry ≡ entry = omega (arith, c.in-Ok.ensures, c.digits_value.ensures, ap (digits_value 10) digits, back.value) in
-    let text : c.as_bytes.result.now ≡ c.args.text.now = c.as_bytes.ensures.value ∙ (c.format.ensures.text ∙ (ap decimal number ∙ same)) in
-    let equal : pointwise nat_eq c.as_bytes.result.now c.args.text.now ≡ true = (bytes_decides c.as_bytes.result.now c.args.text.now).1 text in
-    let turned : true ≡ false = sym c.if-ne.true ∙ (c.ne.ensures ∙ ap not equal) in
-    absurd cc
+returns-then-ne-clause-none c = search (rules, decimal_is_read_back, decimal, leading_digits, digits_value, pointwise, nat_eq, bytes_decides)

@@ -1,4 +1,4 @@
-use Rattle.std.proofs.Common.{◌≡◌, ◌≢◌, [], length, decimal, sym, ap, ◌∙◌, eqb-true, arith, rules, tests}
+use Rattle.std.proofs.Common.{◌≡◌, ◌≢◌, length, decimal, sym, ap, ◌∙◌, eqb-true, arith, rules, tests}
 use Rattle.std.proofs.lemmas.Bool.{eqb-false}
 use Rattle.std.proofs.lemmas.List.{length-map, nil_from_length}
 use Rattle.std.proofs.lemmas.Iterator.Consumers.{YieldsList-at, YieldsList-turn, YieldsList-end}
@@ -8,9 +8,7 @@ use Rattle.sgb_vec.proofs.VectorNames.{name_of_none}
 use Rattle.sgb_vec.proofs.named.vector_of.Goals as goal
 
 pub returns-then-is_empty-clause-named : goal.returns-then-is_empty-clause-named
-returns-then-is_empty-clause-named c =
-    let none : c.args.name.now ≡ [] = nil_from_length c.args.name.now (eqb-true _ _ (sym c.is_empty.ensures ∙ c.if-is_empty.true)) in
-    rw (c.new-vector.ensures, none) (record { short = omega arith; small = λ k d within. absurd (omega arith) }, name_of_none)
+returns-then-is_empty-clause-named c = search (rules, nil_from_length, eqb-true, name_of_none)
 
 pub returns-in_err-entry-clause-none : goal.returns-in_err-entry-clause-none
 returns-in_err-entry-clause-none c =

@@ -1,4 +1,4 @@
-use Rattle.std.proofs.Common.{◌∙◌, sym, eqb-true}
+use Rattle.std.proofs.Common.{rules, ◌∙◌, sym, eqb-true}
 use Rattle.sgb_vec.proofs.SumMembers.{IsWithin-test, IsWithin-length}
 use Rattle.sgb_vec.proofs.sums.each_within.Goals as goal
 
@@ -8,7 +8,4 @@ returns-then-entries-bounds c =
     (λ yes. means.0 (sym c.pairs_within.ensures ∙ yes), λ within. c.pairs_within.ensures ∙ means.1 within)
 
 pub returns-else-entries-bounds : goal.returns-else-entries-bounds
-returns-else-entries-bounds c = (
-  λ yes. absurd (c.if-entries-bounds.false (eqb-true _ _ yes)),
-  λ within. absurd (c.if-entries-bounds.false (IsWithin-length _ _ within)),
-)
+returns-else-entries-bounds c = search (rules, eqb-true, IsWithin-length)

@@ -1,4 +1,4 @@
-use Rattle.std.proofs.Common.{◌≡◌, ◌+◌, ◌-◌, ◌<◌, ◌≤◌, ◌⊎◌, true, false, length, get_or, sym, ◌∙◌, inl, inr, arith}
+use Rattle.std.proofs.Common.{rules, ◌≡◌, ◌-◌, ◌<◌, ◌≤◌, ◌⊎◌, true, false, get_or, sym, ◌∙◌, inl, inr, arith}
 use Rattle.std.proofs.lemmas.Bool.Decides.{nat_tests}
 use Rattle.sgb_vec.proofs.SumMembers.{IsWithin-length}
 use Rattle.sgb_vec.proofs.SumTails.{least-none, least-more, least-all, after-more_le}
@@ -10,23 +10,16 @@ pub loop-place-init : goal.loop-place-init
 loop-place-init c = (least-none c.args.bounds.now c.args.entries.now c.requires.within, omega arith)
 
 pub returns-then-entries-place-gt0-clause-after : goal.returns-then-entries-place-gt0-clause-after
-returns-then-entries-place-gt0-clause-after c =
-    let here : c.loop-place.place - 1 + 1 ≡ c.loop-place.place = omega arith in
-    rw here (c.loop-place.invariant.0.adds, omega (arith, c.loop-place.invariant.0.adds, c.loop-place.invariant.0.room c.if-has_room.true))
+returns-then-entries-place-gt0-clause-after c = search rules
 
 pub returns-then-entries-place-gt0-clause-first_after : goal.returns-then-entries-place-gt0-clause-first_after
-returns-then-entries-place-gt0-clause-first_after c =
-    let here : c.loop-place.place - 1 + 1 ≡ c.loop-place.place = omega arith in
-    rw here (IsFirst-least _ _ _ c.loop-place.invariant.0.least (sym c.loop-place.invariant.0.adds))
+returns-then-entries-place-gt0-clause-first_after c = search (rules, IsFirst-least)
 
 pub bounds-bounds-place : goal.bounds-bounds-place
 bounds-bounds-place c = omega (arith, IsWithin-length c.args.bounds.now c.args.entries.now c.requires.within)
 
 pub overflow_add-after : goal.overflow_add-after
-overflow_add-after c =
-    let place = c.loop-place.place - 1 in
-    let within : place < length c.args.entries.now = omega arith in
-    omega (arith, c.requires.small, after-more_le c.args.entries.now place c.loop-place.place c.loop-place.after (omega arith) within c.loop-place.invariant.0.adds)
+overflow_add-after c = search (rules, after-more_le)
 
 pub loop-place-preserved : goal.loop-place-preserved
 loop-place-preserved c =

@@ -1,4 +1,4 @@
-use Rattle.std.proofs.Common.{◌≡◌, ◌+◌, ◌-◌, ◌<◌, ◌≤◌, length, get_or, sym, arith}
+use Rattle.std.proofs.Common.{rules, ◌-◌, ◌<◌, ◌≤◌, get_or, arith}
 use Rattle.sgb_vec.proofs.SumTails.{greatest-none, greatest-more, greatest-all, after-more_le}
 use Rattle.sgb_vec.proofs.SumWalks.{IsLast-greatest}
 use Rattle.sgb_vec.proofs.sums.last_growing.Goals as goal
@@ -8,15 +8,10 @@ pub loop-place-init : goal.loop-place-init
 loop-place-init c = (greatest-none c.args.bounds.now c.args.entries.now c.requires.within, omega arith)
 
 pub returns-then-entries-place-clause-last_after : goal.returns-then-entries-place-clause-last_after
-returns-then-entries-place-clause-last_after c =
-    let here : c.loop-place.place - 1 + 1 ≡ c.loop-place.place = omega arith in
-    rw here (IsLast-greatest _ _ _ c.loop-place.invariant.0.greatest (sym c.loop-place.invariant.0.adds))
+returns-then-entries-place-clause-last_after c = search (rules, IsLast-greatest)
 
 pub overflow_add-after : goal.overflow_add-after
-overflow_add-after c =
-    let place = c.loop-place.place - 1 in
-    let within : place < length c.args.entries.now = omega arith in
-    omega (arith, c.requires.small, after-more_le c.args.entries.now place c.loop-place.place c.loop-place.after (omega arith) within c.loop-place.invariant.0.adds)
+overflow_add-after c = search (rules, after-more_le)
 
 pub loop-place-preserved : goal.loop-place-preserved
 loop-place-preserved c =
@@ -31,6 +26,4 @@ loop-place-preserved c =
     )
 
 pub returns-clause-last : goal.returns-clause-last
-returns-clause-last c =
-    let none : c.loop-place.place ≡ 0 = omega arith in
-    greatest-all c.args.bounds.now c.args.entries.now c.loop-place.after (rw none at c.loop-place.invariant.0)
+returns-clause-last c = grind (arith, greatest-all)

@@ -1,4 +1,4 @@
-use Rattle.std.proofs.Common.{◌<◌, ◌^◌, arith}
+use Rattle.std.proofs.Common.{rules, ◌<◌, ◌^◌, arith}
 use Rattle.std.specs.List.{All}
 use Rattle.std.proofs.lemmas.Grind.{common_steps}
 use Rattle.std.proofs.lemmas.List.Elements.{All-from_get_or}
@@ -10,12 +10,7 @@ pub loop-place-init : goal.loop-place-init
 loop-place-init c = grind (arith, common_steps, name_of_none)
 
 pub loop-place-preserved : goal.loop-place-preserved
-loop-place-preserved c =
-    let v = c.args.vector.now in
-    elim c.if-place-gt0.branch [
-      | then-place-gt0+in_ok-push w ↦ let e = name_of_vector-more v c.loop-place.place (omega arith) (omega arith) in grind (arith, common_steps, c.in_ok-push_decimal.ensures, w.in_ok-push.ensures)
-      | else-place-gt0 w ↦ let e = name_of_vector-first v c.loop-place.place (omega arith) (omega arith) in grind (arith, common_steps, c.in_ok-push_decimal.ensures)
-    ]
+loop-place-preserved c = search (rules, then-place-gt0+in_ok-push, name_of_vector-more, common_steps, else-place-gt0, name_of_vector-first)
 
 pub invariant_of-result : goal.invariant_of-result
 invariant_of-result c =

@@ -1,4 +1,4 @@
-use Rattle.std.proofs.Common.{◌≡◌, ◌≤◌, true, false, arith}
+use Rattle.std.proofs.Common.{rules}
 use Rattle.std.proofs.lemmas.Grind.{common_steps}
 use Rattle.std.proofs.lemmas.Result.{err_from_is_err_and}
 use Rattle.sgb_vec.specs.Limits.{most_dimensions}
@@ -8,20 +8,7 @@ use Rattle.sgb_vec.proofs.BoardSizes.{board_by_stop-great, board_by_stop-fits}
 use Rattle.sgb_vec.proofs.shapes.boards.board_of.Goals as goal
 
 pub returns-in_err-sizes : goal.returns-in_err-sizes
-returns-in_err-sizes c =
-    let s = before_stop c.args.entries.now in
-    let e = stop_of c.args.entries.now in
-    let few : count_by_stop 0 s e ≤ most_dimensions = grind (arith, common_steps) in
-    let great : has_great_size (repeated s (count_by_stop 0 s e)) ≡ true = grind (arith, common_steps, c.in_err-sizes.ensures) in
-    let refused = board_by_stop-great c.args.entries.now s e c.requires few great in
-    let returned = err_from_is_err_and c.from_residual.result c.from_residual.ensures.1 in
-    rw (returned.1, returned.2) (grind (arith, common_steps, c.in_err-sizes.ensures))
+returns-in_err-sizes c = search (rules, before_stop, stop_of, count_by_stop, most_dimensions, common_steps, has_great_size, repeated, board_by_stop-great, err_from_is_err_and)
 
 pub returns : goal.returns
-returns c =
-    let s = before_stop c.args.entries.now in
-    let e = stop_of c.args.entries.now in
-    let few : count_by_stop 0 s e ≤ most_dimensions = grind (arith, common_steps) in
-    let small : has_great_size (repeated s (count_by_stop 0 s e)) ≡ false = grind (arith, common_steps, c.in_ok-sizes.ensures) in
-    let accepted = board_by_stop-fits c.args.entries.now s e c.requires few small in
-    grind (arith, common_steps, c.in_ok-sizes.ensures)
+returns c = search (rules, before_stop, stop_of, count_by_stop, most_dimensions, common_steps, has_great_size, repeated, board_by_stop-fits)

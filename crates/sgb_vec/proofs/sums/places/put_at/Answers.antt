@@ -1,4 +1,4 @@
-use Rattle.std.proofs.Common.{arith}
+use Rattle.std.proofs.Common.{rules, arith}
 use Rattle.std.proofs.lemmas.List.{length-set, take_rest}
 use Rattle.sgb_vec.proofs.SumPlaces.{put-none, put-more, put-all}
 use Rattle.sgb_vec.proofs.sums.places.put_at.Goals as goal
@@ -15,5 +15,4 @@ loop-k-preserved c =
     )
 
 pub returns : goal.returns
-returns c =
-    put-all c.args.total c.args.bounds.now c.args.place c.loop-k.entries c.loop-k.k c.loop-k.left c.loop-k.rest (omega (arith, c.loop-k-test.false)) (omega (arith, c.loop-k-test.false, c.loop-k.invariant.1)) c.loop-k.invariant.0
+returns c = search (rules, put-all)

@@ -1,17 +1,11 @@
-use Rattle.std.proofs.Common.{◌≡◌, ℕ, ◌-◌, ◌*◌, [], ◌∷◌, get_or, ap, arith}
+use Rattle.std.proofs.Common.{rules, ℕ, [], ◌∷◌, arith}
 use Rattle.sgb_vec.specs.Sums.{count_of_sum}
 use Rattle.sgb_vec.proofs.SumRowLemmas.{products_step, products_end}
 use Rattle.sgb_vec.proofs.SumTriples.{triple_products_all}
 use Rattle.sgb_vec.proofs.sums.rows.count_with_row.Goals as goal
 
 pub loop-place-preserved : goal.loop-place-preserved
-loop-place-preserved c =
-    let row = c.args.row.now in
-    let n = c.loop-place.place in
-    let t = c.args.total in
-    let triples : ℕ → ℕ = λ k. count_of_sum k (c.args.a ∷ c.args.b ∷ c.args.c ∷ []) in
-    let product : get_or row n 0 * c.triples-ways.result ≡ get_or row n 0 * triples (t - n) = ap (λ x. get_or row n 0 * x) c.triples-ways.ensures in
-    (omega (arith, c.if-count-from.false), omega (arith, product, products_step (λ i. get_or row i 0) triples t n (omega arith), c.loop-place.invariant.1))
+loop-place-preserved c = search (rules, count_of_sum, products_step)
 
 pub returns : goal.returns
 returns c = λ bounds counts.

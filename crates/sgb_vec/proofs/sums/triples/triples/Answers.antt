@@ -1,4 +1,4 @@
-use Rattle.std.proofs.Common.{◌-◌, sym, ◌∙◌, arith}
+use Rattle.std.proofs.Common.{rules, ◌-◌, sym, ◌∙◌, arith}
 use Rattle.sgb_vec.proofs.SumTriples.{triples-near, triples-far}
 use Rattle.sgb_vec.proofs.sums.triples.triples.Goals as goal
 
@@ -10,5 +10,4 @@ overflow_sub-result c =
     omega (arith, c.pairs_up_to-pairs.ensures, c.pairs_up_to.ensures, triples-far c.args.a c.args.b c.args.c (c.args.sum - c.args.a - 1) c.args.sum (omega arith))
 
 pub returns : goal.returns
-returns c =
-    omega (arith, c.pairs_up_to-pairs.ensures, c.pairs_up_to.ensures, triples-far c.args.a c.args.b c.args.c (c.args.sum - c.args.a - 1) c.args.sum (omega arith))
+returns c = search (rules, triples-far)

@@ -1,4 +1,4 @@
-use Rattle.std.proofs.Common.{◌∙◌, drop, List, ℕ, sym, ap}
+use Rattle.std.proofs.Common.{rules, ◌∙◌, drop, List, ℕ, sym, ap}
 use Rattle.sgb_vec.proofs.RangeSteps.{front_among, front_goes, one_left}
 use Rattle.sgb_vec.proofs.vectors.Vectors.advance.Goals as goal
 
@@ -11,8 +11,7 @@ pub next-more-requires-clause-member : goal.next-more-requires-clause-member
 next-more-requires-clause-member g c = front_among _ (g.met.F.Family.rising c.self.inside.family.now) _ _ _ c.if-not-self.false c.self.invariant
 
 pub invariant_of-self-2 : goal.invariant_of-self-2
-invariant_of-self-2 g c =
-    (front_goes _ (g.met.F.Family.rising c.self.inside.family.now) _ _ _ _ _ _ _ c.if-not-self.false c.self.invariant c.as_slice.ensures.value c.as_slice-2.ensures.value c.if-eq.ensures c.next-more.ensures.found c.next-more.ensures.last).0
+invariant_of-self-2 g c = search (rules, front_goes)
 
 pub returns-clause-rest : goal.returns-clause-rest
 returns-clause-rest g c =

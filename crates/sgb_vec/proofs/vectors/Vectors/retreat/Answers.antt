@@ -1,4 +1,4 @@
-use Rattle.std.proofs.Common.{◌∙◌, ◌-◌, take, length, List, ℕ, sym, ap}
+use Rattle.std.proofs.Common.{rules, ◌∙◌, ◌-◌, take, length, List, ℕ, sym, ap}
 use Rattle.sgb_vec.proofs.RangeSteps.{back_among, back_goes, one_left, without_last}
 use Rattle.sgb_vec.proofs.vectors.Vectors.retreat.Goals as goal
 
@@ -11,10 +11,7 @@ pub prev-more-requires-clause-member : goal.prev-more-requires-clause-member
 prev-more-requires-clause-member g c = back_among _ (g.met.F.Family.rising c.self.inside.family.now) _ _ _ c.if-not-self.false c.self.invariant
 
 pub invariant_of-self-2 : goal.invariant_of-self-2
-invariant_of-self-2 g c =
-    (back_goes _ (g.met.F.Family.rising c.self.inside.family.now) _ _ _ _ _ _ _ c.if-not-self.false c.self.invariant c.as_slice.ensures.value c.as_slice-2.ensures.value c.if-eq.ensures c.prev-more.ensures.found c.prev-more.ensures.first).0
+invariant_of-self-2 g c = search (rules, back_goes)
 
 pub returns-clause-rest : goal.returns-clause-rest
-returns-clause-rest g c =
-    let step = back_goes _ (g.met.F.Family.rising c.self.inside.family.now) _ _ _ _ _ _ _ c.if-not-self.false c.self.invariant c.as_slice.ensures.value c.as_slice-2.ensures.value c.if-eq.ensures c.prev-more.ensures.found c.prev-more.ensures.first in
-    without_last _ _ _ (sym c.self.view_is ∙ step.1)
+returns-clause-rest g c = search (rules, back_goes, without_last)

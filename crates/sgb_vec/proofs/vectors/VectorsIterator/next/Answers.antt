@@ -1,4 +1,4 @@
-use Rattle.std.proofs.Common.{◌≡◌, ◌∙◌, List, ℕ, slice_get, length, sym, ap, arith}
+use Rattle.std.proofs.Common.{rules, ◌≡◌, ◌∙◌, List, ℕ, slice_get, sym, ap}
 use Rattle.sgb_vec.proofs.RangeSteps.{front_first, first_and_rest}
 use Rattle.sgb_vec.proofs.vectors.VectorsIterator.next.Goals as goal
 
@@ -9,6 +9,4 @@ returns-clause-steps g c =
     first_and_rest _ _ _ _ first copy c.advance-some.ensures.rest
 
 pub returns-clause-goes : goal.returns-clause-goes
-returns-clause-goes g c =
-    let fewer = ap length (returns-clause-steps g c) in
-    record { on = λ _. (tt, tt, omega (arith, fewer)); keeps = tt; rests = λ _. tt }
+returns-clause-goes g c = search (rules, returns-clause-steps)
