@@ -1,5 +1,5 @@
 -- Complete bipartite graphs [GB_BASIC, bi_complete].
-use Rattle.std.specs.Prelude.{ℤ, pos, negsuc, ◌+◌, Bool, false, ◌||◌, List, [], ◌∷◌, ◌++◌, replicate, codes, nat_lt, if◌then◌else◌, Result, Ok, Err}
+use Rattle.std.specs.Prelude.{ℤ, pos, negsuc, ◌+◌, Bool, false, List, [], ◌∷◌, ◌++◌, replicate, codes, nat_lt, if◌then◌else◌, Result, Ok, Err}
 use Rattle.std.specs.Fmt.{signed_decimal}
 use Rattle.sgb_vec.specs.Limits.{most_vertices}
 use Rattle.sgb_vec.specs.Results.{and_then}
@@ -17,13 +17,12 @@ use Rattle.sgb_gen.specs.Boards.{board}
 use Rattle.sgb_graph.specs.Made.{graph_described}
 use Rattle.sgb_ops.specs.Boards.{pair_of_vertices}
 
--- the entries of these numbers of copies, or why they are refused: one is negative; then one, or both
--- together, are too many vertices
+-- the entries of these numbers of copies, or why they are refused: one is negative; then they are too many vertices
 abbrev pub accepted_parts : ℤ → ℤ → Result (List Entry) Panic
 accepted_parts (negsuc n1) n2 = Err Bad
 accepted_parts (pos n1) (negsuc n2) = Err Bad
 accepted_parts (pos n1) (pos n2) =
-    if nat_lt most_vertices n1 || nat_lt most_vertices n2 || nat_lt most_vertices (n1 + n2) then Err VeryBad
+    if nat_lt most_vertices (n1 + n2) then Err VeryBad
     else Ok (entry.Copies n1 ∷ entry.Copies n2 ∷ [])
 
 -- bi_complete(n1, n2, directed): the board of two vertices, with n1 copies of the one and n2 of the other, and n1 in the

@@ -72,10 +72,11 @@ names_of_copies text (entry.Copies (suc (suc (suc k)))) =
 names_of_copies text (entry.Graph inner) = map (λ b. joined_name text (codes ":") b) (names_of inner)
 names_of_copies text (entry.Merged k) = []
 
--- the names of all vertices of the result: first those of the merged ones, -1, -2 and so on
+-- the names of all vertices of the result: first those of the merged ones, -1, -2 and so on; then those of the others
 abbrev pub names_by_entries : List (List ℕ) → List Entry → List (List ℕ)
 names_by_entries names entries =
-    map (λ k. codes "-" ++ decimal k) (range_with_len 1 (merged_count entries)) ++ flat_map (λ p. names_of_copies p.0 p.1) (zip names entries)
+    map (λ k. codes "-" ++ decimal k) (range_with_len 1 (merged_count entries))
+    ++ flat_map (λ p. names_of_copies p.0 p.1) (zip names entries)
 
 -- the events inside an entry whose first vertex is the one given: of a graph, for each vertex w each arc b taken of w
 abbrev pub inner_events : Bool → ℕ → Entry → List Event

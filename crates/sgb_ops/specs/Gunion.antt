@@ -1,5 +1,5 @@
 -- The union of two graphs on the vertices of the first; vertices correspond by their places [GB_BASIC, gunion].
-use Rattle.std.specs.Prelude.{ℕ, Bool, List, [], ◌∷◌, ◌++◌, map, filter, flat_map, codes, nat_lt, if◌then◌else◌, Result, Ok}
+use Rattle.std.specs.Prelude.{Bool, List, [], ◌∷◌, ◌++◌, map, filter, flat_map, codes, nat_lt, if◌then◌else◌, Result, Ok}
 use Rattle.sgb_vec.specs.declared.panics.Panic.{Panic}
 use Rattle.sgb_graph.specs.Graphs.{GraphData}
 use Rattle.sgb_graph.specs.Events.{Event}

@@ -18,8 +18,8 @@ use Rattle.sgb_ops.specs.Entries.{accepted_entries, copies_of, names_by_entries,
 -- the events between copies: for each v, each copy u of v and each arc a taken of v, from u to each copy t of a's tip, with
 -- the length of a; but for a loop of an undirected graph only where t is not before u
 abbrev pub events_between : GraphData → List Entry → Bool → List Event
-events_between g entries directed =
-    flat_map (λ v. flat_map (λ u. flat_map (λ a. map (λ t. record { from = u; to = t; len = a.len })
+events_between g entries directed = flat_map (λ v. flat_map (λ u. flat_map (λ a.
+    map (λ t. record { from = u; to = t; len = a.len })
     (filter (λ t. directed || not (a.tip == v) || nat_le u t) (copies_of entries a.tip)))
     (taken directed g v)) (copies_of entries v)) (places_of g)
 

@@ -1,5 +1,5 @@
 -- The line graph: a vertex for each arc or edge [GB_BASIC, lines].
-use Rattle.std.specs.Prelude.{◌≡◌, ◌≢◌, ℕ, pos, ◌+◌, ◌/◌, ◌==◌, Bool, true, false, not, ◌&&◌, ◌||◌, List, [], ◌∷◌, map, reverse, filter, flat_map, take, length, slice_get, codes, nat_lt, if◌then◌else◌, Result, Ok, Err}
+use Rattle.std.specs.Prelude.{◌≡◌, ◌≢◌, pos, ◌+◌, ◌/◌, ◌==◌, Bool, true, false, not, ◌&&◌, ◌||◌, List, [], ◌∷◌, map, reverse, filter, flat_map, take, length, slice_get, codes, nat_lt, if◌then◌else◌, Result, Ok, Err}
 use Rattle.std.specs.List.{list_all, enumerate_from}
 use Rattle.std.specs.Option.{option_map_or}
 use Rattle.sgb_vec.specs.Limits.{most_vertices}
@@ -9,8 +9,6 @@ use Rattle.sgb_vec.specs.declared.panics.Panic.TheVariants.{VeryBad, Invalid}
 use Rattle.sgb_graph.specs.Graphs.{GraphData}
 use Rattle.sgb_graph.specs.Events.{Event, HasArcsOf}
 use Rattle.sgb_graph.specs.Ids.{compound_id}
-use Rattle.sgb_graph.specs.declared.fields.Link.{Link}
-use Rattle.sgb_graph.specs.declared.fields.Ref.{Ref}
 use Rattle.sgb_graph.specs.declared.fields.Ref.TheVariants.{Null, One, At}
 use Rattle.sgb_graph.specs.Descriptions.{Description}
 use Rattle.sgb_graph.specs.Made.{plain}

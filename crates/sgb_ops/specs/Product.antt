@@ -27,7 +27,7 @@ type_number Cartesian = 0
 type_number Direct = 1
 type_number Strong = 2
 
--- a step of this length from a pair to a pair: the pairs of a vertex and one of h stand in lexicographic order
+-- a step of this length from pair p to pair q: the pairs of a vertex and a vertex of h stand in lexicographic order
 abbrev pub step : GraphData → ℕ × ℕ → ℕ × ℕ → ℤ → Event
 step h p q far = record { from = p.0 * order_of h + p.1; to = q.0 * order_of h + q.1; len = far }
 
@@ -40,8 +40,8 @@ single_steps g h directed =
 
 -- the steps in both, with the lesser length: for each x, each y, each arc taken of x, and each of y's whole list
 abbrev pub both_steps : GraphData → GraphData → Bool → List Event
-both_steps g h directed =
-    flat_map (λ x. flat_map (λ y. flat_map (λ a. map (λ b. step h (x, y) (a.tip, b.tip) (int_min a.len b.len)) (chain_of h y))
+both_steps g h directed = flat_map (λ x. flat_map (λ y. flat_map (λ a.
+    map (λ b. step h (x, y) (a.tip, b.tip) (int_min a.len b.len)) (chain_of h y))
     (taken directed g x)) (places_of h)) (places_of g)
 
 -- the cartesian product steps in one coordinate, the direct one in both; the strong one has the events of

@@ -1,5 +1,5 @@
 -- Wheels: n1 vertices in the middle, each joined to all n vertices of a rim [GB_BASIC, wheel].
-use Rattle.std.specs.Prelude.{ℤ, pos, negsuc, Bool, false, List, [], ◌∷◌, ◌++◌, codes, nat_lt, if◌then◌else◌, Result, Ok, Err}
+use Rattle.std.specs.Prelude.{ℤ, pos, negsuc, Bool, false, [], ◌∷◌, ◌++◌, codes, nat_lt, if◌then◌else◌, Result, Ok, Err}
 use Rattle.std.specs.Fmt.{signed_decimal}
 use Rattle.sgb_vec.specs.Limits.{most_vertices}
 use Rattle.sgb_vec.specs.Results.{and_then}
