@@ -9,13 +9,14 @@ use Rattle.sgb_graph.specs.Made.{graph_described, no_fields, no_kinds}
 use Rattle.sgb_graph.proofs.Described.{described_only}
 use Rattle.sgb_ops.specs.declared.entries.Entry.{Entry}
 use Rattle.sgb_ops.specs.Entries.{accepted_entries}
-use Rattle.sgb_ops.specs.Induced.{induced_graph, induced_of}
+use Rattle.sgb_ops.specs.Induced.{induced_of}
 use Rattle.std.specs.Prelude.{slice_set}
 use Rattle.sgb_graph.specs.Growth.{with_id, with_uu}
 use Rattle.sgb_graph.specs.declared.fields.Kind.TheVariants.{I}
 use Rattle.sgb_graph.specs.declared.fields.Util.TheVariants.{Int}
-use Rattle.sgb_ops.specs.BiComplete.{bi_complete_id, with_parts}
-use Rattle.sgb_ops.specs.Wheel.{wheel_id, with_wheel_id}
+use Rattle.sgb_ops.specs.inner.Induced.{induced_graph}
+use Rattle.sgb_ops.specs.inner.Titles.{bi_complete_id, wheel_id}
+use Rattle.sgb_ops.specs.inner.Boards.{with_parts, with_wheel_id}
 use Rattle.sgb_graph.specs.Vertices.{order_of}
 
 -- what is made of a graph that was made

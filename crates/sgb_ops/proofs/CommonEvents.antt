@@ -12,12 +12,14 @@ use Rattle.sgb_graph.specs.Events.{Event, HasEndsBelow}
 use Rattle.sgb_graph.specs.Growth.{IsKept}
 use Rattle.sgb_graph.specs.declared.fields.Link.{Link}
 use Rattle.sgb_ops.specs.inner.Ends.{AllWithin}
-use Rattle.sgb_ops.specs.Intersection.{count_to, least_to, common_count, common_length, common_event, common_events, intersection_events}
-use Rattle.sgb_ops.specs.Lengths.{greater, least_of}
+use Rattle.sgb_ops.specs.Intersection.{count_to, least_to, common_count, common_length, common_events, intersection_events}
+use Rattle.sgb_ops.specs.Lengths.{least_of}
 use Rattle.sgb_graph.specs.Vertices.{order_of}
 use Rattle.sgb_ops.specs.Taken.{taken}
 use Rattle.sgb_ops.specs.inner.Tallies.{tally_of, tally_to, without_one, second_length, event_left}
 use Rattle.sgb_ops.specs.declared.tallies.Tally.{Tally}
+use Rattle.sgb_ops.specs.inner.Intersection.{common_event}
+use Rattle.std.specs.Int.{int_max}
 use Rattle.sgb_ops.proofs.EventsWithin.{TipBelow, taken_tips, events_after_within}
 use Rattle.sgb_ops.proofs.PlainLists.{places_from}
 use Rattle.sgb_ops.proofs.TallyLemmas.{arcs_to, count_more, count_at, tip_counted}
@@ -97,10 +99,10 @@ second_least [] far some = absurd (omega (arith, some))
 second_least (l ∷ links) far some = refl
 
 lengths_agree : (multi : Bool) (gs hs : List Link) (l : Link) → 0 < count_to l.tip hs
-    → common_length multi gs hs l ≡ greater (least_to l.tip gs) (second_length multi l.len (tally_to l.tip hs))
+    → common_length multi gs hs l ≡ int_max (least_to l.tip gs) (second_length multi l.len (tally_to l.tip hs))
 lengths_agree true gs hs l some = refl
 lengths_agree false gs hs l some =
-    ap (greater (least_to l.tip gs)) (sym (second_least (arcs_to l.tip hs) l.len (omega (arith, some, length-filter (λ (x : Link). x.tip == l.tip) hs))))
+    ap (int_max (least_to l.tip gs)) (sym (second_least (arcs_to l.tip hs) l.len (omega (arith, some, length-filter (λ (x : Link). x.tip == l.tip) hs))))
 
 -- nothing is left of none
 nothing_left : (multi : Bool) (met : ℕ) → count_left multi 0 met ≡ 0
@@ -113,7 +115,7 @@ either_way false e = refl
 
 -- the event where so many arcs of the graphs lead to u, and so many were met
 event_counted : (multi : Bool) (v u b met : ℕ) (far all : ℤ) (arcs : List Link) → met < b
-    → (0 < length arcs → all ≡ greater (least_of (map (λ l. l.len) arcs)) far)
+    → (0 < length arcs → all ≡ int_max (least_of (map (λ l. l.len) arcs)) far)
     → event_left v u far (tally_left multi met (tally_of arcs)) ≡ (if nat_lt met (most_common multi (length arcs) b) then record { from = v; to = u; len = all } ∷ [] else [])
 event_counted multi v u b met far all [] within long =
     let none : nat_lt met (most_common multi 0 b) ≡ false = wanted_left multi 0 b met within ∙ rw (nothing_left multi met) refl in
@@ -121,7 +123,7 @@ event_counted multi v u b met far all [] within long =
 event_counted multi v u b met far all (x ∷ arcs) within long =
     let some = wanted_left multi (length (x ∷ arcs)) b met within in
     let length_is = long (omega arith) in
-    rw (some, length_is) (either_way (count_left multi (length (x ∷ arcs)) met == 0) (record { from = v; to = u; len = greater (least_of (map (λ l. l.len) (x ∷ arcs))) far }))
+    rw (some, length_is) (either_way (count_left multi (length (x ∷ arcs)) met == 0) (record { from = v; to = u; len = int_max (least_of (map (λ l. l.len) (x ∷ arcs))) far }))
 
 -- the event for an arc that stands after others
 pub event_there : (multi : Bool) (v : ℕ) (gs hs before links : List Link) (l : Link) → hs ≡ before ++ l ∷ links

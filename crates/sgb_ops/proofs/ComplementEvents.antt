@@ -2,7 +2,7 @@
 use Rattle.std.proofs.Common.{◌≡◌, ℕ, pos, Bool, true, false, cond, List, [], ◌∷◌, ◌++◌, map, filter, refl}
 use Rattle.sgb_graph.specs.Graphs.{GraphData}
 use Rattle.sgb_graph.specs.Events.{Event}
-use Rattle.sgb_ops.specs.Complement.{is_wanted_arc}
+use Rattle.sgb_ops.specs.inner.Complement.{is_wanted_arc}
 
 -- the wanted arcs from u to these vertices
 abbrev pub wanted_to : GraphData → Bool → Bool → Bool → ℕ → List ℕ → List Event

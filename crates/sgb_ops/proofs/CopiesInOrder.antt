@@ -11,7 +11,8 @@ use Rattle.std.proofs.lemmas.List.Elements.{All-contains}
 use Rattle.sgb_vec.proofs.Lists.{range-within, filter-all, range-joined, range-more}
 use Rattle.sgb_ops.specs.declared.entries.Entry.{Entry}
 use Rattle.sgb_ops.specs.Copies.{CopiesAreAll, CopiesAreApart, own_copies}
-use Rattle.sgb_ops.specs.Entries.{copies_by, copies_of, first_copy, is_unnumbered, merged_count, merged_number, own_total, size_of_entry}
+use Rattle.sgb_ops.specs.Entries.{copies_by, copies_of, first_copy, is_unnumbered, merged_count, merged_number, size_of_entry}
+use Rattle.sgb_ops.specs.inner.Entries.{own_total}
 use Rattle.sgb_graph.specs.Vertices.{order_of}
 use Rattle.sgb_ops.specs.declared.entries.Entry.TheVariants as entry
 use Rattle.sgb_ops.proofs.EntryTotals.{next_first, number_below, numbered_one}

@@ -14,11 +14,13 @@ use Rattle.sgb_ops.specs.declared.entries.Entry.{Entry}
 use Rattle.sgb_ops.specs.declared.entries.Entry.TheVariants as entry
 use Rattle.sgb_ops.specs.inner.Copies.{IsKeptEntry}
 use Rattle.sgb_ops.specs.inner.Ends.{AllWithin}
-use Rattle.sgb_ops.specs.Entries.{copies_of, events_within, first_copy, inner_event, inner_events, inner_events_from, is_unnumbered, names_by_entries, names_of_copies, own_names, own_total, size_of_entry, total_of}
-use Rattle.sgb_ops.specs.Induced.{events_between, events_of_arc, events_of_copies, events_of_copy}
+use Rattle.sgb_ops.specs.Entries.{copies_of, events_within, first_copy, inner_events, is_unnumbered, names_by_entries, names_of_copies, size_of_entry}
+use Rattle.sgb_ops.specs.Induced.{events_between}
 use Rattle.sgb_graph.specs.Vertices.{order_of, places_of, names_of}
 use Rattle.sgb_ops.specs.Taken.{taken}
-use Rattle.sgb_ops.specs.Titles.{numbered_name, substituted_name}
+use Rattle.sgb_ops.specs.inner.Entries.{inner_event, inner_events_from, own_names, own_total, total_of}
+use Rattle.sgb_ops.specs.inner.Induced.{events_of_arc, events_of_copies, events_of_copy}
+use Rattle.sgb_ops.specs.inner.Titles.{numbered_name, substituted_name}
 use Rattle.sgb_ops.proofs.EntryTotals.{copies_within, copies-range, total_at}
 use Rattle.sgb_ops.proofs.EventsWithin.{taken_tips, events_after_within}
 

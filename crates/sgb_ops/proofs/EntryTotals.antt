@@ -15,7 +15,8 @@ use Rattle.std.specs.Prelude.{Ok}
 use Rattle.sgb_ops.specs.declared.entries.Entry.{Entry}
 use Rattle.sgb_ops.specs.declared.entries.Entry.TheVariants as entry
 use Rattle.sgb_ops.specs.inner.Copies.{IsKeptEntry, copies_end, copies_start, count_by, first_copies, merged_of, start_by}
-use Rattle.sgb_ops.specs.Entries.{accepted_entries, copies_by, copies_of, first_copy, is_too_great, is_unnumbered, merged_count, merged_number, own_total, size_of_entry, total_of}
+use Rattle.sgb_ops.specs.Entries.{accepted_entries, copies_by, copies_of, first_copy, is_unnumbered, merged_count, merged_number, size_of_entry}
+use Rattle.sgb_ops.specs.inner.Entries.{own_total, total_of}
 
 -- the entries up to the one at this place
 entries_more : (entries : List Entry) (i : ℕ) (e : Entry) → i < length entries → e ≡ get_or entries i e → take (i + 1) entries ≡ take i entries ++ e ∷ []
@@ -38,22 +39,10 @@ kept_more entries i e below is before now =
     subst (All IsKeptEntry) (sym (entries_more entries i e below is))
     (All-append IsKeptEntry (take i entries) (e ∷ []) before (All-cons IsKeptEntry e [] now (All-nil IsKeptEntry)))
 
--- where all entries make no more vertices than a graph can have, none is too great
-not_too_great : (e : Entry) → size_of_entry e ≤ most_vertices → merged_number e ≤ most_vertices → is_too_great e ≡ false
-not_too_great (entry.Copies k) few low = le-ltb most_vertices k few
-not_too_great (entry.Graph inner) few low = refl
-not_too_great (entry.Merged k) few low = le-ltb most_vertices k low
-
-none_too_great : (entries : List Entry) → total_of entries ≤ most_vertices → list_any is_too_great entries ≡ false
-none_too_great [] few = refl
-none_too_great (e ∷ entries) few =
-    let sum = sum_by-cons size_of_entry e entries in
-    rw (not_too_great e (omega (arith, few, sum)) (omega (arith, few, sum))) (none_too_great entries (omega (arith, few, sum)))
-
 -- such entries, one for each vertex, are accepted where each merged vertex has a number
 pub few_accepted : (n : ℕ) (entries : List Entry) → length entries ≡ n → list_any is_unnumbered entries ≡ false → total_of entries ≤ most_vertices → accepted_entries n entries ≡ Ok entries
 few_accepted n entries count numbered few =
-    rw (eq-eqb (length entries) n count, numbered, none_too_great entries few, le-ltb most_vertices (total_of entries) few) refl
+    rw (eq-eqb (length entries) n count, numbered, le-ltb most_vertices (total_of entries) few) refl
 
 -- the first copy of a vertex or of what comes after the last one, where it is looked up
 pub first_at : (entries : List Entry) (firsts : List ℕ) (v d : ℕ) → firsts ≡ first_copies entries → v ≤ length entries → get_or firsts v d ≡ first_copy entries v

@@ -16,14 +16,16 @@ use Rattle.sgb_graph.proofs.AddedEvents.{adds-none}
 use Rattle.sgb_graph.specs.declared.fields.Link.{Link}
 use Rattle.sgb_ops.specs.declared.entries.Entry.{Entry}
 use Rattle.sgb_ops.specs.declared.entries.Entry.TheVariants as entry
-use Rattle.sgb_ops.specs.Entries.{copies_of, events_within, first_copy, inner_event, inner_events, inner_events_from, is_unnumbered, merged_count, size_of_entry, total_of}
-use Rattle.sgb_ops.specs.Induced.{copies_met, event_between, events_between, events_of_arc, events_of_copies, events_of_copy, induced_events, is_met, is_wanted, wanted}
+use Rattle.sgb_ops.specs.Entries.{copies_of, events_within, first_copy, inner_events, is_unnumbered, merged_count, size_of_entry}
+use Rattle.sgb_ops.specs.Induced.{events_between, induced_events}
 use Rattle.sgb_ops.specs.Merged.{has_ends_of, merged, merged_unless}
 use Rattle.sgb_graph.specs.Vertices.{order_of, places_of}
 use Rattle.sgb_ops.specs.Taken.{taken}
 use Rattle.sgb_ops.specs.inner.Copies.{IsKeptEntry, copies_start, count_by}
 use Rattle.sgb_ops.specs.inner.Ends.{AllWithin}
 use Rattle.sgb_ops.specs.inner.Parts.{has_loop_inside, has_loops_inside}
+use Rattle.sgb_ops.specs.inner.Entries.{inner_event, inner_events_from, total_of}
+use Rattle.sgb_ops.specs.inner.Induced.{copies_met, event_between, events_of_arc, events_of_copies, events_of_copy, is_met, is_wanted, wanted}
 use Rattle.sgb_ops.proofs.CopiesInOrder.{copy_between, firsts_order}
 use Rattle.sgb_ops.proofs.CopiesWithin.{of_copy as copy_events_within}
 use Rattle.sgb_ops.proofs.Ends.{ends}

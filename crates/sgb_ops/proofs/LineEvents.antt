@@ -7,8 +7,8 @@ use Rattle.std.proofs.lemmas.List.Elements.{All-nil, All-cons, All-map, All-weak
 use Rattle.sgb_graph.specs.Graphs.{GraphData}
 use Rattle.sgb_graph.specs.Events.{Event}
 use Rattle.sgb_graph.specs.Growth.{IsKept}
-use Rattle.sgb_ops.specs.Lines.{events_to, line_of, lines_for, lines_of_graph}
-use Rattle.sgb_ops.specs.inner.Lines.{LineWithin}
+use Rattle.sgb_ops.specs.Lines.{lines_of_graph}
+use Rattle.sgb_ops.specs.inner.Lines.{LineWithin, events_to, line_of, lines_for}
 use Rattle.sgb_graph.specs.Vertices.{order_of}
 use Rattle.sgb_ops.specs.Taken.{taken}
 use Rattle.sgb_ops.specs.declared.line_graphs.Line.{Line}

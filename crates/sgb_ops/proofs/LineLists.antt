@@ -10,10 +10,10 @@ use Rattle.std.proofs.Math.Bool.{and-false, and-true}
 use Rattle.sgb_vec.proofs.Lists.{All-flat_map, eqb-turned, filter-all, filter-none, made-append}
 use Rattle.sgb_graph.specs.Graphs.{GraphData, chain_of}
 use Rattle.sgb_graph.specs.declared.fields.Link.{Link}
-use Rattle.sgb_ops.specs.Lines.{events_to, line_of, lines_of_graph, share_vertex}
+use Rattle.sgb_ops.specs.Lines.{lines_of_graph}
 use Rattle.sgb_graph.specs.Vertices.{order_of}
 use Rattle.sgb_ops.specs.Taken.{taken}
-use Rattle.sgb_ops.specs.inner.Lines.{DescendFrom, LeadsUp, events_to_numbers, no_line}
+use Rattle.sgb_ops.specs.inner.Lines.{DescendFrom, LeadsUp, events_to_numbers, no_line, events_to, line_of, share_vertex}
 use Rattle.sgb_ops.specs.inner.LineLists.{counts, list_at, numbers_at, touches, touching}
 use Rattle.sgb_ops.specs.declared.line_graphs.Line.{Line}
 use Rattle.sgb_ops.proofs.LineEvents.{lines_at, lines_below, lines_below-more, numbers_below}

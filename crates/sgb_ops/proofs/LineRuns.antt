@@ -7,8 +7,7 @@ use Rattle.std.proofs.lemmas.Bool.Decides.{nat_tests}
 use Rattle.std.proofs.lemmas.List.{length-set, get_or-set_same, get_or-set_other, get_or_default}
 use Rattle.std.proofs.lemmas.List.Sums.{length-filter, count_by-le-length}
 use Rattle.sgb_vec.proofs.Lists.{filter-none}
-use Rattle.sgb_ops.specs.Lines.{events_to}
-use Rattle.sgb_ops.specs.inner.Lines.{DescendFrom, LineWithin, events_to_numbers}
+use Rattle.sgb_ops.specs.inner.Lines.{DescendFrom, LineWithin, events_to_numbers, events_to}
 use Rattle.sgb_ops.specs.inner.LineRuns.{begin_at, begin_from}
 use Rattle.sgb_ops.specs.declared.line_graphs.Line.{Line}
 

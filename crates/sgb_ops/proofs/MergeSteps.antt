@@ -8,7 +8,8 @@ use Rattle.std.proofs.lemmas.List.Elements.{filter-append}
 use Rattle.std.proofs.lemmas.List.Sums.{fold-append}
 use Rattle.sgb_graph.specs.Events.{Event}
 use Rattle.sgb_ops.specs.inner.Ends.{ends_key, shortened, with_event}
-use Rattle.sgb_ops.specs.Merged.{has_ends_of, with_least_length, merged}
+use Rattle.sgb_ops.specs.Merged.{has_ends_of, merged}
+use Rattle.sgb_ops.specs.inner.Merged.{with_least_length}
 use Rattle.sgb_ops.proofs.Ends.{has_same_pair, key_tells, ends_joined, ends_turned}
 
 -- the event has not the ends of a

@@ -9,8 +9,9 @@ use Rattle.std.proofs.lemmas.List.Elements.{All-nil, All-cons, All-head, All-tai
 use Rattle.std.proofs.lemmas.List.Kept.{AllPairs-filter, AllPairs-cons}
 use Rattle.sgb_vec.proofs.Lists.{Contains-first, Contains-other, Contains-none, Contains-cases, Contains-image, Contains-passing}
 use Rattle.sgb_graph.specs.Events.{Event}
-use Rattle.sgb_ops.specs.Lengths.{lesser}
-use Rattle.sgb_ops.specs.Merged.{has_ends_of, with_least_length, merged, named_ends, first_ones, IsShortest}
+use Rattle.std.specs.Int.{int_min}
+use Rattle.sgb_ops.specs.Merged.{has_ends_of, merged, named_ends, first_ones, IsShortest}
+use Rattle.sgb_ops.specs.inner.Merged.{with_least_length}
 use Rattle.sgb_ops.proofs.Ends.{own_ends, ends_turned, ends_joined, ends_either_way}
 
 -- the events do not have the same ends
@@ -58,7 +59,7 @@ first_is_shortest : (directed : Bool) (e : Event) (events : List Event) → IsSh
 first_is_shortest directed e events =
     let like = filter (has_ends_of directed e) events in
     let lengths = map (λ (f : Event). f.len) like in
-    let shortest = fold lesser e.len lengths in
+    let shortest = fold int_min e.len lengths in
     let bounds : (shortest ≤ℤ e.len) × All (λ x. shortest ≤ℤ x) lengths = fold-int_min_bounds e.len lengths shortest refl in
     record {
       one = elim (fold-int_min_reached e.len lengths shortest refl) [

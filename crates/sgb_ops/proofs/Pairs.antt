@@ -5,8 +5,8 @@ use Rattle.std.proofs.Math.Nat.{add-mul}
 use Rattle.std.proofs.lemmas.List.{length-map}
 use Rattle.sgb_graph.specs.Graphs.{GraphData}
 use Rattle.sgb_graph.specs.Vertices.{order_of, names_of}
-use Rattle.sgb_ops.specs.Product.{names_of_pairs}
-use Rattle.sgb_ops.specs.Titles.{pair_name}
+use Rattle.sgb_ops.specs.inner.Pairs.{names_of_pairs}
+use Rattle.sgb_ops.specs.inner.Titles.{pair_name}
 
 -- what is made of each pair of two lists
 count_pairs : {X Y : Type 0} (f : X → X → Y) (xs ys : List X) → length (flat_map (λ x. map (f x) ys) xs) ≡ length xs * length ys

@@ -5,7 +5,8 @@ use Rattle.sgb_vec.specs.declared.panics.Panic.TheVariants.{VeryBad}
 use Rattle.sgb_graph.specs.Descriptions.{Description}
 use Rattle.sgb_graph.specs.Graphs.{GraphData}
 use Rattle.sgb_graph.specs.Vertices.{order_of}
-use Rattle.sgb_ops.specs.Product.{has_too_many_pairs, product_graph, product_graph_of, product_type}
+use Rattle.sgb_ops.specs.Product.{product_graph_of, product_type}
+use Rattle.sgb_ops.specs.inner.Pairs.{has_too_many_pairs, product_graph}
 
 -- what is accepted is not refused
 pub not_refused : {T : Type 0} (r : Result T Panic) (x : T) (e : Panic) → r ≡ Ok x → r ≡ Err e → ⊥

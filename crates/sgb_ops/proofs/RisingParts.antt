@@ -5,7 +5,7 @@ use Rattle.std.specs.List.{range_with_len}
 use Rattle.std.proofs.lemmas.List.Elements.{All-filter, filter-append}
 use Rattle.sgb_vec.proofs.Lists.{never_true}
 use Rattle.sgb_graph.specs.Events.{Event}
-use Rattle.sgb_ops.specs.Induced.{is_wanted, wanted}
+use Rattle.sgb_ops.specs.inner.Induced.{is_wanted, wanted}
 use Rattle.sgb_ops.specs.Merged.{has_ends_of, merged_unless}
 use Rattle.sgb_ops.proofs.Ends.{ends}
 use Rattle.sgb_ops.proofs.MergedParts.{AreApart, merged_parts}

@@ -9,11 +9,13 @@ use Rattle.sgb_graph.specs.declared.fields.Link.{Link}
 use Rattle.sgb_gen.proofs.AllVectors.{flat_map-same}
 use Rattle.sgb_ops.specs.declared.entries.Entry.{Entry}
 use Rattle.sgb_ops.specs.declared.entries.Entry.TheVariants as entry
-use Rattle.sgb_ops.specs.Entries.{copies_by, copies_of, first_copy, is_unnumbered, merged_count, merged_number, own_total, size_of_entry, total_of}
-use Rattle.sgb_ops.specs.Induced.{event_between, events_between, events_of_arc, events_of_copies, events_of_copy, is_met}
+use Rattle.sgb_ops.specs.Entries.{copies_by, copies_of, first_copy, is_unnumbered, merged_count, merged_number, size_of_entry}
+use Rattle.sgb_ops.specs.Induced.{events_between}
 use Rattle.sgb_graph.specs.Vertices.{places_of}
 use Rattle.sgb_ops.specs.Taken.{taken}
 use Rattle.sgb_ops.specs.inner.Copies.{sized}
+use Rattle.sgb_ops.specs.inner.Entries.{own_total, total_of}
+use Rattle.sgb_ops.specs.inner.Induced.{event_between, events_of_arc, events_of_copies, events_of_copy, is_met}
 
 -- one entry
 one_sized : (e : Entry) → (size_of_entry (sized e) ≡ size_of_entry e) × (merged_number (sized e) ≡ merged_number e) × (is_unnumbered (sized e) ≡ is_unnumbered e) × ((start : ℕ) → copies_by start (sized e) ≡ copies_by start e)

@@ -11,8 +11,8 @@ use Rattle.sgb_graph.specs.Events.{Event, Record, HasArcsOf, links_at, list_from
 use Rattle.sgb_graph.specs.Growth.{link}
 use Rattle.sgb_graph.proofs.EventLemmas.{record_from}
 use Rattle.sgb_graph.specs.declared.fields.Link.{Link}
-use Rattle.sgb_ops.specs.Taken.{is_loop_with, each_edge_once, taken, lower_record, edges_up_from}
-use Rattle.sgb_ops.specs.inner.TakenArcs.{IsStep, taken_after, without_other}
+use Rattle.sgb_ops.specs.Taken.{each_edge_once, taken, lower_record, edges_up_from}
+use Rattle.sgb_ops.specs.inner.TakenArcs.{IsStep, taken_after, without_other, is_loop_with}
 
 -- an arc of the list of v that leads to no vertex before it
 abbrev leads_up : ℕ → Link → Type 0

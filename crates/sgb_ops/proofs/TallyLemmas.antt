@@ -8,7 +8,7 @@ use Rattle.std.proofs.lemmas.List.Elements.{All-filter, filter-append, filter_pa
 use Rattle.std.proofs.lemmas.List.Sums.{fold-append, length-filter, count_by-le-length}
 use Rattle.sgb_graph.specs.declared.fields.Link.{Link}
 use Rattle.sgb_ops.specs.Intersection.{count_to}
-use Rattle.sgb_ops.specs.Lengths.{lesser}
+use Rattle.std.specs.Int.{int_min}
 use Rattle.sgb_ops.specs.inner.Tallies.{tally_of, tally_to, one_more}
 use Rattle.sgb_ops.specs.declared.tallies.Tally.{Tally}
 use Rattle.sgb_ops.proofs.EventsWithin.{TipBelow}
@@ -26,8 +26,8 @@ tally_of_more : (links : List Link) (l : Link) → tally_of (links ++ l ∷ []) 
 tally_of_more [] l = refl
 tally_of_more (x ∷ links) l =
     let many : length (x ∷ links ++ l ∷ []) ≡ length (x ∷ links) + 1 = omega (arith, length-append links (l ∷ [])) in
-    let least : fold lesser x.len (map (λ y. y.len) (links ++ l ∷ [])) ≡ lesser (fold lesser x.len (map (λ y. y.len) links)) l.len =
-    ap (fold lesser x.len) (map_push (λ y. y.len) links l) ∙ fold-append lesser x.len (map (λ y. y.len) links) (l.len ∷ []) in
+    let least : fold int_min x.len (map (λ y. y.len) (links ++ l ∷ [])) ≡ int_min (fold int_min x.len (map (λ y. y.len) links)) l.len =
+    ap (fold int_min x.len) (map_push (λ y. y.len) links l) ∙ fold-append int_min x.len (map (λ y. y.len) links) (l.len ∷ []) in
     rw (many, least) refl
 
 arcs_to_more : (u : ℕ) (links : List Link) (l : Link) (b : Bool) → (l.tip == u) ≡ b → arcs_to u (links ++ l ∷ []) ≡ arcs_to u links ++ (if b then l ∷ [] else [])

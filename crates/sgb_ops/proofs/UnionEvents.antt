@@ -10,10 +10,11 @@ use Rattle.sgb_graph.specs.Events.{Event}
 use Rattle.sgb_graph.specs.Growth.{IsKept}
 use Rattle.sgb_graph.specs.declared.fields.Link.{Link}
 use Rattle.sgb_ops.specs.inner.Ends.{AllWithin, event_of}
-use Rattle.sgb_ops.specs.Gunion.{union_arcs, union_events}
+use Rattle.sgb_ops.specs.Gunion.{union_events}
 use Rattle.sgb_graph.specs.Vertices.{order_of, places_of}
 use Rattle.sgb_ops.specs.Taken.{taken}
 use Rattle.sgb_ops.specs.Merged.{has_ends_of, merged_unless}
+use Rattle.sgb_ops.specs.inner.Gunion.{union_arcs}
 use Rattle.sgb_ops.proofs.EventsWithin.{TipBelow, taken_tips, events_of_within, merged_unless_within}
 use Rattle.sgb_ops.proofs.MergedParts.{AreApart, merged_parts}
 use Rattle.sgb_ops.proofs.Taking.{each_edge_once_leads_up}

@@ -10,7 +10,7 @@ use Rattle.sgb_graph.specs.declared.fields.Link.{Link}
 use Rattle.sgb_ops.specs.declared.entries.Entry.{Entry}
 use Rattle.sgb_ops.specs.inner.Copies.{leads_to_copies}
 use Rattle.sgb_ops.specs.Entries.{first_copy, inner_events}
-use Rattle.sgb_ops.specs.Induced.{event_between, events_of_arc, is_met, is_wanted, wanted}
+use Rattle.sgb_ops.specs.inner.Induced.{event_between, events_of_arc, is_met, is_wanted, wanted}
 use Rattle.sgb_ops.proofs.EntryTotals.{copies_between}
 use Rattle.sgb_ops.proofs.PlainLists.{part_more, places_from, places-next}
 

@@ -1,13 +1,11 @@
 -- Complete bipartite graphs [GB_BASIC, bi_complete].
-use Rattle.std.specs.Prelude.{ℕ, ℤ, pos, negsuc, ◌+◌, Bool, false, ◌||◌, List, [], ◌∷◌, ◌++◌, replicate, codes, nat_lt, if◌then◌else◌, Result, Ok, Err}
+use Rattle.std.specs.Prelude.{ℤ, pos, negsuc, ◌+◌, Bool, false, List, [], ◌∷◌, ◌++◌, replicate, codes, nat_lt, if◌then◌else◌, Result, Ok, Err}
 use Rattle.std.specs.Fmt.{signed_decimal}
 use Rattle.sgb_vec.specs.Limits.{most_vertices}
 use Rattle.sgb_vec.specs.Results.{and_then}
 use Rattle.sgb_vec.specs.declared.panics.Panic.{Panic}
 use Rattle.sgb_vec.specs.declared.panics.Panic.TheVariants.{Bad, VeryBad}
-use Rattle.sgb_graph.specs.declared.fields.Kind.{Kind}
 use Rattle.sgb_graph.specs.declared.fields.Kind.TheVariants.{Z, I}
-use Rattle.sgb_graph.specs.declared.fields.Util.{Util}
 use Rattle.sgb_graph.specs.declared.fields.Util.TheVariants.{Nothing, Int}
 use Rattle.sgb_graph.specs.Descriptions.{Description}
 use Rattle.sgb_graph.specs.IdTexts.{flag_text}
@@ -19,37 +17,23 @@ use Rattle.sgb_gen.specs.Boards.{board}
 use Rattle.sgb_graph.specs.Made.{graph_described}
 use Rattle.sgb_ops.specs.Boards.{pair_of_vertices}
 
--- the kinds of a graph whose field uu alone is used: an integer in the ninth of fourteen places
-abbrev pub uu_kinds : List Kind
-uu_kinds = replicate 8 Z ++ I ∷ replicate 5 Z
-
--- the graph's own fields, with n in uu
-abbrev pub uu_field : ℤ → List Util
-uu_field n = Int n ∷ replicate 5 Nothing
-
--- the id of a complete bipartite graph
-abbrev pub bi_complete_id : ℤ → ℤ → Bool → List ℕ
-bi_complete_id n1 n2 directed =
-    codes "bi_complete(" ++ signed_decimal n1 ++ closing (signed_decimal n2 ∷ flag_text directed ∷ [])
-
--- the entries of these numbers of copies, or why they are refused: one is negative; then one, or both
--- together, are too many vertices
+-- the entries of these numbers of copies, or why they are refused: one is negative; then they are too many vertices
 abbrev pub accepted_parts : ℤ → ℤ → Result (List Entry) Panic
 accepted_parts (negsuc n1) n2 = Err Bad
 accepted_parts (pos n1) (negsuc n2) = Err Bad
 accepted_parts (pos n1) (pos n2) =
-    if nat_lt most_vertices n1 || nat_lt most_vertices n2 || nat_lt most_vertices (n1 + n2) then Err VeryBad
+    if nat_lt most_vertices (n1 + n2) then Err VeryBad
     else Ok (entry.Copies n1 ∷ entry.Copies n2 ∷ [])
 
--- the graph with the id of a complete bipartite graph, and with n1 in the field uu
-abbrev pub with_parts : ℤ → ℤ → Bool → Description → Description
-with_parts n1 n2 directed d =
-    record d { kinds = uu_kinds; util = uu_field n1; id = bi_complete_id n1 n2 directed }
-
--- bi_complete(n1, n2, directed): the board of two vertices, with n1 copies of the one and n2 of the other
+-- bi_complete(n1, n2, directed): the board of two vertices, with n1 copies of the one and n2 of the other, and n1 in the
+-- field uu, whose kind is the ninth of fourteen
 abbrev pub bi_complete_of : ℤ → ℤ → Bool → Result Description Panic
 bi_complete_of n1 n2 directed =
     and_then (accepted_parts n1 n2) (λ entries.
     and_then (board (pair_of_vertices directed)) (λ pair.
     and_then (induced_of (graph_described pair) entries false false directed) (λ d.
-    Ok (with_parts n1 n2 directed d))))
+    Ok (record d {
+      kinds = replicate 8 Z ++ I ∷ replicate 5 Z;
+      util = Int n1 ∷ replicate 5 Nothing;
+      id = codes "bi_complete(" ++ signed_decimal n1 ++ closing (signed_decimal n2 ∷ flag_text directed ∷ []);
+    }))))

@@ -16,31 +16,15 @@ use Rattle.sgb_ops.specs.Titles.{closing}
 abbrev pub has_arc : GraphData → ℕ → ℕ → Bool
 has_arc g u w = list_any (λ l. l.tip == w) (chain_of g u)
 
--- the result has an arc from u to w, where the operand has one or not: where it has one, if a copy is wanted, and
--- else where it has none; a loop only where loops are wanted; an edge only from its smaller end
-abbrev pub is_wanted_where : Bool → Bool → Bool → Bool → ℕ → ℕ → Bool
-is_wanted_where arc copy self directed u w =
-    beq arc copy && (self || not (w == u)) && (directed || nat_le u w)
-
--- the result has an arc from u to w
-abbrev pub is_wanted_arc : GraphData → Bool → Bool → Bool → ℕ → ℕ → Bool
-is_wanted_arc g copy self directed u w = is_wanted_where (has_arc g u w) copy self directed u w
-
--- the wanted arcs from u in order, each of length 1
-abbrev pub complement_events_from : GraphData → Bool → Bool → Bool → ℕ → List Event
-complement_events_from g copy self directed u =
-    map (λ w. record { from = u; to = w; len = pos 1 }) (filter (is_wanted_arc g copy self directed u) (places_of g))
-
--- the wanted pairs in lexicographic order
+-- for each u in order, and for each w in order, an arc of length 1 from u to w, where the operand has one if a copy is
+-- wanted, and else where it has none; a loop only where loops are wanted; an edge only from its smaller end
 abbrev pub complement_events : GraphData → Bool → Bool → Bool → List Event
-complement_events g copy self directed = flat_map (complement_events_from g copy self directed) (places_of g)
-
--- the id of a complement
-abbrev pub complement_id : List ℕ → Bool → Bool → Bool → List ℕ
-complement_id id copy self directed =
-    compound_id (codes "complement(") id (closing (flag_text copy ∷ flag_text self ∷ flag_text directed ∷ []))
+complement_events g copy self directed = flat_map (λ u.
+    map (λ w. record { from = u; to = w; len = pos 1 })
+    (filter (λ w. beq (has_arc g u w) copy && (self || not (w == u)) && (directed || nat_le u w)) (places_of g))) (places_of g)
 
 -- complement(g, copy, self, directed): it is never refused
 abbrev pub complement_of : GraphData → Bool → Bool → Bool → Result Description Panic
 complement_of g copy self directed =
-    Ok (plain directed (complement_events g copy self directed) (names_of g) (complement_id g.id copy self directed))
+    Ok (plain directed (complement_events g copy self directed) (names_of g)
+    (compound_id (codes "complement(") g.id (closing (flag_text copy ∷ flag_text self ∷ flag_text directed ∷ []))))

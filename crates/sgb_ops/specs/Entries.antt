@@ -1,19 +1,17 @@
 -- What is put in the place of each vertex of a graph [GB_BASIC, induced]. All that depends on the forms that
 -- an entry can have stands in this file.
-use Rattle.std.specs.Prelude.{ℕ, zero, suc, ◌+◌, ◌-◌, ◌==◌, max, Bool, false, not, ◌||◌, List, [], ◌∷◌, ◌++◌, codes, decimal, map, flat_map, zip, sum_by, length, take, slice_get, nat_lt, if◌then◌else◌, Result, Ok, Err}
+use Rattle.std.specs.Prelude.{ℕ, zero, suc, ◌+◌, ◌-◌, ◌==◌, max, Bool, false, not, List, [], ◌∷◌, ◌++◌, codes, decimal, map, flat_map, zip, sum_by, length, take, slice_get, nat_lt, if◌then◌else◌, Result, Ok, Err}
 use Rattle.std.specs.List.{range_with_len, list_any, enumerate_from}
 use Rattle.std.specs.Option.{option_map_or}
 use Rattle.sgb_vec.specs.Limits.{most_vertices}
 use Rattle.sgb_vec.specs.declared.panics.Panic.{Panic}
 use Rattle.sgb_vec.specs.declared.panics.Panic.TheVariants.{Bad, VeryBad}
-use Rattle.sgb_graph.specs.Graphs.{GraphData}
 use Rattle.sgb_graph.specs.Events.{Event}
-use Rattle.sgb_graph.specs.declared.fields.Link.{Link}
 use Rattle.sgb_ops.specs.declared.entries.Entry.{Entry}
 use Rattle.sgb_ops.specs.declared.entries.Entry.TheVariants as entry
 use Rattle.sgb_graph.specs.Vertices.{order_of, places_of, names_of}
 use Rattle.sgb_ops.specs.Taken.{taken}
-use Rattle.sgb_ops.specs.Titles.{primed_name, numbered_name, substituted_name}
+use Rattle.sgb_ops.specs.Titles.{joined_name}
 
 -- how many vertices stand in the place of a vertex with this entry alone
 abbrev pub size_of_entry : Entry → ℕ
@@ -32,38 +30,24 @@ abbrev pub merged_count : List Entry → ℕ
 merged_count [] = 0
 merged_count (e ∷ entries) = max (merged_number e) (merged_count entries)
 
--- how many vertices stand in the place of one vertex alone
-abbrev pub own_total : List Entry → ℕ
-own_total entries = sum_by size_of_entry entries
-
--- how many vertices the result has in all
-abbrev pub total_of : List Entry → ℕ
-total_of entries = merged_count entries + own_total entries
-
 -- the entry merges its vertex with others, but into no vertex with a number
 abbrev pub is_unnumbered : Entry → Bool
 is_unnumbered (entry.Copies k) = false
 is_unnumbered (entry.Graph inner) = false
 is_unnumbered (entry.Merged k) = k == 0
 
--- the entry has a number above the number of vertices that a graph can have
-abbrev pub is_too_great : Entry → Bool
-is_too_great (entry.Copies k) = nat_lt most_vertices k
-is_too_great (entry.Graph inner) = false
-is_too_great (entry.Merged k) = nat_lt most_vertices k
-
 -- the entries for a graph with n vertices, or why they are refused: not one for each vertex; then a merged vertex 0;
--- then a number that is too great, or too many vertices in all
+-- then too many vertices in all, those that are merged and those that stand for one vertex alone
 abbrev pub accepted_entries : ℕ → List Entry → Result (List Entry) Panic
 accepted_entries n entries =
     if not (length entries == n) then Err Bad
     else (if list_any is_unnumbered entries then Err Bad
-    else (if list_any is_too_great entries || nat_lt most_vertices (total_of entries) then Err VeryBad else Ok entries))
+    else (if nat_lt most_vertices (merged_count entries + sum_by size_of_entry entries) then Err VeryBad else Ok entries))
 
 -- the first of the vertices that stand in the place of vertex v alone: the merged vertices come first, and then those of
 -- the vertices before v
 abbrev pub first_copy : List Entry → ℕ → ℕ
-first_copy entries v = merged_count entries + own_total (take v entries)
+first_copy entries v = merged_count entries + sum_by size_of_entry (take v entries)
 
 -- the vertices that stand in the place of a vertex with this entry, whose own ones begin here: merged vertex k is
 -- vertex k - 1
@@ -76,40 +60,29 @@ copies_by start (entry.Merged k) = (k - 1) ∷ []
 abbrev pub copies_of : List Entry → ℕ → List ℕ
 copies_of entries v = option_map_or (copies_by (first_copy entries v)) (slice_get entries v) []
 
--- the name of merged vertex k: -k
-abbrev pub merged_name : ℕ → List ℕ
-merged_name k = codes "-" ++ decimal k
-
 -- the names of the vertices that stand in the place of the vertex of this name alone: none; the name; the name and
--- the name with `'`; the name with `:0` to `:k-1`; the name with `:` and each name of the graph
+-- the name with `'`; the name with `:0` to `:k-1`; the name with `:` and each name of the graph. The name is cut where it
+-- would not fit
 abbrev pub names_of_copies : List ℕ → Entry → List (List ℕ)
 names_of_copies text (entry.Copies zero) = []
 names_of_copies text (entry.Copies (suc zero)) = text ∷ []
-names_of_copies text (entry.Copies (suc (suc zero))) = text ∷ primed_name text ∷ []
-names_of_copies text (entry.Copies (suc (suc (suc k)))) = map (numbered_name text) (range_with_len 0 (suc (suc (suc k))))
-names_of_copies text (entry.Graph inner) = map (substituted_name text) (names_of inner)
+names_of_copies text (entry.Copies (suc (suc zero))) = text ∷ (take 4_094 text ++ codes "'") ∷ []
+names_of_copies text (entry.Copies (suc (suc (suc k)))) =
+    map (λ i. take 4_084 text ++ codes ":" ++ decimal i) (range_with_len 0 (suc (suc (suc k))))
+names_of_copies text (entry.Graph inner) = map (λ b. joined_name text (codes ":") b) (names_of inner)
 names_of_copies text (entry.Merged k) = []
 
--- the names of the vertices that are not merged
-abbrev pub own_names : List (List ℕ) → List Entry → List (List ℕ)
-own_names names entries = flat_map (λ p. names_of_copies p.0 p.1) (zip names entries)
-
--- the names of all vertices of the result: the merged ones first
+-- the names of all vertices of the result: first those of the merged ones, -1, -2 and so on; then those of the others
 abbrev pub names_by_entries : List (List ℕ) → List Entry → List (List ℕ)
-names_by_entries names entries = map merged_name (range_with_len 1 (merged_count entries)) ++ own_names names entries
+names_by_entries names entries =
+    map (λ k. codes "-" ++ decimal k) (range_with_len 1 (merged_count entries))
+    ++ flat_map (λ p. names_of_copies p.0 p.1) (zip names entries)
 
--- an arc b of vertex w of a graph whose first vertex is the one given
-abbrev pub inner_event : ℕ → ℕ → Link → Event
-inner_event start w b = record { from = start + w; to = start + b.tip; len = b.len }
-
--- the events of the arcs taken of its vertex w
-abbrev pub inner_events_from : Bool → ℕ → GraphData → ℕ → List Event
-inner_events_from directed start inner w = map (inner_event start w) (taken directed inner w)
-
--- the events inside an entry whose first vertex is the one given
+-- the events inside an entry whose first vertex is the one given: of a graph, for each vertex w each arc b taken of w
 abbrev pub inner_events : Bool → ℕ → Entry → List Event
 inner_events directed start (entry.Copies k) = []
-inner_events directed start (entry.Graph inner) = flat_map (inner_events_from directed start inner) (places_of inner)
+inner_events directed start (entry.Graph inner) =
+    flat_map (λ w. map (λ b. record { from = start + w; to = start + b.tip; len = b.len }) (taken directed inner w)) (places_of inner)
 inner_events directed start (entry.Merged k) = []
 
 -- the events inside the graphs that stand in the places of vertices

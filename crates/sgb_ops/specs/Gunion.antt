@@ -1,10 +1,9 @@
 -- The union of two graphs on the vertices of the first; vertices correspond by their places [GB_BASIC, gunion].
-use Rattle.std.specs.Prelude.{ℕ, Bool, List, [], ◌∷◌, ◌++◌, map, filter, flat_map, codes, nat_lt, if◌then◌else◌, Result, Ok}
+use Rattle.std.specs.Prelude.{Bool, List, [], ◌∷◌, ◌++◌, map, filter, flat_map, codes, nat_lt, if◌then◌else◌, Result, Ok}
 use Rattle.sgb_vec.specs.declared.panics.Panic.{Panic}
 use Rattle.sgb_graph.specs.Graphs.{GraphData}
 use Rattle.sgb_graph.specs.Events.{Event}
 use Rattle.sgb_graph.specs.Ids.{double_compound_id}
-use Rattle.sgb_graph.specs.declared.fields.Link.{Link}
 use Rattle.sgb_graph.specs.Descriptions.{Description}
 use Rattle.sgb_graph.specs.Made.{plain}
 use Rattle.sgb_graph.specs.Vertices.{order_of, places_of, names_of}
@@ -13,22 +12,15 @@ use Rattle.sgb_ops.specs.Merged.{merged_unless}
 use Rattle.sgb_graph.specs.IdTexts.{flag_text}
 use Rattle.sgb_ops.specs.Titles.{closing}
 
--- the arcs taken of v in g, then those taken of v in h, if it has that vertex, whose tip is a vertex of g
-abbrev pub union_arcs : GraphData → GraphData → Bool → ℕ → List Link
-union_arcs g h directed v =
-    taken directed g v ++ (if nat_lt v (order_of h) then filter (λ l. nat_lt l.tip (order_of g)) (taken directed h v) else [])
-
--- the events of all vertices, with parallel ones
+-- the events of all vertices, with parallel ones: for each v the arcs taken of it in g, and then those taken of it in h,
+-- if h has that vertex, whose tip is a vertex of g
 abbrev pub union_events : GraphData → GraphData → Bool → List Event
-union_events g h directed =
-    flat_map (λ v. map (λ l. record { from = v; to = l.tip; len = l.len }) (union_arcs g h directed v)) (places_of g)
-
--- the id of a union
-abbrev pub gunion_id : List ℕ → List ℕ → Bool → Bool → List ℕ
-gunion_id id1 id2 multi directed =
-    double_compound_id (codes "gunion(") id1 (codes ",") id2 (closing (flag_text multi ∷ flag_text directed ∷ []))
+union_events g h directed = flat_map (λ v.
+    map (λ l. record { from = v; to = l.tip; len = l.len })
+    (taken directed g v ++ (if nat_lt v (order_of h) then filter (λ l. nat_lt l.tip (order_of g)) (taken directed h v) else []))) (places_of g)
 
 -- gunion(g, h, multi, directed): it is never refused
 abbrev pub gunion_of : GraphData → GraphData → Bool → Bool → Result Description Panic
 gunion_of g h multi directed =
-    Ok (plain directed (merged_unless multi directed (union_events g h directed)) (names_of g) (gunion_id g.id h.id multi directed))
+    Ok (plain directed (merged_unless multi directed (union_events g h directed)) (names_of g)
+    (double_compound_id (codes "gunion(") g.id (codes ",") h.id (closing (flag_text multi ∷ flag_text directed ∷ []))))

@@ -1,10 +1,9 @@
 -- Induced graphs: vertices dropped, kept, repeated, merged, or with a graph put in their place [GB_BASIC, induced].
-use Rattle.std.specs.Prelude.{ℕ, ℤ, ◌==◌, Bool, not, ◌||◌, List, [], ◌∷◌, ◌++◌, map, filter, flat_map, codes, nat_le, Result, Ok}
+use Rattle.std.specs.Prelude.{◌==◌, Bool, not, ◌||◌, List, [], ◌∷◌, ◌++◌, map, filter, flat_map, codes, nat_le, Result, Ok}
 use Rattle.sgb_vec.specs.Results.{and_then}
 use Rattle.sgb_vec.specs.declared.panics.Panic.{Panic}
 use Rattle.sgb_graph.specs.Graphs.{GraphData}
 use Rattle.sgb_graph.specs.Events.{Event}
-use Rattle.sgb_graph.specs.declared.fields.Link.{Link}
 use Rattle.sgb_graph.specs.Ids.{compound_id}
 use Rattle.sgb_graph.specs.Descriptions.{Description}
 use Rattle.sgb_graph.specs.Made.{plain}
@@ -16,61 +15,23 @@ use Rattle.sgb_ops.specs.Titles.{closing}
 use Rattle.sgb_ops.specs.declared.entries.Entry.{Entry}
 use Rattle.sgb_ops.specs.Entries.{accepted_entries, copies_of, names_by_entries, events_within}
 
--- copy u of v is joined to copy t of the tip of an arc from v: always; but for a loop of an undirected graph only
--- where t is not before u
-abbrev pub is_met : Bool → ℕ → ℕ → ℕ → ℕ → Bool
-is_met directed v u tip t = directed || not (tip == v) || nat_le u t
-
--- the copies of the tip that copy u of v is joined to
-abbrev pub copies_met : List Entry → Bool → ℕ → ℕ → ℕ → List ℕ
-copies_met entries directed v u tip = filter (is_met directed v u tip) (copies_of entries tip)
-
--- the event from copy u to copy t for an arc of this length
-abbrev pub event_between : ℕ → ℤ → ℕ → Event
-event_between u far t = record { from = u; to = t; len = far }
-
--- the events from copy u of v for an arc from v
-abbrev pub events_of_arc : List Entry → Bool → ℕ → ℕ → Link → List Event
-events_of_arc entries directed v u a = map (event_between u a.len) (copies_met entries directed v u a.tip)
-
--- those for all arcs taken of v
-abbrev pub events_of_copy : GraphData → List Entry → Bool → ℕ → ℕ → List Event
-events_of_copy g entries directed v u = flat_map (events_of_arc entries directed v u) (taken directed g v)
-
--- those from all copies of v
-abbrev pub events_of_copies : GraphData → List Entry → Bool → ℕ → List Event
-events_of_copies g entries directed v = flat_map (events_of_copy g entries directed v) (copies_of entries v)
-
--- the events between copies: for each v, each copy u of v, each arc taken of v, each copy of its tip
+-- the events between copies: for each v, each copy u of v and each arc a taken of v, from u to each copy t of a's tip, with
+-- the length of a; but for a loop of an undirected graph only where t is not before u
 abbrev pub events_between : GraphData → List Entry → Bool → List Event
-events_between g entries directed = flat_map (events_of_copies g entries directed) (places_of g)
+events_between g entries directed = flat_map (λ v. flat_map (λ u. flat_map (λ a.
+    map (λ t. record { from = u; to = t; len = a.len })
+    (filter (λ t. directed || not (a.tip == v) || nat_le u t) (copies_of entries a.tip)))
+    (taken directed g v)) (copies_of entries v)) (places_of g)
 
--- loops are dropped unless they are wanted
-abbrev pub is_wanted : Bool → Event → Bool
-is_wanted self e = self || not (e.from == e.to)
-
-abbrev pub wanted : Bool → List Event → List Event
-wanted self events = filter (is_wanted self) events
-
--- the events inside the entries and then those between copies
-abbrev pub all_events : GraphData → List Entry → Bool → List Event
-all_events g entries directed = events_within entries directed ++ events_between g entries directed
-
--- those that are wanted, with parallel ones merged where they are not
+-- the events inside the entries and then those between copies, without loops unless they are wanted, with parallel
+-- ones merged where they are not
 abbrev pub induced_events : GraphData → List Entry → Bool → Bool → Bool → List Event
-induced_events g entries self multi directed = merged_unless multi directed (wanted self (all_events g entries directed))
+induced_events g entries self multi directed =
+    merged_unless multi directed
+    (filter (λ e. self || not (e.from == e.to)) (events_within entries directed ++ events_between g entries directed))
 
--- the id of an induced graph; the description in it is empty
-abbrev pub induced_id : List ℕ → Bool → Bool → Bool → List ℕ
-induced_id id self multi directed =
-    compound_id (codes "induced(") id (closing ([] ∷ flag_text self ∷ flag_text multi ∷ flag_text directed ∷ []))
-
--- the graph of entries that are not refused
-abbrev pub induced_graph : GraphData → List Entry → Bool → Bool → Bool → Description
-induced_graph g entries self multi directed =
-    plain directed (induced_events g entries self multi directed) (names_by_entries (names_of g) entries) (induced_id g.id self multi directed)
-
--- induced(g, entries, self, multi, directed)
+-- induced(g, entries, self, multi, directed): the description in the id is empty
 abbrev pub induced_of : GraphData → List Entry → Bool → Bool → Bool → Result Description Panic
-induced_of g entries self multi directed =
-    and_then (accepted_entries (order_of g) entries) (λ list. Ok (induced_graph g list self multi directed))
+induced_of g entries self multi directed = and_then (accepted_entries (order_of g) entries) (λ list.
+    Ok (plain directed (induced_events g list self multi directed) (names_by_entries (names_of g) list)
+    (compound_id (codes "induced(") g.id (closing ([] ∷ flag_text self ∷ flag_text multi ∷ flag_text directed ∷ [])))))

@@ -9,7 +9,8 @@ use Rattle.sgb_graph.specs.Ids.{double_compound_id}
 use Rattle.sgb_graph.specs.declared.fields.Link.{Link}
 use Rattle.sgb_graph.specs.Descriptions.{Description}
 use Rattle.sgb_graph.specs.Made.{plain}
-use Rattle.sgb_ops.specs.Lengths.{greater, least_of}
+use Rattle.std.specs.Int.{int_max}
+use Rattle.sgb_ops.specs.Lengths.{least_of}
 use Rattle.sgb_graph.specs.Vertices.{order_of, names_of}
 use Rattle.sgb_ops.specs.Taken.{taken}
 use Rattle.sgb_graph.specs.IdTexts.{flag_text}
@@ -32,32 +33,23 @@ common_count false u gs hs = min 1 (min (count_to u gs) (count_to u hs))
 -- the length of the common arc that l of hs stands for: the greater of the least length in gs and its own;
 -- of all arcs to its tip together, the greater of the least ones
 abbrev pub common_length : Bool → List Link → List Link → Link → ℤ
-common_length true gs hs l = greater (least_to l.tip gs) l.len
-common_length false gs hs l = greater (least_to l.tip gs) (least_to l.tip hs)
+common_length true gs hs l = int_max (least_to l.tip gs) l.len
+common_length false gs hs l = int_max (least_to l.tip gs) (least_to l.tip hs)
 
--- the event from v for l, before which the arcs `before` of hs stand; none where these have enough to its tip
-abbrev pub common_event : Bool → ℕ → List Link → List Link → List Link → Link → List Event
-common_event multi v gs hs before l =
-    if nat_lt (count_to l.tip before) (common_count multi l.tip gs hs)
-    then record { from = v; to = l.tip; len = common_length multi gs hs l } ∷ []
-    else []
-
--- the events from v, in the order of hs
+-- the events from v: in the order of hs, one for each arc before which hs has not yet enough to its tip
 abbrev pub common_events : Bool → ℕ → List Link → List Link → List Event
-common_events multi v gs hs =
-    flat_map (λ p. common_event multi v gs hs (take p.0 hs) p.1) (enumerate_from 0 hs)
+common_events multi v gs hs = flat_map (λ p.
+    if nat_lt (count_to p.1.tip (take p.0 hs)) (common_count multi p.1.tip gs hs)
+    then record { from = v; to = p.1.tip; len = common_length multi gs hs p.1 } ∷ []
+    else []) (enumerate_from 0 hs)
 
 -- the events of all vertices that both graphs have
 abbrev pub intersection_events : GraphData → GraphData → Bool → Bool → List Event
 intersection_events g h multi directed =
     flat_map (λ v. common_events multi v (taken directed g v) (taken directed h v)) (range_with_len 0 (min (order_of g) (order_of h)))
 
--- the id of an intersection
-abbrev pub intersection_id : List ℕ → List ℕ → Bool → Bool → List ℕ
-intersection_id id1 id2 multi directed =
-    double_compound_id (codes "intersection(") id1 (codes ",") id2 (closing (flag_text multi ∷ flag_text directed ∷ []))
-
 -- intersection(g, h, multi, directed): it is never refused
 abbrev pub intersection_of : GraphData → GraphData → Bool → Bool → Result Description Panic
 intersection_of g h multi directed =
-    Ok (plain directed (intersection_events g h multi directed) (names_of g) (intersection_id g.id h.id multi directed))
+    Ok (plain directed (intersection_events g h multi directed) (names_of g)
+    (double_compound_id (codes "intersection(") g.id (codes ",") h.id (closing (flag_text multi ∷ flag_text directed ∷ []))))

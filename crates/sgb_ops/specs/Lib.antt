@@ -1,11 +1,11 @@
 -- What the contracts of sgb_ops speak of.
--- the lesser, the greater and the least length
+-- the least of some lengths
 pub mod Lengths
 -- the arcs taken of a vertex, each edge once
 pub mod Taken
 -- parallel arcs and edges made one
 pub mod Merged
--- pieces of ids, and names made of names
+-- the end of ids, and names made of two names
 pub mod Titles
 -- complement
 pub mod Complement
@@ -23,7 +23,7 @@ pub mod Entries
 pub mod Copies
 -- induced
 pub mod Induced
--- the boards that operations start from
+-- the board that bi_complete and wheel start from
 pub mod Boards
 -- complete bipartite graphs
 pub mod BiComplete

@@ -1,5 +1,5 @@
 -- The line graph: a vertex for each arc or edge [GB_BASIC, lines].
-use Rattle.std.specs.Prelude.{◌≡◌, ◌≢◌, ℕ, pos, ◌+◌, ◌/◌, ◌==◌, Bool, true, false, not, ◌&&◌, ◌||◌, List, [], ◌∷◌, map, reverse, filter, flat_map, take, length, slice_get, codes, nat_lt, if◌then◌else◌, Result, Ok, Err}
+use Rattle.std.specs.Prelude.{◌≡◌, ◌≢◌, pos, ◌+◌, ◌/◌, ◌==◌, Bool, true, false, not, ◌&&◌, ◌||◌, List, [], ◌∷◌, map, reverse, filter, flat_map, take, length, slice_get, codes, nat_lt, if◌then◌else◌, Result, Ok, Err}
 use Rattle.std.specs.List.{list_all, enumerate_from}
 use Rattle.std.specs.Option.{option_map_or}
 use Rattle.sgb_vec.specs.Limits.{most_vertices}
@@ -9,8 +9,6 @@ use Rattle.sgb_vec.specs.declared.panics.Panic.TheVariants.{VeryBad, Invalid}
 use Rattle.sgb_graph.specs.Graphs.{GraphData}
 use Rattle.sgb_graph.specs.Events.{Event, HasArcsOf}
 use Rattle.sgb_graph.specs.Ids.{compound_id}
-use Rattle.sgb_graph.specs.declared.fields.Link.{Link}
-use Rattle.sgb_graph.specs.declared.fields.Ref.{Ref}
 use Rattle.sgb_graph.specs.declared.fields.Ref.TheVariants.{Null, One, At}
 use Rattle.sgb_graph.specs.Descriptions.{Description}
 use Rattle.sgb_graph.specs.Made.{plain}
@@ -20,23 +18,15 @@ use Rattle.sgb_ops.specs.Taken.{taken}
 use Rattle.sgb_graph.specs.IdTexts.{flag_text}
 use Rattle.sgb_ops.specs.Titles.{closing, line_name}
 
--- the line of an arc that is taken of v
-abbrev pub line_of : ℕ → Link → Line
-line_of v l = record { from = v; to = l.tip; number = l.number }
-
 -- the lines: the arcs taken of each vertex, from the last vertex down to the first
 abbrev pub lines_of_graph : GraphData → Bool → List Line
-lines_of_graph g directed = flat_map (λ v. map (line_of v) (taken directed g v)) (reverse (places_of g))
+lines_of_graph g directed =
+    flat_map (λ v. map (λ l. record { from = v; to = l.tip; number = l.number }) (taken directed g v)) (reverse (places_of g))
 
--- the tip is vertex v
-abbrev pub points_to : Ref → ℕ → Bool
-points_to Null v = false
-points_to One v = false
-points_to (At w) v = w == v
-
--- the record with the next number is there, and leads back to where the line begins
+-- the record with the next number is there, and its tip is the vertex where the line begins
 abbrev pub has_way_back : GraphData → Line → Bool
-has_way_back g line = option_map_or (λ r. points_to r.tip line.from) (slice_get g.records (line.number + 1)) false
+has_way_back g line =
+    option_map_or (λ r. elim r.tip [ Null ↦ false | One ↦ false | At w ↦ w == line.from ]) (slice_get g.records (line.number + 1)) false
 
 -- every line is an edge with its two records, and the lines number half of the graph's arcs, rounded down
 abbrev pub is_of_edges : GraphData → List Line → Bool
@@ -49,41 +39,23 @@ accepted_lines g directed lines =
     if not directed && not (is_of_edges g lines) then Err Invalid
     else (if nat_lt most_vertices (length lines) then Err VeryBad else Ok lines)
 
--- the two edges share a vertex
-abbrev pub share_vertex : Line → Line → Bool
-share_vertex a b = (a.from == b.from) || (a.from == b.to) || (a.to == b.from) || (a.to == b.to)
-
 -- directed, the other line begins where this one ends; undirected, they share a vertex
 abbrev pub meets : Bool → Line → Line → Bool
-meets true line other = other.from == line.to
-meets false line other = share_vertex line other
+meets true a b = b.from == a.to
+meets false a b = (a.from == b.from) || (a.from == b.to) || (a.to == b.from) || (a.to == b.to)
 
--- among which lines those are that line number i is joined to: all, or undirected the earlier ones
-abbrev pub lines_for : Bool → List Line → ℕ → List Line
-lines_for true lines i = lines
-lines_for false lines i = take i lines
-
--- from line number i to each of the others, which have the numbers from 0 on, that it meets, with length 1
-abbrev pub events_to : Bool → ℕ → Line → List Line → List Event
-events_to directed i line others =
-    map (λ q. record { from = i; to = q.0; len = pos 1 }) (filter (λ q. meets directed line q.1) (enumerate_from 0 others))
-
--- from each line in order to each line that it is joined to in order
+-- with length 1, from each line in order to each in order that it meets: of all lines, or undirected of the earlier ones
 abbrev pub line_events : Bool → List Line → List Event
-line_events directed lines = flat_map (λ p. events_to directed p.0 p.1 (lines_for directed lines p.0)) (enumerate_from 0 lines)
-
--- the names of the lines
-abbrev pub names_of_lines : GraphData → Bool → List Line → List (List ℕ)
-names_of_lines g directed lines = map (λ line. line_name directed (name_at g line.from) (name_at g line.to)) lines
-
--- the id of a line graph
-abbrev pub lines_id : List ℕ → Bool → List ℕ
-lines_id id directed = compound_id (codes "lines(") id (closing (flag_text directed ∷ []))
+line_events directed lines = flat_map (λ p.
+    map (λ q. record { from = p.0; to = q.0; len = pos 1 })
+    (filter (λ q. meets directed p.1 q.1) (enumerate_from 0 (if directed then lines else take p.0 lines)))) (enumerate_from 0 lines)
 
 -- lines(g, directed)
 abbrev pub line_graph_of : GraphData → Bool → Result Description Panic
 line_graph_of g directed = and_then (accepted_lines g directed (lines_of_graph g directed)) (λ lines.
-    Ok (plain directed (line_events directed lines) (names_of_lines g directed lines) (lines_id g.id directed)))
+    Ok (plain directed (line_events directed lines)
+    (map (λ line. line_name directed (name_at g line.from) (name_at g line.to)) lines)
+    (compound_id (codes "lines(") g.id (closing (flag_text directed ∷ [])))))
 
 -- the lines of a graph of edges, and so its line graph, are not refused for its edges: each line has its way back, and
 -- they are as many as the edges

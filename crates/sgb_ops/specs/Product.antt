@@ -5,17 +5,14 @@ use Rattle.sgb_vec.specs.declared.panics.Panic.{Panic}
 use Rattle.sgb_vec.specs.declared.panics.Panic.TheVariants.{VeryBad}
 use Rattle.sgb_graph.specs.Graphs.{GraphData, chain_of}
 use Rattle.sgb_graph.specs.Events.{Event}
-use Rattle.sgb_graph.specs.declared.fields.Link.{Link}
 use Rattle.sgb_graph.specs.Ids.{double_compound_id}
 use Rattle.sgb_graph.specs.Descriptions.{Description}
 use Rattle.sgb_graph.specs.Made.{plain}
-use Rattle.sgb_ops.specs.Lengths.{lesser}
+use Rattle.std.specs.Int.{int_min}
 use Rattle.sgb_graph.specs.Vertices.{order_of, places_of, names_of}
 use Rattle.sgb_ops.specs.Taken.{taken}
 use Rattle.sgb_graph.specs.IdTexts.{flag_text}
-use Rattle.sgb_ops.specs.Titles.{closing, pair_name}
-use Rattle.sgb_ops.specs.declared.products.Axis.{Axis}
-use Rattle.sgb_ops.specs.declared.products.Axis.TheVariants.{First, Second}
+use Rattle.sgb_ops.specs.Titles.{closing, joined_name}
 use Rattle.sgb_ops.specs.declared.products.ProductType.{ProductType}
 use Rattle.sgb_ops.specs.declared.products.ProductType.TheVariants.{Cartesian, Direct, Strong}
 
@@ -30,48 +27,22 @@ type_number Cartesian = 0
 type_number Direct = 1
 type_number Strong = 2
 
--- the place of the pair (x, y), where y is below h: the pairs are in lexicographic order
-abbrev pub pair_place : ℕ → ℕ → ℕ → ℕ
-pair_place h x y = x * h + y
+-- a step of this length from pair p to pair q: the pairs of a vertex and a vertex of h stand in lexicographic order
+abbrev pub step : GraphData → ℕ × ℕ → ℕ × ℕ → ℤ → Event
+step h p q far = record { from = p.0 * order_of h + p.1; to = q.0 * order_of h + q.1; len = far }
 
--- the place of the pair of v, a vertex of the graph along an axis, and w, one of the graph beside it
-abbrev pub place_along : Axis → GraphData → GraphData → ℕ → ℕ → ℕ
-place_along First along beside v w = pair_place (order_of beside) v w
-place_along Second along beside v w = pair_place (order_of along) w v
-
--- a step along an axis: an arc a from v, beside w
-abbrev pub step_along : Axis → GraphData → GraphData → ℕ → Link → ℕ → Event
-step_along axis along beside v a w =
-    record { from = place_along axis along beside v w; to = place_along axis along beside a.tip w; len = a.len }
-
--- both at once, with the lesser length
-abbrev pub both_step : ℕ → ℕ → ℕ → Link → Link → Event
-both_step h x y a b = record { from = pair_place h x y; to = pair_place h a.tip b.tip; len = lesser a.len b.len }
-
--- the steps along an axis from all pairs of v: for each arc taken of v, each w beside
-abbrev pub steps_from : Axis → GraphData → GraphData → Bool → ℕ → List Event
-steps_from axis along beside directed v =
-    flat_map (λ a. map (step_along axis along beside v a) (places_of beside)) (taken directed along v)
-
--- all steps along an axis, for each v
-abbrev pub steps_along : Axis → GraphData → GraphData → Bool → List Event
-steps_along axis along beside directed = flat_map (steps_from axis along beside directed) (places_of along)
-
--- the steps in both from (x, y): for each arc taken of x, each arc of y's whole list
-abbrev pub both_steps_at : GraphData → GraphData → Bool → ℕ → ℕ → List Event
-both_steps_at g h directed x y = flat_map (λ a. map (both_step (order_of h) x y a) (chain_of h y)) (taken directed g x)
-
--- those from all pairs of x, in the order of y
-abbrev pub both_steps_of_row : GraphData → GraphData → Bool → ℕ → List Event
-both_steps_of_row g h directed x = flat_map (both_steps_at g h directed x) (places_of h)
-
--- the steps in the second coordinate, and then those in the first
+-- the steps in the second coordinate, for each y, each arc taken of it and each x; and then those in the first, for each
+-- x, each arc taken of it and each y
 abbrev pub single_steps : GraphData → GraphData → Bool → List Event
-single_steps g h directed = steps_along Second h g directed ++ steps_along First g h directed
+single_steps g h directed =
+    flat_map (λ y. flat_map (λ b. map (λ x. step h (x, y) (x, b.tip) b.len) (places_of g)) (taken directed h y)) (places_of h)
+    ++ flat_map (λ x. flat_map (λ a. map (λ y. step h (x, y) (a.tip, y) a.len) (places_of h)) (taken directed g x)) (places_of g)
 
--- those that step in both, for each pair
+-- the steps in both, with the lesser length: for each x, each y, each arc taken of x, and each of y's whole list
 abbrev pub both_steps : GraphData → GraphData → Bool → List Event
-both_steps g h directed = flat_map (both_steps_of_row g h directed) (places_of g)
+both_steps g h directed = flat_map (λ x. flat_map (λ y. flat_map (λ a.
+    map (λ b. step h (x, y) (a.tip, b.tip) (int_min a.len b.len)) (chain_of h y))
+    (taken directed g x)) (places_of h)) (places_of g)
 
 -- the cartesian product steps in one coordinate, the direct one in both; the strong one has the events of
 -- the cartesian one and then those of the direct one
@@ -80,25 +51,11 @@ product_events Cartesian g h directed = single_steps g h directed
 product_events Direct g h directed = both_steps g h directed
 product_events Strong g h directed = single_steps g h directed ++ both_steps g h directed
 
--- the names of the pairs
-abbrev pub names_of_pairs : GraphData → GraphData → List (List ℕ)
-names_of_pairs g h = flat_map (λ a. map (λ b. pair_name a b) (names_of h)) (names_of g)
-
--- the vertices of graphs with n and h of them make more pairs than a graph can have vertices
-abbrev pub has_too_many_pairs : ℕ → ℕ → Bool
-has_too_many_pairs n h = nat_lt most_vertices (n * h)
-
--- the id of a product
-abbrev pub product_id : List ℕ → List ℕ → ProductType → Bool → List ℕ
-product_id id1 id2 t directed =
-    double_compound_id (codes "product(") id1 (codes ",") id2 (closing (decimal (type_number t) ∷ flag_text directed ∷ []))
-
--- the product of that type
-abbrev pub product_graph : ProductType → GraphData → GraphData → Bool → Description
-product_graph t g h directed =
-    plain directed (product_events t g h directed) (names_of_pairs g h) (product_id g.id h.id t directed)
-
--- product(g, h, kind, directed)
+-- product(g, h, kind, directed): refused where there are more pairs than a graph can have vertices
 abbrev pub product_graph_of : GraphData → GraphData → ℤ → Bool → Result Description Panic
 product_graph_of g h kind directed =
-    if has_too_many_pairs (order_of g) (order_of h) then Err VeryBad else Ok (product_graph (product_type kind) g h directed)
+    if nat_lt most_vertices (order_of g * order_of h) then Err VeryBad
+    else Ok (plain directed (product_events (product_type kind) g h directed)
+    (flat_map (λ a. map (λ b. joined_name a (codes ",") b) (names_of h)) (names_of g))
+    (double_compound_id (codes "product(") g.id (codes ",") h.id
+    (closing (decimal (type_number (product_type kind)) ∷ flag_text directed ∷ []))))

@@ -6,18 +6,14 @@ use Rattle.sgb_graph.specs.Graphs.{GraphData, chain_of}
 use Rattle.sgb_graph.specs.Events.{Event, HasArcsOf}
 use Rattle.sgb_graph.specs.declared.fields.Link.{Link}
 
--- for arcs on the list of v: l is a loop, and k, which follows it, has the next number and so is its other record
-abbrev pub is_loop_with : ℕ → Link → Link → Bool
-is_loop_with v l k = (l.tip == v) && (k.number == l.number + 1)
-
 -- of the list of v, the arcs whose tip is at least v; the record that follows a loop is left out where it
--- has the next number, whatever its tip, and then leaves out no other
+-- has the next number, and so is its other record, whatever its tip; and then it leaves out no other
 unfoldable pub each_edge_once : ℕ → List Link → List Link
 each_edge_once v [] = []
 each_edge_once v (l ∷ []) = if nat_lt l.tip v then [] else l ∷ []
 each_edge_once v (l ∷ k ∷ links) =
     if nat_lt l.tip v then each_edge_once v (k ∷ links)
-    else l ∷ (if is_loop_with v l k then each_edge_once v links else each_edge_once v (k ∷ links))
+    else l ∷ (if (l.tip == v) && (k.number == l.number + 1) then each_edge_once v links else each_edge_once v (k ∷ links))
 
 -- the arcs taken of vertex v: the whole list for a directed result
 abbrev pub taken : Bool → GraphData → ℕ → List Link

@@ -1,5 +1,5 @@
 -- Wheels: n1 vertices in the middle, each joined to all n vertices of a rim [GB_BASIC, wheel].
-use Rattle.std.specs.Prelude.{ℕ, ℤ, pos, negsuc, Bool, false, List, [], ◌∷◌, ◌++◌, codes, nat_lt, if◌then◌else◌, Result, Ok, Err}
+use Rattle.std.specs.Prelude.{ℤ, pos, negsuc, Bool, false, [], ◌∷◌, ◌++◌, codes, nat_lt, if◌then◌else◌, Result, Ok, Err}
 use Rattle.std.specs.Fmt.{signed_decimal}
 use Rattle.sgb_vec.specs.Limits.{most_vertices}
 use Rattle.sgb_vec.specs.Results.{and_then}
@@ -12,29 +12,22 @@ use Rattle.sgb_ops.specs.declared.entries.Entry.{Entry}
 use Rattle.sgb_ops.specs.declared.entries.Entry.TheVariants as entry
 use Rattle.sgb_ops.specs.Induced.{induced_of}
 use Rattle.sgb_gen.specs.Boards.{board}
+use Rattle.sgb_gen.specs.Shorthands.{line}
 use Rattle.sgb_graph.specs.Made.{graph_described}
-use Rattle.sgb_ops.specs.Boards.{pair_of_vertices, rim_of_wheel}
-
--- the id of a wheel
-abbrev pub wheel_id : ℤ → ℤ → Bool → List ℕ
-wheel_id n n1 directed =
-    codes "wheel(" ++ signed_decimal n ++ closing (signed_decimal n1 ∷ flag_text directed ∷ [])
+use Rattle.sgb_ops.specs.Boards.{pair_of_vertices}
 
 -- the entry of that many vertices in the middle, or why they are refused: a negative number; then too many
 abbrev pub accepted_middle : ℤ → Result Entry Panic
 accepted_middle (negsuc n1) = Err Bad
 accepted_middle (pos n1) = if nat_lt most_vertices n1 then Err VeryBad else Ok (entry.Copies n1)
 
--- the graph with the id of a wheel
-abbrev pub with_wheel_id : ℤ → ℤ → Bool → Description → Description
-with_wheel_id n n1 directed d = record d { id = wheel_id n n1 directed }
-
--- wheel(n, n1, directed): the board of two vertices, with n1 copies of the one, and a board of n vertices in a
--- circle in the place of the other; that board's refusals come before those of the whole
+-- wheel(n, n1, directed): the board of two vertices, with n1 copies of the one, and board(n,0,0,0,1,1,directed) in the
+-- place of the other, which is a circle of n vertices, and where n is not positive the board of 8 by 8; that board's
+-- refusals come before those of the whole
 abbrev pub wheel_of : ℤ → ℤ → Bool → Result Description Panic
 wheel_of n n1 directed =
     and_then (accepted_middle n1) (λ middle.
-    and_then (board (rim_of_wheel n directed)) (λ rim.
+    and_then (board (line n (pos 1) (pos 1) directed)) (λ rim.
     and_then (board (pair_of_vertices directed)) (λ pair.
     and_then (induced_of (graph_described pair) (middle ∷ entry.Graph (graph_described rim) ∷ []) false false directed) (λ d.
-    Ok (with_wheel_id n n1 directed d)))))
+    Ok (record d { id = codes "wheel(" ++ signed_decimal n ++ closing (signed_decimal n1 ∷ flag_text directed ∷ []) })))))

@@ -1,23 +1,39 @@
 -- What only the private contracts and the proofs of sgb_ops speak of.
 -- an induced graph under way
 pub mod Begun
+-- what bi_complete and wheel make of boards
+pub mod Boards
+-- the arcs of a complement from one vertex
+pub mod Complement
 -- where the copies of a vertex begin and end
 pub mod Copies
 -- the ends of events, and events merged one by one
 pub mod Ends
+-- how many vertices entries make, and their names
+pub mod Entries
+-- the arcs of a union at one vertex
+pub mod Gunion
+-- the events of an induced graph, part by part
+pub mod Induced
+-- the events of an intersection one by one
+pub mod Intersection
 -- the earlier lines at each vertex
 pub mod LineLists
 -- how many lines begin at a vertex, and there or later
 pub mod LineRuns
--- lines between vertices of a graph, and the events to them
+-- lines between vertices of a graph, and the events between them
 pub mod Lines
--- events no two of which have the same ends
+-- events made one, and events no two of which have the same ends
 pub mod Merged
--- a graph under way with a vertex for each pair
+-- pairs of vertices, and a graph under way with a vertex for each
 pub mod Pairs
 -- when events may be merged part by part
 pub mod Parts
+-- the steps of a product, part by part
+pub mod Steps
 -- the arcs taken of a list, met one by one
 pub mod TakenArcs
 -- what is noted of the arcs to each vertex
 pub mod Tallies
+-- ids, and names made of names
+pub mod Titles

@@ -1,7 +1,8 @@
 //! The two boards that complete bipartite graphs and wheels are made of (GB_BASIC, bi_complete and wheel).
 ghost use Rattle.sgb_graph.specs.Descriptions.{IsAnswerOf};
 ghost use Rattle.sgb_gen.specs.Boards.{board};
-ghost use Rattle.sgb_ops.specs.Boards.{pair_of_vertices, rim_of_wheel};
+ghost use Rattle.sgb_ops.specs.Boards.{pair_of_vertices};
+ghost use Rattle.sgb_ops.specs.inner.Boards.{rim_of_wheel};
 
 use sgb_gen::board;
 use sgb_graph::Graph;

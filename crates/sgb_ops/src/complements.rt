@@ -2,7 +2,9 @@
 ghost use Rattle.std.specs.Prelude.{◌≡◌, ◌<◌, ◌+◌, ◌==◌, [], ◌∷◌, ℕ, pos, length, slice_index, map, filter, OnOk, IsOkUnless, if◌then◌else◌};
 ghost use Rattle.sgb_graph.specs.Descriptions.{IsAnswerOf};
 ghost use Rattle.sgb_graph.specs.Growth.{AddsEvents, HasPlainArcs};
-ghost use Rattle.sgb_ops.specs.Complement.{complement_events, complement_events_from, complement_id, complement_of, has_arc, is_wanted_where};
+ghost use Rattle.sgb_ops.specs.Complement.{complement_events, complement_of, has_arc};
+ghost use Rattle.sgb_ops.specs.inner.Complement.{complement_events_from, is_wanted_where};
+ghost use Rattle.sgb_ops.specs.inner.Titles.{complement_id};
 
 use crate::operands::names_of;
 use crate::titles::flag_byte;

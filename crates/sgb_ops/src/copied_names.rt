@@ -3,9 +3,10 @@ ghost use Rattle.std.specs.Prelude.{◌≡◌, ◌<◌, ◌≤◌, ◌++◌, [],
 ghost use Rattle.std.specs.List.{range_with_len};
 ghost use Rattle.sgb_vec.specs.Limits.{most_vertices};
 ghost use Rattle.sgb_ops.specs.declared.entries.Entry.TheVariants as entry;
-ghost use Rattle.sgb_ops.specs.Entries.{merged_count, merged_name, names_by_entries, names_of_copies, own_names};
+ghost use Rattle.sgb_ops.specs.Entries.{merged_count, names_by_entries, names_of_copies};
 ghost use Rattle.sgb_graph.specs.Vertices.{names_of};
-ghost use Rattle.sgb_ops.specs.Titles.{numbered_name, primed_name, substituted_name};
+ghost use Rattle.sgb_ops.specs.inner.Titles.{merged_name, numbered_name, substituted_name};
+ghost use Rattle.sgb_ops.specs.inner.Entries.{own_names};
 
 use crate::entries::Entry;
 use crate::titles::{ended_name, joined_name, name_of_parts};

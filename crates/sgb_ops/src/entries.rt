@@ -4,7 +4,8 @@ ghost use Rattle.sgb_vec.specs.Limits.{most_vertices};
 ghost use Rattle.std.specs.List.{list_any};
 ghost use Rattle.sgb_ops.specs.declared.entries.Entry.TheVariants as entry;
 ghost use Rattle.sgb_ops.specs.inner.Copies.{IsKeptEntry, copies_end, copies_start, first_copies, merged_of, sized};
-ghost use Rattle.sgb_ops.specs.Entries.{accepted_entries, first_copy, is_unnumbered, merged_count, merged_number, own_total, size_of_entry, total_of};
+ghost use Rattle.sgb_ops.specs.inner.Entries.{own_total, total_of};
+ghost use Rattle.sgb_ops.specs.Entries.{accepted_entries, first_copy, is_unnumbered, merged_count, merged_number, size_of_entry};
 
 use sgb_graph::Graph;
 use sgb_vec::{MOST_VERTICES, Panic};
@@ -190,7 +191,7 @@ impl Model for Copies {
     ghost use Rattle.sgb_vec.specs.Limits.{most_vertices};
     ghost use Rattle.sgb_ops.specs.declared.entries.Entry.{Entry};
     ghost use Rattle.sgb_ops.specs.inner.Copies.{first_copies};
-    ghost use Rattle.sgb_ops.specs.Entries.{total_of};
+    ghost use Rattle.sgb_ops.specs.inner.Entries.{total_of};
 
     ghost Value = { List Entry };
 

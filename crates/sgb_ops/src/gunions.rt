@@ -4,9 +4,11 @@ ghost use Rattle.sgb_graph.specs.Descriptions.{IsAnswerOf};
 ghost use Rattle.sgb_graph.specs.declared.fields.Link.{Link};
 ghost use Rattle.sgb_graph.specs.Growth.{AddsEvents, HasPlainArcs};
 ghost use Rattle.sgb_ops.specs.inner.Ends.{event_of};
-ghost use Rattle.sgb_ops.specs.Gunion.{gunion_id, gunion_of, union_arcs, union_events};
+ghost use Rattle.sgb_ops.specs.Gunion.{gunion_of, union_events};
 ghost use Rattle.sgb_ops.specs.Merged.{merged_unless};
 ghost use Rattle.sgb_ops.specs.Taken.{taken};
+ghost use Rattle.sgb_ops.specs.inner.Titles.{gunion_id};
+ghost use Rattle.sgb_ops.specs.inner.Gunion.{union_arcs};
 
 use crate::events::{Event, add_events};
 use crate::merged::merged_unless;

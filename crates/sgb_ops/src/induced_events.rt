@@ -3,9 +3,11 @@ ghost use Rattle.std.specs.Prelude.{◌≡◌, ◌<◌, ◌≤◌, ◌+◌, ◌+
 ghost use Rattle.sgb_vec.specs.Limits.{most_vertices};
 ghost use Rattle.sgb_ops.specs.declared.entries.Entry.TheVariants as entry;
 ghost use Rattle.sgb_ops.specs.inner.Copies.{leads_to_copies, sized};
-ghost use Rattle.sgb_ops.specs.Entries.{events_within, inner_events, inner_events_from, size_of_entry, total_of};
-ghost use Rattle.sgb_ops.specs.Induced.{all_events, event_between, events_between, events_of_arc, events_of_copies, is_met, wanted};
+ghost use Rattle.sgb_ops.specs.Entries.{events_within, inner_events, size_of_entry};
+ghost use Rattle.sgb_ops.specs.Induced.{events_between};
 ghost use Rattle.sgb_ops.specs.Taken.{taken};
+ghost use Rattle.sgb_ops.specs.inner.Entries.{inner_events_from, total_of};
+ghost use Rattle.sgb_ops.specs.inner.Induced.{event_between, events_of_arc, events_of_copies, is_met, wanted};
 
 use crate::entries::{Copies, Entry};
 use crate::events::Event;

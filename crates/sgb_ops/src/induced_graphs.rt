@@ -4,13 +4,16 @@ ghost use Rattle.std.specs.List.{list_any};
 ghost use Rattle.sgb_vec.specs.Limits.{most_vertices};
 ghost use Rattle.sgb_graph.specs.Descriptions.{IsAnswerOf};
 ghost use Rattle.sgb_graph.specs.Growth.{AddsEvents, HasPlainArcs};
-ghost use Rattle.sgb_ops.specs.Entries.{accepted_entries, events_within, is_unnumbered, merged_count, total_of};
-ghost use Rattle.sgb_ops.specs.Induced.{events_between, induced_id, induced_of, wanted};
+ghost use Rattle.sgb_ops.specs.Entries.{accepted_entries, events_within, is_unnumbered, merged_count};
+ghost use Rattle.sgb_ops.specs.Induced.{events_between, induced_of};
 ghost use Rattle.sgb_ops.specs.Merged.{merged_unless};
 ghost use Rattle.sgb_graph.specs.Vertices.{order_of};
 ghost use Rattle.sgb_ops.specs.inner.Begun.{IsBegun, IsFinished, later_events};
 ghost use Rattle.sgb_ops.specs.inner.Copies.{IsKeptEntry, sized};
 ghost use Rattle.sgb_ops.specs.inner.Ends.{AllWithin};
+ghost use Rattle.sgb_ops.specs.inner.Entries.{total_of};
+ghost use Rattle.sgb_ops.specs.inner.Titles.{induced_id};
+ghost use Rattle.sgb_ops.specs.inner.Induced.{wanted};
 
 use crate::copied_names::names_by_entries;
 use crate::entries::{Copies, Entry, accept_entries};

@@ -5,13 +5,15 @@ ghost use Rattle.std.specs.List.{list_any};
 ghost use Rattle.sgb_vec.specs.Limits.{most_vertices};
 ghost use Rattle.sgb_graph.specs.Growth.{AddsEvents, HasPlainArcs, IsKept};
 ghost use Rattle.sgb_ops.specs.declared.entries.Entry.TheVariants as entry;
-ghost use Rattle.sgb_ops.specs.Entries.{events_within, inner_events, inner_events_from, is_unnumbered, merged_count, size_of_entry, total_of};
-ghost use Rattle.sgb_ops.specs.Induced.{events_between, events_of_arc, events_of_copies, induced_events, wanted};
+ghost use Rattle.sgb_ops.specs.Entries.{events_within, inner_events, is_unnumbered, merged_count, size_of_entry};
+ghost use Rattle.sgb_ops.specs.Induced.{events_between, induced_events};
 ghost use Rattle.sgb_ops.specs.Merged.{merged_unless};
 ghost use Rattle.sgb_ops.specs.Taken.{taken};
 ghost use Rattle.sgb_ops.specs.inner.Copies.{IsKeptEntry, sized};
 ghost use Rattle.sgb_ops.specs.inner.Ends.{AllWithin};
 ghost use Rattle.sgb_ops.specs.inner.Parts.{AreInParts, has_loop_inside, has_loops_inside};
+ghost use Rattle.sgb_ops.specs.inner.Entries.{inner_events_from, total_of};
+ghost use Rattle.sgb_ops.specs.inner.Induced.{events_of_arc, events_of_copies, wanted};
 
 use crate::entries::{Copies, Entry};
 use crate::events::{Event, add_events};

@@ -3,9 +3,10 @@ ghost use Rattle.std.specs.Prelude.{◌≡◌, ◌<◌, ◌++◌, ℕ, length, n
 ghost use Rattle.indexmap.specs.IndexMap.{get};
 ghost use Rattle.sgb_graph.specs.Descriptions.{IsAnswerOf};
 ghost use Rattle.sgb_ops.specs.inner.Ends.{AllWithin};
-ghost use Rattle.sgb_ops.specs.Intersection.{common_events, intersection_events, intersection_id, intersection_of};
+ghost use Rattle.sgb_ops.specs.Intersection.{common_events, intersection_events, intersection_of};
 ghost use Rattle.sgb_ops.specs.Taken.{taken};
 ghost use Rattle.sgb_ops.specs.inner.Tallies.{event_left, one_less, second_length, without_one};
+ghost use Rattle.sgb_ops.specs.inner.Titles.{intersection_id};
 
 use crate::events::{Event, graph_of};
 use crate::operands::names_of;

@@ -5,13 +5,14 @@ ghost use Rattle.sgb_vec.specs.Limits.{most_vertices};
 ghost use Rattle.sgb_graph.specs.Descriptions.{IsAnswerOf, IsGraphOf};
 ghost use Rattle.sgb_graph.specs.Made.{plain};
 ghost use Rattle.sgb_graph.specs.Growth.{AddsEvents, HasPlainArcs};
-ghost use Rattle.sgb_ops.specs.Lines.{accepted_lines, events_to, has_way_back, is_of_edges, line_events, line_graph_of, line_of, lines_id, lines_of_graph, names_of_lines, points_to};
-ghost use Rattle.sgb_ops.specs.inner.Lines.{DescendFrom, LeadsUp, LineWithin, events_to_numbers, no_line};
+ghost use Rattle.sgb_ops.specs.Lines.{accepted_lines, has_way_back, is_of_edges, line_events, line_graph_of, lines_of_graph};
+ghost use Rattle.sgb_ops.specs.inner.Lines.{DescendFrom, LeadsUp, LineWithin, events_to_numbers, no_line, events_to, line_of, names_of_lines, points_to};
 ghost use Rattle.sgb_ops.specs.inner.LineLists.{counts, list_at, numbers_at, touches};
 ghost use Rattle.sgb_ops.specs.inner.LineRuns.{begin_at, begin_from};
 ghost use Rattle.sgb_graph.specs.Vertices.{name_at};
 ghost use Rattle.sgb_ops.specs.Taken.{taken};
-ghost use Rattle.sgb_ops.specs.Titles.{line_name, line_sign};
+ghost use Rattle.sgb_ops.specs.Titles.{line_name};
+ghost use Rattle.sgb_ops.specs.inner.Titles.{lines_id, line_sign};
 
 use crate::taken::taken;
 use crate::titles::{flag_byte, joined_name};

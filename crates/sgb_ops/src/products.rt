@@ -4,11 +4,12 @@ ghost use Rattle.sgb_vec.specs.Limits.{most_vertices};
 ghost use Rattle.sgb_graph.specs.Descriptions.{IsAnswerOf};
 ghost use Rattle.sgb_graph.specs.Graphs.{chain_of};
 ghost use Rattle.sgb_graph.specs.Growth.{AddsEvents};
-ghost use Rattle.sgb_ops.specs.Lengths.{lesser};
+ghost use Rattle.std.specs.Int.{int_min};
 ghost use Rattle.sgb_graph.specs.Vertices.{names_of, order_of, places_of};
-ghost use Rattle.sgb_ops.specs.Product.{both_step, both_steps, both_steps_at, both_steps_of_row, names_of_pairs, place_along, product_events, product_graph, product_graph_of, product_id, product_type, single_steps, step_along, steps_along, steps_from, type_number};
-ghost use Rattle.sgb_ops.specs.Titles.{pair_name};
-ghost use Rattle.sgb_ops.specs.inner.Pairs.{HasRoomForPairs};
+ghost use Rattle.sgb_ops.specs.Product.{both_steps, product_events, product_graph_of, product_type, single_steps, type_number};
+ghost use Rattle.sgb_ops.specs.inner.Steps.{both_step, both_steps_at, both_steps_of_row, place_along, step_along, steps_along, steps_from};
+ghost use Rattle.sgb_ops.specs.inner.Pairs.{HasRoomForPairs, names_of_pairs, product_graph};
+ghost use Rattle.sgb_ops.specs.inner.Titles.{product_id, pair_name};
 
 use crate::taken::taken;
 use crate::titles::{flag_byte, joined_name};
@@ -330,7 +331,7 @@ fn add_both_step(
 
 // The lesser of two lengths.
 fn lesser(a: i64, b: i64) -> i64
-    ensures { result ≡ lesser a b }
+    ensures { result ≡ int_min a b }
 {
     a.min(b)
 }

@@ -1,12 +1,13 @@
 -- Products.
-use Rattle.std.specs.Prelude.{◌≡◌, pos, negsuc, true, false, [], ◌∷◌, map, codes, refl}
+use Rattle.std.specs.Prelude.{◌≡◌, pos, negsuc, true, false, [], ◌∷◌, map, take, codes, refl}
 use Rattle.std.specs.Fmt.{digits}
 use Rattle.sgb_graph.specs.Graphs.{numbers_from}
 use Rattle.sgb_graph.specs.Events.{list_from}
 use Rattle.sgb_graph.specs.Ids.{double_compound_id}
 use Rattle.sgb_ops.specs.Taken.{each_edge_once}
 use Rattle.sgb_ops.specs.declared.products.ProductType.TheVariants.{Cartesian, Direct, Strong}
-use Rattle.sgb_ops.specs.Product.{product_type, product_events, both_steps_at, has_too_many_pairs, product_graph_of}
+use Rattle.sgb_ops.specs.Product.{both_steps, product_type, product_events, product_graph_of}
+use Rattle.sgb_ops.specs.inner.Pairs.{has_too_many_pairs}
 use Rattle.sgb_ops.proofs.Examples.Operands.{event, path_3, complete_2, complete_3, blocks, block, arcs, names, title}
 
 -- product(complete(2),complete(2),0,0)
@@ -76,7 +77,7 @@ unfolding digits numbers_from list_from each_edge_once
 direct_steps = (refl, refl)
 
 -- with each arc of the first go all of the second; two edges of length 2 make one of length 2
-pub direct_events_of_triangles : both_steps_at complete_3 complete_3 false 0 0
+pub direct_events_of_triangles : take 4 (both_steps complete_3 complete_3 false)
     ≡ event 0 8 2 ∷ event 0 7 1 ∷ event 0 5 1 ∷ event 0 4 1 ∷ []
 unfolding digits numbers_from list_from each_edge_once
 direct_events_of_triangles = refl

@@ -1,14 +1,26 @@
 -- Ids and names where they are cut.
-use Rattle.std.specs.Prelude.{◌≡◌, ℕ, ◌++◌, true, false, List, take, drop, length, replicate, codes, refl}
+use Rattle.std.specs.Prelude.{◌≡◌, ℕ, ◌++◌, Bool, true, false, List, [], ◌∷◌, map, take, drop, length, replicate, codes, refl}
 use Rattle.std.specs.Fmt.{digits}
+use Rattle.sgb_graph.specs.Graphs.{GraphData}
 use Rattle.sgb_graph.specs.Ids.{compound_id, double_compound_id}
-use Rattle.sgb_ops.specs.Titles.{line_name, pair_name, primed_name, numbered_name, substituted_name}
-use Rattle.sgb_ops.specs.Complement.{complement_id}
-use Rattle.sgb_ops.specs.Gunion.{gunion_id}
+use Rattle.sgb_ops.specs.Complement.{complement_of}
+use Rattle.sgb_ops.specs.Entries.{names_of_copies}
+use Rattle.sgb_ops.specs.Gunion.{gunion_of}
+use Rattle.sgb_ops.specs.Titles.{line_name, joined_name}
+use Rattle.sgb_ops.specs.declared.entries.Entry.TheVariants as entry
+use Rattle.sgb_ops.proofs.Examples.Operands.{complete_2, title}
+
+-- a graph with this id
+abbrev titled : List ℕ → GraphData
+titled text = record complete_2 { id = text }
 
 -- the id of the complement without loops
 abbrev once : List ℕ → List ℕ
-once id = complement_id id false false false
+once text = title (complement_of (titled text) false false false)
+
+-- the id of a union
+abbrev union : List ℕ → List ℕ → Bool → Bool → List ℕ
+union text1 text2 multi directed = title (gunion_of (titled text1) (titled text2) multi directed)
 
 -- of petersen() eight times over: the eighth has room for 142 bytes, and its operand's id has 153
 pub eighth_title :
@@ -20,7 +32,7 @@ eighth_title = (refl, refl)
 
 -- the union of that graph with itself: 69 bytes of each id are kept
 pub union_title :
-    (gunion_id (codes "complement(complement(complement(complement(complement(complement(complement(complement(subsets(2,1,-4,0,0,0,0x1,0),0,0,0),0,0,0),0,0,0),0,0,0),0,0,0...),0,0,0)") (codes "complement(complement(complement(complement(complement(complement(complement(complement(subsets(2,1,-4,0,0,0,0x1,0),0,0,0),0,0,0),0,0,0),0,0,0),0,0,0...),0,0,0)") false false
+    (union (codes "complement(complement(complement(complement(complement(complement(complement(complement(subsets(2,1,-4,0,0,0,0x1,0),0,0,0),0,0,0),0,0,0),0,0,0),0,0,0...),0,0,0)") (codes "complement(complement(complement(complement(complement(complement(complement(complement(subsets(2,1,-4,0,0,0,0x1,0),0,0,0),0,0,0),0,0,0),0,0,0),0,0,0...),0,0,0)") false false
     ≡ codes "gunion(complement(complement(complement(complement(complement(complement(com...),complement(complement(complement(complement(complement(complement(com...),0,0)")
     × (length (codes "gunion(complement(complement(complement(complement(complement(complement(com...),complement(complement(complement(complement(complement(complement(com...),0,0)") ≡ 159)
 unfolding double_compound_id
@@ -39,8 +51,8 @@ one_operand = (refl, refl)
 
 -- two operands: together 147 bytes stand whole; of 148 both are cut, and a short one keeps all its bytes
 pub two_operands :
-    (gunion_id (long 145) (codes "bc") false true ≡ codes "gunion(" ++ long 145 ++ codes ",bc,0,1)")
-    × (gunion_id (long 146) (codes "bc") false true ≡ codes "gunion(" ++ long 69 ++ codes "...),bc...),0,1)")
+    (union (long 145) (codes "bc") false true ≡ codes "gunion(" ++ long 145 ++ codes ",bc,0,1)")
+    × (union (long 146) (codes "bc") false true ≡ codes "gunion(" ++ long 69 ++ codes "...),bc...),0,1)")
 unfolding double_compound_id
 two_operands = (refl, refl)
 
@@ -56,15 +68,13 @@ pub names_cut :
     (take 6 (drop 2043 (line_name false a b)) ≡ codes "aaa--b")
     × (length (line_name false a b) ≡ 4095)
     × (take 6 (drop 2043 (line_name true a b)) ≡ codes "aaa->b")
-    × (take 6 (drop 2044 (pair_name a b)) ≡ codes "aaa,bb")
-    × (length (pair_name a b) ≡ 4095)
-    × (take 6 (drop 2044 (substituted_name a b)) ≡ codes "aaa:bb")
-    × (length (substituted_name a b) ≡ 4095)
-names_cut = (refl, refl, refl, refl, refl, refl, refl)
+    × (take 6 (drop 2044 (joined_name a (codes ",") b)) ≡ codes "aaa,bb")
+    × (length (joined_name a (codes ",") b) ≡ 4095)
+names_cut = (refl, refl, refl, refl, refl)
 
 -- a prime stands after 4,094 bytes, a number after 4,084
 pub copies_cut :
-    (drop 4092 (primed_name a) ≡ codes "aa'")
-    × (drop 4082 (numbered_name a 17) ≡ codes "aa:17")
+    (map (drop 4092) (names_of_copies a (entry.Copies 2)) ≡ codes "aaa" ∷ codes "aa'" ∷ [])
+    × (drop 10 (map (drop 4082) (names_of_copies a (entry.Copies 12))) ≡ codes "aa:10" ∷ codes "aa:11" ∷ [])
 unfolding digits
 copies_cut = (refl, refl)

@@ -2,7 +2,7 @@
 use Rattle.std.specs.Prelude.{◌+◌, ◌%◌, ℕ, min, max, All, Bool, true, false, List, [], ◌∷◌, if◌then◌else◌}
 use Rattle.sgb_graph.specs.Events.{Event, HasEndsBelow}
 use Rattle.sgb_graph.specs.declared.fields.Link.{Link}
-use Rattle.sgb_ops.specs.Lengths.{lesser}
+use Rattle.std.specs.Int.{int_min}
 use Rattle.sgb_ops.specs.Merged.{has_ends_of}
 
 -- the event of an arc on the list of v
@@ -24,7 +24,7 @@ bit_place e = (e.from + e.to) % 16384
 
 -- an event with the lesser of its length and that of another
 abbrev pub shortened : Event → Event → Event
-shortened e other = record e { len = lesser e.len other.len }
+shortened e other = record e { len = int_min e.len other.len }
 
 -- merged events and one more: it shortens the one that has its ends, or comes last
 abbrev pub with_event : Bool → List Event → Event → List Event

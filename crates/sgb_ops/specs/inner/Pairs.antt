@@ -1,11 +1,29 @@
--- A graph under way whose vertices are to be the pairs of those of two graphs.
-use Rattle.std.specs.Prelude.{◌≡◌, ◌≤◌, ◌*◌}
+-- The pairs of the vertices of two graphs, and a graph under way whose vertices they are to be.
+use Rattle.std.specs.Prelude.{ℕ, ◌≡◌, ◌≤◌, ◌*◌, Bool, List, map, flat_map, nat_lt}
 use Rattle.sgb_vec.specs.Limits.{most_vertices}
+use Rattle.sgb_graph.specs.Descriptions.{Description}
 use Rattle.sgb_graph.specs.Graphs.{GraphData}
 use Rattle.sgb_graph.specs.Growth.{HasPlainArcs}
-use Rattle.sgb_graph.specs.Vertices.{order_of}
+use Rattle.sgb_graph.specs.Made.{plain}
+use Rattle.sgb_graph.specs.Vertices.{names_of, order_of}
+use Rattle.sgb_ops.specs.Product.{product_events}
+use Rattle.sgb_ops.specs.inner.Titles.{pair_name, product_id}
+use Rattle.sgb_ops.specs.declared.products.ProductType.{ProductType}
 
 -- it has one vertex for each pair, not more than a graph can have, and its arcs use no utility fields
 abbrev pub HasRoomForPairs : GraphData → GraphData → GraphData → Type 0
 HasRoomForPairs built g h =
     (order_of g * order_of h ≤ most_vertices) × (order_of built ≡ order_of g * order_of h) × HasPlainArcs built
+
+-- the vertices of graphs with n and h of them make more pairs than a graph can have vertices
+abbrev pub has_too_many_pairs : ℕ → ℕ → Bool
+has_too_many_pairs n h = nat_lt most_vertices (n * h)
+
+-- the names of the pairs
+abbrev pub names_of_pairs : GraphData → GraphData → List (List ℕ)
+names_of_pairs g h = flat_map (λ a. map (λ b. pair_name a b) (names_of h)) (names_of g)
+
+-- the product of that type
+abbrev pub product_graph : ProductType → GraphData → GraphData → Bool → Description
+product_graph t g h directed =
+    plain directed (product_events t g h directed) (names_of_pairs g h) (product_id g.id h.id t directed)

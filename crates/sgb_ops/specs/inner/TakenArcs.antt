@@ -1,7 +1,11 @@
 -- The arcs taken of a list, met one by one [GB_BASIC, gunion].
-use Rattle.std.specs.Prelude.{◌≡◌, ℕ, ◌+◌, ◌==◌, Bool, true, false, List, [], ◌∷◌, ◌++◌, Option, Some, None, if◌then◌else◌}
+use Rattle.std.specs.Prelude.{◌≡◌, ℕ, ◌+◌, ◌==◌, Bool, true, false, ◌&&◌, List, [], ◌∷◌, ◌++◌, Option, Some, None, if◌then◌else◌}
 use Rattle.sgb_graph.specs.declared.fields.Link.{Link}
 use Rattle.sgb_ops.specs.Taken.{each_edge_once}
+
+-- for arcs on the list of v: l is a loop, and k, which follows it, has the next number and so is its other record
+abbrev pub is_loop_with : ℕ → Link → Link → Bool
+is_loop_with v l k = (l.tip == v) && (k.number == l.number + 1)
 
 -- the arcs taken of these arcs of vertex v
 abbrev pub taken_of : Bool → ℕ → List Link → List Link

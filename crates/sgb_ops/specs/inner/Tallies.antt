@@ -2,7 +2,8 @@
 use Rattle.std.specs.Prelude.{ℕ, ℤ, ◌+◌, ◌-◌, ◌==◌, Bool, true, false, List, [], ◌∷◌, length, map, filter, Option, Some, None, if◌then◌else◌}
 use Rattle.sgb_graph.specs.Events.{Event}
 use Rattle.sgb_graph.specs.declared.fields.Link.{Link}
-use Rattle.sgb_ops.specs.Lengths.{lesser, greater, least_of}
+use Rattle.std.specs.Int.{int_max, int_min}
+use Rattle.sgb_ops.specs.Lengths.{least_of}
 use Rattle.sgb_ops.specs.declared.tallies.Tally.{Tally}
 
 -- of some arcs to one vertex: how many there are and their least length; nothing of none
@@ -17,7 +18,7 @@ tally_to u links = tally_of (filter (λ l. l.tip == u) links)
 -- with one arc more, of this length
 abbrev pub one_more : ℤ → Option Tally → Tally
 one_more far None = record { count = 1; least = far }
-one_more far (Some t) = record { count = t.count + 1; least = lesser t.least far }
+one_more far (Some t) = record { count = t.count + 1; least = int_min t.least far }
 
 -- with one arc less; with none, unless parallel arcs are wanted
 abbrev pub one_less : Bool → Tally → Tally
@@ -36,4 +37,4 @@ second_length false far (Some t) = t.least
 -- the event from v to u, where some arcs of the first graph to u are left
 abbrev pub event_left : ℕ → ℕ → ℤ → Option Tally → List Event
 event_left v u far None = []
-event_left v u far (Some t) = if t.count == 0 then [] else record { from = v; to = u; len = greater t.least far } ∷ []
+event_left v u far (Some t) = if t.count == 0 then [] else record { from = v; to = u; len = int_max t.least far } ∷ []

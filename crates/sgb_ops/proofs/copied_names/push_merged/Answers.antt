@@ -1,5 +1,5 @@
 use Rattle.std.proofs.Common.{◌+◌, arith}
-use Rattle.sgb_ops.specs.Entries.{merged_name}
+use Rattle.sgb_ops.specs.inner.Titles.{merged_name}
 use Rattle.sgb_ops.proofs.PlainLists.{numbers_more}
 use Rattle.sgb_ops.proofs.copied_names.push_merged.Goals as goal
 

@@ -1,6 +1,6 @@
 use Rattle.std.proofs.Common.{◌≡◌, ◌++◌, map}
 use Rattle.std.specs.List.{range_with_len}
-use Rattle.sgb_ops.specs.Entries.{merged_name}
+use Rattle.sgb_ops.specs.inner.Titles.{merged_name}
 use Rattle.sgb_ops.proofs.copied_names.push_merged.Given as goal
 
 -- the names with the numbers so far

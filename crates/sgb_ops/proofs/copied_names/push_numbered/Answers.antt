@@ -1,5 +1,5 @@
 use Rattle.std.proofs.Common.{arith}
-use Rattle.sgb_ops.specs.Titles.{numbered_name}
+use Rattle.sgb_ops.specs.inner.Titles.{numbered_name}
 use Rattle.sgb_ops.proofs.PlainLists.{numbers_more}
 use Rattle.sgb_ops.proofs.copied_names.push_numbered.Goals as goal
 

@@ -1,7 +1,8 @@
 use Rattle.std.proofs.Common.{◌≡◌, ◌∙◌, ◌∷◌, ◌+◌, drop, sym, ap, arith}
 use Rattle.std.proofs.lemmas.List.{drop_more}
 use Rattle.sgb_gen.proofs.FamilyWalks.{drop_at_vector}
-use Rattle.sgb_ops.specs.Entries.{names_of_copies, own_names}
+use Rattle.sgb_ops.specs.Entries.{names_of_copies}
+use Rattle.sgb_ops.specs.inner.Entries.{own_names}
 use Rattle.sgb_graph.specs.Vertices.{names_of}
 use Rattle.sgb_ops.proofs.PlainLists.{part_more}
 use Rattle.sgb_ops.proofs.copied_names.push_own.Goals as goal

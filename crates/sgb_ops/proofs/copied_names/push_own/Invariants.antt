@@ -1,5 +1,5 @@
 use Rattle.std.proofs.Common.{◌≡◌, ◌++◌, drop}
-use Rattle.sgb_ops.specs.Entries.{own_names}
+use Rattle.sgb_ops.specs.inner.Entries.{own_names}
 use Rattle.sgb_graph.specs.Vertices.{names_of}
 use Rattle.sgb_ops.proofs.copied_names.push_own.Given as goal
 

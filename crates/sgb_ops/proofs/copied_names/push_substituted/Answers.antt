@@ -1,7 +1,7 @@
 use Rattle.std.proofs.Common.{◌∙◌, ◌++◌, ◌∷◌, [], ◌+◌, drop, map, ap}
 use Rattle.sgb_gen.proofs.FamilyWalks.{drop_at_vector}
 use Rattle.sgb_graph.specs.Vertices.{names_of}
-use Rattle.sgb_ops.specs.Titles.{substituted_name}
+use Rattle.sgb_ops.specs.inner.Titles.{substituted_name}
 use Rattle.sgb_ops.proofs.PlainLists.{part_more}
 use Rattle.sgb_ops.proofs.copied_names.push_substituted.Goals as goal
 

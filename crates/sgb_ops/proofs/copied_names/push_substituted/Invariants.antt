@@ -1,6 +1,6 @@
 use Rattle.std.proofs.Common.{◌≡◌, ◌++◌, map, drop}
 use Rattle.sgb_graph.specs.Vertices.{names_of}
-use Rattle.sgb_ops.specs.Titles.{substituted_name}
+use Rattle.sgb_ops.specs.inner.Titles.{substituted_name}
 use Rattle.sgb_ops.proofs.copied_names.push_substituted.Given as goal
 
 -- with the names of the vertices from w on, they are all

@@ -1,6 +1,6 @@
 use Rattle.std.proofs.Common.{◌≡◌, ◌≤◌, ◌*◌, All, take}
 use Rattle.sgb_ops.specs.inner.Copies.{IsKeptEntry}
-use Rattle.sgb_ops.specs.Entries.{own_total}
+use Rattle.sgb_ops.specs.inner.Entries.{own_total}
 use Rattle.sgb_ops.proofs.entries.own_total.Given as goal
 
 -- the entries so far are counted, and sound

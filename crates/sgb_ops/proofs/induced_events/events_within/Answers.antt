@@ -4,7 +4,7 @@ use Rattle.std.proofs.lemmas.List.Elements.{filter-append}
 use Rattle.sgb_graph.specs.Events.{Event}
 use Rattle.sgb_ops.specs.declared.entries.Entry.{Entry}
 use Rattle.sgb_ops.specs.Entries.{first_copy, inner_events}
-use Rattle.sgb_ops.specs.Induced.{is_wanted, wanted}
+use Rattle.sgb_ops.specs.inner.Induced.{is_wanted, wanted}
 use Rattle.sgb_ops.proofs.EntryTotals.{place_fits}
 use Rattle.sgb_ops.proofs.SizedEntries.{first_read}
 use Rattle.sgb_ops.proofs.WantedEvents.{events_within_from}

@@ -1,6 +1,6 @@
 use Rattle.std.proofs.Common.{◌≡◌, ◌++◌, drop}
 use Rattle.sgb_ops.specs.Entries.{events_within}
-use Rattle.sgb_ops.specs.Induced.{wanted}
+use Rattle.sgb_ops.specs.inner.Induced.{wanted}
 use Rattle.sgb_ops.proofs.WantedEvents.{events_within_from}
 use Rattle.sgb_ops.proofs.induced_events.events_within.Given as goal
 

@@ -1,5 +1,6 @@
 use Rattle.std.proofs.Common.{◌++◌, ◌+◌, length, arith}
-use Rattle.sgb_ops.specs.Induced.{events_between, events_of_copies, wanted}
+use Rattle.sgb_ops.specs.Induced.{events_between}
+use Rattle.sgb_ops.specs.inner.Induced.{events_of_copies, wanted}
 use Rattle.sgb_ops.proofs.WantedEvents.{wanted_more, events_until, until_more}
 use Rattle.sgb_ops.proofs.induced_events.push_events_between.Goals as goal
 

@@ -1,5 +1,6 @@
 use Rattle.std.proofs.Common.{◌≡◌, ◌++◌, length}
-use Rattle.sgb_ops.specs.Induced.{events_between, events_of_copies, wanted}
+use Rattle.sgb_ops.specs.Induced.{events_between}
+use Rattle.sgb_ops.specs.inner.Induced.{events_of_copies, wanted}
 use Rattle.sgb_ops.proofs.WantedEvents.{events_until}
 use Rattle.sgb_ops.proofs.induced_events.push_events_between.Given as goal
 

@@ -1,7 +1,7 @@
 use Rattle.std.proofs.Common.{◌++◌, ◌+◌, ◌∙◌, refl, ap, arith}
 use Rattle.std.specs.List.{flat_map}
 use Rattle.sgb_ops.specs.inner.Copies.{copies_end}
-use Rattle.sgb_ops.specs.Induced.{events_of_arc, events_of_copies, events_of_copy, wanted}
+use Rattle.sgb_ops.specs.inner.Induced.{events_of_arc, events_of_copies, events_of_copy, wanted}
 use Rattle.sgb_ops.specs.Taken.{taken}
 use Rattle.sgb_ops.proofs.EntryTotals.{copies_between}
 use Rattle.sgb_ops.proofs.WantedEvents.{arcs_to_copies, wanted_more, events_until, until_more}

@@ -1,6 +1,6 @@
 use Rattle.std.proofs.Common.{◌≡◌, ◌++◌}
 use Rattle.sgb_ops.specs.inner.Copies.{copies_end}
-use Rattle.sgb_ops.specs.Induced.{events_of_copies, events_of_copy, wanted}
+use Rattle.sgb_ops.specs.inner.Induced.{events_of_copies, events_of_copy, wanted}
 use Rattle.sgb_ops.proofs.WantedEvents.{events_until}
 use Rattle.sgb_ops.proofs.induced_events.push_from_copies.Given as goal
 

@@ -1,6 +1,6 @@
 use Rattle.std.proofs.Common.{◌≡◌, ◌++◌, drop}
 use Rattle.std.specs.List.{flat_map}
-use Rattle.sgb_ops.specs.Induced.{events_of_arc, wanted}
+use Rattle.sgb_ops.specs.inner.Induced.{events_of_arc, wanted}
 use Rattle.sgb_ops.proofs.induced_events.push_from_copy.Given as goal
 
 -- with those for the arcs that are left, they are all

@@ -1,7 +1,8 @@
 use Rattle.std.proofs.Common.{◌++◌, ◌+◌, length, arith}
 use Rattle.sgb_ops.specs.declared.entries.Entry.TheVariants as entry
-use Rattle.sgb_ops.specs.Entries.{inner_events, inner_events_from}
-use Rattle.sgb_ops.specs.Induced.{wanted}
+use Rattle.sgb_ops.specs.Entries.{inner_events}
+use Rattle.sgb_ops.specs.inner.Entries.{inner_events_from}
+use Rattle.sgb_ops.specs.inner.Induced.{wanted}
 use Rattle.sgb_ops.proofs.WantedEvents.{wanted_more, events_until, until_more}
 use Rattle.sgb_ops.proofs.induced_events.push_graph.Goals as goal
 

@@ -2,8 +2,8 @@ use Rattle.std.proofs.Common.{ℤ, w64, rules, ◌++◌, ◌∷◌, [], ◌∙�
 use Rattle.std.specs.List.{All}
 use Rattle.std.proofs.lemmas.Int.{to_z-of_z}
 use Rattle.std.proofs.lemmas.List.Elements.{All-tail}
-use Rattle.sgb_ops.specs.Entries.{inner_event, inner_events_from}
-use Rattle.sgb_ops.specs.Induced.{wanted}
+use Rattle.sgb_ops.specs.inner.Entries.{inner_event, inner_events_from}
+use Rattle.sgb_ops.specs.inner.Induced.{wanted}
 use Rattle.sgb_ops.proofs.EventsWithin.{TipBelow}
 use Rattle.sgb_vec.proofs.Lists.{steps_to}
 use Rattle.sgb_ops.proofs.WantedEvents.{wanted_more}

@@ -1,6 +1,6 @@
 use Rattle.std.proofs.Common.{◌≡◌, ◌++◌, map, length, All}
-use Rattle.sgb_ops.specs.Entries.{inner_event, inner_events_from}
-use Rattle.sgb_ops.specs.Induced.{wanted}
+use Rattle.sgb_ops.specs.inner.Entries.{inner_event, inner_events_from}
+use Rattle.sgb_ops.specs.inner.Induced.{wanted}
 use Rattle.sgb_ops.proofs.EventsWithin.{TipBelow}
 use Rattle.sgb_ops.proofs.induced_events.push_inner_arcs.Given as goal
 

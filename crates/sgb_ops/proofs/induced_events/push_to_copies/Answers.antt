@@ -1,6 +1,6 @@
 use Rattle.std.proofs.Common.{◌++◌, ◌+◌, ◌∷◌, [], map, filter, refl, ap, arith}
 use Rattle.sgb_ops.specs.inner.Copies.{copies_end}
-use Rattle.sgb_ops.specs.Induced.{event_between, events_of_arc, is_met, wanted}
+use Rattle.sgb_ops.specs.inner.Induced.{event_between, events_of_arc, is_met, wanted}
 use Rattle.sgb_ops.proofs.EntryTotals.{copies_between}
 use Rattle.sgb_ops.proofs.WantedEvents.{wanted_more, events_met, met_more}
 use Rattle.sgb_ops.proofs.induced_events.push_to_copies.Goals as goal

@@ -1,6 +1,6 @@
 use Rattle.std.proofs.Common.{◌≡◌, ◌++◌}
 use Rattle.sgb_ops.specs.inner.Copies.{copies_end}
-use Rattle.sgb_ops.specs.Induced.{events_of_arc, wanted}
+use Rattle.sgb_ops.specs.inner.Induced.{events_of_arc, wanted}
 use Rattle.sgb_ops.proofs.WantedEvents.{events_met}
 use Rattle.sgb_ops.proofs.induced_events.push_to_copies.Given as goal
 

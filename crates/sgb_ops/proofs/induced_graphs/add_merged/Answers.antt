@@ -1,10 +1,11 @@
 use Rattle.std.proofs.Common.{◌∙◌, ◌++◌, sym, ap, subst}
 use Rattle.std.proofs.lemmas.List.Elements.{All-append, All-filter}
 use Rattle.sgb_graph.specs.Events.{HasEndsBelow}
-use Rattle.sgb_ops.specs.Entries.{total_of}
-use Rattle.sgb_ops.specs.Induced.{events_between, is_wanted, wanted}
+use Rattle.sgb_ops.specs.inner.Entries.{total_of}
+use Rattle.sgb_ops.specs.Induced.{events_between}
 use Rattle.sgb_ops.specs.Merged.{merged_unless}
 use Rattle.sgb_ops.specs.inner.Ends.{AllWithin}
+use Rattle.sgb_ops.specs.inner.Induced.{is_wanted, wanted}
 use Rattle.sgb_ops.proofs.CopiesWithin.{between_within}
 use Rattle.sgb_ops.proofs.EventsWithin.{merged_unless_within}
 use Rattle.sgb_ops.proofs.induced_graphs.add_merged.Goals as goal

@@ -3,7 +3,8 @@ use Rattle.std.proofs.lemmas.List.{length-map}
 use Rattle.sgb_graph.specs.Graphs.{GraphData}
 use Rattle.sgb_graph.specs.Growth.{new_vertex}
 use Rattle.sgb_ops.specs.declared.entries.Entry.{Entry}
-use Rattle.sgb_ops.specs.Entries.{names_by_entries, total_of}
+use Rattle.sgb_ops.specs.Entries.{names_by_entries}
+use Rattle.sgb_ops.specs.inner.Entries.{total_of}
 use Rattle.sgb_graph.specs.Vertices.{names_of, order_of}
 use Rattle.sgb_ops.proofs.CopiesWithin.{length-names}
 use Rattle.sgb_ops.proofs.induced_graphs.begun_by.Goals as goal

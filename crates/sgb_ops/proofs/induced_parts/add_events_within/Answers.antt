@@ -3,7 +3,7 @@ use Rattle.std.specs.List.{flat_map, slice_get}
 use Rattle.std.specs.Option.{option_map_or}
 use Rattle.sgb_graph.specs.Growth.{AddsEvents}
 use Rattle.sgb_ops.specs.Entries.{first_copy, inner_events}
-use Rattle.sgb_ops.specs.Induced.{wanted}
+use Rattle.sgb_ops.specs.inner.Induced.{wanted}
 use Rattle.sgb_ops.specs.Merged.{merged_unless}
 use Rattle.sgb_ops.proofs.EntryTotals.{entry_there, place_fits}
 use Rattle.sgb_ops.proofs.InducedParts.{inside_at, inside_part, within_left}

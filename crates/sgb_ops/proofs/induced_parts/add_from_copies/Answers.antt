@@ -2,12 +2,13 @@ use Rattle.std.proofs.Common.{◌∙◌, ◌+◌, ◌<◌, refl, sym, ap, subst,
 use Rattle.std.specs.List.{flat_map}
 use Rattle.sgb_graph.specs.Growth.{AddsEvents}
 use Rattle.sgb_graph.proofs.AddedEvents.{AddsUpTo, up_to-all, up_to-more, up_to-none}
-use Rattle.sgb_ops.specs.Entries.{copies_of, total_of}
-use Rattle.sgb_ops.specs.Induced.{events_of_arc, wanted}
+use Rattle.sgb_ops.specs.Entries.{copies_of}
+use Rattle.sgb_ops.specs.inner.Entries.{total_of}
 use Rattle.sgb_ops.specs.Merged.{merged_unless}
 use Rattle.sgb_ops.specs.Taken.{taken}
 use Rattle.sgb_ops.specs.inner.Copies.{copies_end}
 use Rattle.sgb_ops.specs.inner.Ends.{AllWithin}
+use Rattle.sgb_ops.specs.inner.Induced.{events_of_arc, wanted}
 use Rattle.sgb_ops.proofs.EntryTotals.{copies_between, copies_within}
 use Rattle.sgb_ops.proofs.InducedParts.{copies_left, copy_part, copy_within}
 use Rattle.sgb_ops.proofs.PlainLists.{places-none}

@@ -3,7 +3,7 @@ use Rattle.std.proofs.lemmas.Int.{to_z-of_z}
 use Rattle.std.proofs.lemmas.List.{take_more, drop_more, take-append-drop}
 use Rattle.indexmap.specs.IndexMap.{get}
 use Rattle.sgb_ops.specs.inner.Tallies.{tally_to, event_left, second_length, without_one}
-use Rattle.sgb_ops.specs.Intersection.{common_event}
+use Rattle.sgb_ops.specs.inner.Intersection.{common_event}
 use Rattle.sgb_ops.proofs.CommonEvents.{commons_after, commons_at_places, left_after, left_at_first, left_more, event_there}
 use Rattle.sgb_ops.proofs.PlainLists.{part_more}
 use Rattle.sgb_ops.proofs.TallyLemmas.{no_arc}

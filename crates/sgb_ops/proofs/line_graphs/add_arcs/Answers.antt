@@ -3,8 +3,8 @@ use Rattle.std.proofs.lemmas.List.{drop_more}
 use Rattle.sgb_graph.specs.Growth.{AddsEvents}
 use Rattle.sgb_graph.specs.Graphs.{GraphData}
 use Rattle.sgb_graph.proofs.AddedEvents.{AddsUpTo, up_to-more, up_to-none}
-use Rattle.sgb_ops.specs.Lines.{events_to, line_events}
-use Rattle.sgb_ops.specs.inner.Lines.{no_line}
+use Rattle.sgb_ops.specs.Lines.{line_events}
+use Rattle.sgb_ops.specs.inner.Lines.{no_line, events_to}
 use Rattle.sgb_ops.proofs.LineEvents.{events_from}
 use Rattle.sgb_ops.proofs.LineRuns.{ends_read, few_from, run_events}
 use Rattle.sgb_ops.proofs.line_graphs.add_arcs.Goals as goal

@@ -1,8 +1,8 @@
 use Rattle.std.proofs.Common.{◌≡◌, ◌+◌, ◌++◌, ◌∷◌, ◌∙◌, [], ℕ, List, false, drop, take, get_or, refl, sym, ap, arith, if◌then◌else◌}
 use Rattle.std.proofs.lemmas.List.{drop_more}
 use Rattle.sgb_graph.proofs.AddedEvents.{up_to-more}
-use Rattle.sgb_ops.specs.Lines.{events_to, line_events}
-use Rattle.sgb_ops.specs.inner.Lines.{no_line}
+use Rattle.sgb_ops.specs.Lines.{line_events}
+use Rattle.sgb_ops.specs.inner.Lines.{no_line, events_to}
 use Rattle.sgb_ops.specs.inner.LineLists.{touches}
 use Rattle.sgb_ops.proofs.LineEvents.{events_from}
 use Rattle.sgb_ops.proofs.LineLists.{numbers_more}

@@ -1,5 +1,7 @@
 use Rattle.std.proofs.Common.{◌∙◌, ap}
-use Rattle.sgb_ops.specs.Lines.{line_events, lines_id, names_of_lines}
+use Rattle.sgb_ops.specs.Lines.{line_events}
+use Rattle.sgb_ops.specs.inner.Titles.{lines_id}
+use Rattle.sgb_ops.specs.inner.Lines.{names_of_lines}
 use Rattle.sgb_ops.proofs.Results.{made}
 use Rattle.sgb_ops.proofs.line_graphs.graph_of_lines.Goals as goal
 

@@ -1,5 +1,5 @@
 use Rattle.std.proofs.Common.{◌≡◌, ◌++◌, drop}
-use Rattle.sgb_ops.specs.Lines.{names_of_lines}
+use Rattle.sgb_ops.specs.inner.Lines.{names_of_lines}
 use Rattle.sgb_ops.proofs.line_graphs.names_of_lines.Given as goal
 
 -- with the names of the lines that are left, they are all

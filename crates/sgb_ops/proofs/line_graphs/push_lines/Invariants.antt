@@ -1,5 +1,5 @@
 use Rattle.std.proofs.Common.{◌≡◌, ◌++◌, map}
-use Rattle.sgb_ops.specs.Lines.{line_of}
+use Rattle.sgb_ops.specs.inner.Lines.{line_of}
 use Rattle.sgb_ops.specs.Taken.{taken}
 use Rattle.sgb_ops.proofs.line_graphs.push_lines.Given as goal
 

@@ -1,7 +1,7 @@
 use Rattle.std.proofs.Common.{map}
 use Rattle.sgb_graph.specs.Graphs.{chain_of}
 use Rattle.sgb_graph.specs.Vertices.{order_of}
-use Rattle.sgb_ops.specs.Product.{both_step}
+use Rattle.sgb_ops.specs.inner.Steps.{both_step}
 use Rattle.sgb_ops.proofs.Places.{ArcsLeft}
 use Rattle.sgb_ops.proofs.products.add_both_step.Given as goal
 

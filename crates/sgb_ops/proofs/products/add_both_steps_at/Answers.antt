@@ -2,7 +2,7 @@ use Rattle.std.proofs.Common.{map, refl}
 use Rattle.std.specs.List.{flat_map}
 use Rattle.sgb_graph.specs.Graphs.{chain_of}
 use Rattle.sgb_graph.specs.Vertices.{order_of}
-use Rattle.sgb_ops.specs.Product.{both_step}
+use Rattle.sgb_ops.specs.inner.Steps.{both_step}
 use Rattle.sgb_ops.specs.Taken.{taken}
 use Rattle.sgb_ops.proofs.Places.{arcs_first, arc_added, next_tip}
 use Rattle.sgb_ops.proofs.products.add_both_steps_at.Goals as goal

@@ -2,7 +2,7 @@ use Rattle.std.proofs.Common.{map}
 use Rattle.std.specs.List.{flat_map}
 use Rattle.sgb_graph.specs.Graphs.{chain_of}
 use Rattle.sgb_graph.specs.Vertices.{order_of}
-use Rattle.sgb_ops.specs.Product.{both_step, both_steps_at}
+use Rattle.sgb_ops.specs.inner.Steps.{both_step, both_steps_at}
 use Rattle.sgb_ops.proofs.Places.{ArcsLeft}
 use Rattle.sgb_ops.proofs.products.add_both_steps_at.Given as goal
 

@@ -1,7 +1,7 @@
 use Rattle.std.proofs.Common.{arith, refl}
 use Rattle.std.specs.List.{flat_map}
 use Rattle.sgb_graph.specs.Vertices.{order_of}
-use Rattle.sgb_ops.specs.Product.{both_steps_at}
+use Rattle.sgb_ops.specs.inner.Steps.{both_steps_at}
 use Rattle.sgb_ops.proofs.Places.{place_added, places_added}
 use Rattle.sgb_ops.proofs.products.add_both_steps_of_row.Goals as goal
 

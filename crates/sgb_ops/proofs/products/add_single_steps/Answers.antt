@@ -1,5 +1,5 @@
 use Rattle.sgb_graph.proofs.AddedEvents.{adds-then}
-use Rattle.sgb_ops.specs.Product.{steps_along}
+use Rattle.sgb_ops.specs.inner.Steps.{steps_along}
 use Rattle.sgb_ops.specs.declared.products.Axis.TheVariants.{First, Second}
 use Rattle.sgb_ops.proofs.products.add_single_steps.Goals as goal
 

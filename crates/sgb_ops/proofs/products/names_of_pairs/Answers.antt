@@ -2,7 +2,7 @@ use Rattle.std.proofs.Common.{◌+◌, ℕ, List, ap, drop, map}
 use Rattle.std.specs.List.{flat_map}
 use Rattle.sgb_gen.proofs.FamilyWalks.{drop_at_vector}
 use Rattle.sgb_graph.specs.Vertices.{names_of}
-use Rattle.sgb_ops.specs.Titles.{pair_name}
+use Rattle.sgb_ops.specs.inner.Titles.{pair_name}
 use Rattle.sgb_ops.proofs.PlainLists.{part_more}
 use Rattle.sgb_ops.proofs.products.names_of_pairs.Goals as goal
 

@@ -4,7 +4,8 @@ use Rattle.std.proofs.lemmas.Int.{to_z-of_z}
 use Rattle.sgb_vec.specs.Limits.{most_vertices}
 use Rattle.sgb_graph.specs.Descriptions.{IsAnswerOf}
 use Rattle.sgb_graph.specs.Vertices.{order_of}
-use Rattle.sgb_ops.specs.Product.{has_too_many_pairs, product_graph, product_type}
+use Rattle.sgb_ops.specs.Product.{product_type}
+use Rattle.sgb_ops.specs.inner.Pairs.{has_too_many_pairs, product_graph}
 use Rattle.sgb_ops.proofs.Refusals.{few_not_refused, many_refused}
 use Rattle.sgb_ops.proofs.products.product.Goals as goal
 

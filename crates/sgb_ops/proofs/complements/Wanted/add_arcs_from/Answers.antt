@@ -1,6 +1,6 @@
 use Rattle.std.proofs.Common.{◌+◌, arith, subst, refl}
 use Rattle.sgb_graph.specs.Growth.{AddsEvents}
-use Rattle.sgb_ops.specs.Complement.{is_wanted_where}
+use Rattle.sgb_ops.specs.inner.Complement.{is_wanted_where}
 use Rattle.sgb_graph.specs.Vertices.{order_of}
 use Rattle.sgb_ops.proofs.ComplementEvents.{event_to, first_wanted, wanted_to}
 use Rattle.sgb_ops.proofs.PlainLists.{places_from}

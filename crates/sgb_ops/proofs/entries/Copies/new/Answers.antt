@@ -1,6 +1,7 @@
 use Rattle.std.proofs.Common.{◌∙◌, sym, ap, arith}
-use Rattle.sgb_ops.specs.Entries.{merged_count, total_of}
+use Rattle.sgb_ops.specs.Entries.{merged_count}
 use Rattle.sgb_ops.specs.inner.Copies.{first_copies}
+use Rattle.sgb_ops.specs.inner.Entries.{total_of}
 use Rattle.sgb_ops.proofs.SizedEntries.{merged_sized, total_sized}
 use Rattle.sgb_ops.proofs.entries.Copies.new.Goals as goal
 

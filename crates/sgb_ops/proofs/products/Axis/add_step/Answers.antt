@@ -1,7 +1,7 @@
 use Rattle.std.proofs.Common.{map, refl, w64, rules, arith}
 use Rattle.std.proofs.lemmas.Int.{to_z-of_z}
 use Rattle.sgb_graph.specs.Vertices.{order_of}
-use Rattle.sgb_ops.specs.Product.{step_along}
+use Rattle.sgb_ops.specs.inner.Steps.{step_along}
 use Rattle.sgb_ops.proofs.Places.{place_added, places_added, same_event}
 use Rattle.sgb_ops.proofs.products.Axis.add_step.Goals as goal
 

@@ -1,6 +1,6 @@
 use Rattle.std.proofs.Common.{map}
 use Rattle.sgb_graph.specs.Vertices.{order_of}
-use Rattle.sgb_ops.specs.Product.{step_along}
+use Rattle.sgb_ops.specs.inner.Steps.{step_along}
 use Rattle.sgb_ops.proofs.Places.{PlacesLeft}
 use Rattle.sgb_ops.proofs.products.Axis.add_step.Given as goal
 

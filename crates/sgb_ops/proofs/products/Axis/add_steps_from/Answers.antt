@@ -1,7 +1,7 @@
 use Rattle.std.proofs.Common.{map, refl}
 use Rattle.std.specs.List.{flat_map}
 use Rattle.sgb_graph.specs.Vertices.{order_of, places_of}
-use Rattle.sgb_ops.specs.Product.{step_along}
+use Rattle.sgb_ops.specs.inner.Steps.{step_along}
 use Rattle.sgb_ops.specs.Taken.{taken}
 use Rattle.sgb_ops.proofs.Places.{arcs_first, arc_added, next_tip}
 use Rattle.sgb_ops.proofs.products.Axis.add_steps_from.Goals as goal

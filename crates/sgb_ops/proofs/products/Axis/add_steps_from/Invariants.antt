@@ -1,7 +1,7 @@
 use Rattle.std.proofs.Common.{map}
 use Rattle.std.specs.List.{flat_map}
 use Rattle.sgb_graph.specs.Vertices.{order_of, places_of}
-use Rattle.sgb_ops.specs.Product.{step_along, steps_from}
+use Rattle.sgb_ops.specs.inner.Steps.{step_along, steps_from}
 use Rattle.sgb_ops.proofs.Places.{ArcsLeft}
 use Rattle.sgb_ops.proofs.products.Axis.add_steps_from.Given as goal
 

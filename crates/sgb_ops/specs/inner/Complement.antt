@@ -1,0 +1,21 @@
+-- The arcs of a complement from one vertex [GB_BASIC, complement].
+use Rattle.std.specs.Prelude.{ℕ, pos, ◌==◌, Bool, not, ◌&&◌, ◌||◌, List, map, filter, nat_le}
+use Rattle.std.specs.Bool.{beq}
+use Rattle.sgb_graph.specs.Events.{Event}
+use Rattle.sgb_graph.specs.Graphs.{GraphData}
+use Rattle.sgb_graph.specs.Vertices.{places_of}
+use Rattle.sgb_ops.specs.Complement.{has_arc}
+
+-- the result has an arc from u to w, where the operand has one or not
+abbrev pub is_wanted_where : Bool → Bool → Bool → Bool → ℕ → ℕ → Bool
+is_wanted_where arc copy self directed u w =
+    beq arc copy && (self || not (w == u)) && (directed || nat_le u w)
+
+-- the result has an arc from u to w
+abbrev pub is_wanted_arc : GraphData → Bool → Bool → Bool → ℕ → ℕ → Bool
+is_wanted_arc g copy self directed u w = is_wanted_where (has_arc g u w) copy self directed u w
+
+-- the wanted arcs from u in order, each of length 1
+abbrev pub complement_events_from : GraphData → Bool → Bool → Bool → ℕ → List Event
+complement_events_from g copy self directed u =
+    map (λ w. record { from = u; to = w; len = pos 1 }) (filter (is_wanted_arc g copy self directed u) (places_of g))
