@@ -4,7 +4,8 @@ use Rattle.std.proofs.Common.{◌≡◌, ℤ, Bool, List, Box, Global, refl, ◌
 use Rattle.sgb_expr.specs.inner.CodeEntries.{list_of}
 use Rattle.sgb_expr.specs.Listed.{listed}
 use Rattle.sgb_expr.specs.Expression.{Expression, entries_of, entry_of, expression_of, row_entries, EntryThen}
-use Rattle.sgb_expr.specs.Operations.{flag_at, induced_call}
+use Rattle.sgb_expr.specs.Forms.{flag_at}
+use Rattle.sgb_expr.specs.inner.Operations.{induced_call}
 use Rattle.sgb_expr.specs.declared.entries.Entries.{Entries}
 use Rattle.sgb_expr.specs.declared.expressions.Expr.{Expr, Row_of-EntryExpr, end_of-EntryExpr, more_of-EntryExpr, items-the_row-EntryExpr, items_hidden-the_row-EntryExpr-0}
 use Rattle.sgb_expr.specs.declared.expressions.Expr.TheVariants as expr

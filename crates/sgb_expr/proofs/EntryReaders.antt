@@ -6,7 +6,8 @@ use Rattle.std.proofs.lemmas.Bool.Decides.{eqb_tells}
 use Rattle.sgb_expr.specs.Expression.{Expression, Entry}
 use Rattle.sgb_text.specs.Languages.{Fixed, Then, After, As, Or}
 use Rattle.sgb_expr.specs.Numbers.{IsInteger, most_digits}
-use Rattle.sgb_expr.specs.Operations.{IsEntry, AreEntries}
+use Rattle.sgb_expr.specs.Forms.{AreSeparated}
+use Rattle.sgb_expr.specs.inner.Operations.{IsEntry, AreEntries}
 use Rattle.sgb_text.proofs.Readings.{◌>>=◌, either, or_else, then_read, read_as, fixed_at, fixed_as}
 use Rattle.sgb_expr.specs.inner.Readings.{number_at, integer_at}
 use Rattle.sgb_expr.specs.inner.Reading.{entry_at, entries_then, entries_for, entries_at}
@@ -121,20 +122,22 @@ reads_at_most {Inner} {inner} i (suc most) separator is =
 
 -- so many entries are entries
 at_most_are : (Inner : Language Expression) (most : ℕ) (separator word : List ℕ) (entries : List Entry) → AtMost Inner most separator word entries → AreEntries Inner separator word entries
-at_most_are Inner zero separator word entries w = subst (λ (es : List Entry). AreEntries Inner separator word es) (sym w.1) w.0
-at_most_are Inner (suc most) separator word entries (inl w) = subst (λ (es : List Entry). AreEntries Inner separator word es) (sym w.1) w.0
+at_most_are Inner zero separator word entries w = subst (λ (es : List Entry). AreEntries Inner separator word es) (sym w.1) (w.0, refl)
+at_most_are Inner (suc most) separator word entries (inl w) = subst (λ (es : List Entry). AreEntries Inner separator word es) (sym w.1) (w.0, refl)
 at_most_are Inner (suc most) separator word entries (inr w) =
     let t = w.2 in
-    let whole : word ≡ separator ++ t.0 ++ t.1 = w.1 ∙ ap (λ u. separator ++ u) t.3 ∙ sym (append_assoc separator t.0 t.1) in
-    subst (λ (es : List Entry). AreEntries Inner separator word es) (sym t.5.2) (t.0, t.1, whole, t.4, at_most_are Inner most (codes ",") t.1 t.5.0 t.5.1)
+    subst (λ (es : List Entry). AreEntries Inner separator word es) (sym t.5.2)
+    (w.0, w.1, (t.0, t.1, t.2, t.3, t.4, (t.5.0, at_most_are Inner most (codes ",") t.1 t.5.0 t.5.1, refl)))
 
 -- entries are so many at most
-are_at_most : (Inner : Language Expression) (most : ℕ) (separator word : List ℕ) (entries : List Entry) → length entries ≤ most → AreEntries Inner separator word entries → AtMost Inner most separator word entries
-are_at_most Inner zero separator word [] h w = (w, refl)
-are_at_most Inner (suc most) separator word [] h w = inl (w, refl)
-are_at_most Inner zero separator word (entry ∷ entries) h w = absurd (omega (arith, h))
-are_at_most Inner (suc most) separator word (entry ∷ entries) h w =
-    inr (w.0 ++ w.1, w.2 ∙ append_assoc separator w.0 w.1, (w.0, w.1, entry, refl, w.3, (entries, are_at_most Inner most (codes ",") w.1 entries (omega (arith, h)) w.4, refl)))
+are_at_most : (Inner : Language Expression) (n most : ℕ) (separator word : List ℕ) (entries : List Entry) → n ≤ most → AreSeparated (IsEntry Inner) separator n (codes "]") word entries
+    → AtMost Inner most separator word entries
+are_at_most Inner zero zero separator word entries h w = w
+are_at_most Inner zero (suc most) separator word entries h w = inl w
+are_at_most Inner (suc n) zero separator word entries h w = absurd (omega (arith, h))
+are_at_most Inner (suc n) (suc most) separator word entries h w =
+    let t = w.2 in
+    inr (w.0, w.1, (t.0, t.1, t.2, t.3, t.4, (t.5.0, are_at_most Inner n most (codes ",") t.1 t.5.0 (omega (arith, h)) t.5.1, t.5.2)))
 
 -- what a reader leaves is no longer than the text
 abbrev pub Shortens : Reader Expression → Type 0
@@ -196,14 +199,16 @@ pub reads_entries : {Inner : Language Expression} {inner : Reader Expression} �
 reads_entries {Inner} {inner} i separator is =
     reads_all (λ n. AtMost Inner (suc n) separator) (λ n. entries_for inner (suc n) separator) (λ n. reads_at_most i (suc n) separator is)
     (λ n word value w. at_most_are Inner (suc n) separator word value w)
-    (λ word value w. (length value, λ n h. are_at_most Inner (suc n) separator word value (omega (arith, h)) w))
+    (λ word value w. (length value, λ n h. are_at_most Inner (length value) (suc n) separator word value (omega (arith, h)) w))
     (λ n text h. entries_enough inner (no_longer i.reads) n separator text h)
 
 -- with more expressions there are more entries
-pub entries_more : (Less More : Language Expression) → Within Less More → (separator word : List ℕ) (entries : List Entry) → AreEntries Less separator word entries → AreEntries More separator word entries
-entries_more Less More h separator word [] w = w
-entries_more Less More h separator word (entry ∷ entries) w =
-    (w.0, w.1, w.2, entry_more w.0 entry w.3, entries_more Less More h (codes ",") w.1 entries w.4)
+pub entries_more : (Less More : Language Expression) → Within Less More → (n : ℕ) (separator word : List ℕ) (entries : List Entry) → AreSeparated (IsEntry Less) separator n (codes "]") word entries
+    → AreSeparated (IsEntry More) separator n (codes "]") word entries
+entries_more Less More h zero separator word entries w = w
+entries_more Less More h (suc n) separator word entries w =
+    let t = w.2 in
+    (w.0, w.1, (t.0, t.1, t.2, t.3, entry_more t.0 t.2 t.4, (t.5.0, entries_more Less More h n (codes ",") t.1 t.5.0 t.5.1, t.5.2)))
   where
     entry_more : (text : List ℕ) (one : Entry) → IsEntry Less text one → IsEntry More text one
     entry_more text one (inl v) = inl v

@@ -1,15 +1,16 @@
 -- The forms of names: languages made of that of the expressions inside, and their readers, made of the reader of these.
-use Rattle.std.proofs.Common.{ℕ, List, [], codes, Result, Ok, refl, ◌∙◌, ap, arith}
+use Rattle.std.proofs.Common.{ℕ, ℤ, List, [], length, codes, Result, Ok, refl, ◌∙◌, ap, arith}
 use Rattle.sgb_expr.specs.Expression.{Expression}
-use Rattle.sgb_expr.specs.Forms.{AreNumbers}
+use Rattle.sgb_expr.specs.Forms.{AreArguments, flag_at, nth_number}
 use Rattle.sgb_text.specs.Languages.{Then, After, As}
-use Rattle.sgb_expr.specs.Operations.{AreEntries, AreOperands, IsCallOf, IsEntryList, complement_call, gunion_call, intersection_call, product_call, lines_call, induced_call, bi_complete_call, wheel_call}
+use Rattle.sgb_expr.specs.Operations.{AreOperands, IsCallOf, IsEntryList}
+use Rattle.sgb_expr.specs.inner.Operations.{AreEntries, AreTwoGraphs, Operands, complement_call, lines_call, induced_call, bi_complete_call, wheel_call}
 use Rattle.sgb_text.proofs.Readings.{◌>>=◌, then_read, read_after, read_as, fixed_at}
 use Rattle.sgb_expr.specs.inner.Readings.{integers_at}
 use Rattle.sgb_expr.specs.inner.Reading.{arguments_with, entries_at, entry_list_at, operands_with}
 use Rattle.sgb_expr.specs.declared.names.FormName.{FormName}
 use Rattle.sgb_expr.specs.declared.names.FormName.TheVariants.{Generator, Complement, Gunion, Intersection, Lines, Product, Induced, BiComplete, Wheel, Stdin}
-use Rattle.sgb_text.proofs.Readers.{Anything, Reads, reads_then, reads_as}
+use Rattle.sgb_text.proofs.Readers.{Anything, Reads, reads_then, reads_as, reads_is}
 use Rattle.sgb_text.proofs.Words.{reads_after, reads_fixed}
 use Rattle.sgb_text.proofs.Lengths.{Language, Reader, Within, Agree, no_longer, fixed_takes, bind_agrees}
 use Rattle.sgb_expr.proofs.GeneratorReaders.{close_end, reads_generator, reads_integers}
@@ -69,22 +70,43 @@ form_as {V} {W} {Word} {read} k f = record {
   agrees = λ Inner inner other n r h text short. ap (λ (s : Result (V × List ℕ) ℕ). s >>= λ x. Ok (k x.0, x.1)) (f.agrees Inner inner other n r h text short);
 }
 
+-- with the same words
+form_is : {V : Type 0} {Word Other : Language Expression → Language V} {read : Reader Expression → Reader V} → ((Inner : Language Expression) → Within (Word Inner) (Other Inner))
+    → ((Inner : Language Expression) → Within (Other Inner) (Word Inner)) → Form Word read → Form Other read
+form_is to from f = record {
+  reads = λ Inner inner r. reads_is (to Inner) (from Inner) (f.reads Inner inner r);
+  more = λ Less More h word value w. to More word value (f.more Less More h word value (from Less word value w));
+  agrees = f.agrees;
+}
+
 -- two graphs, and two integers after them
-operands_form : Form AreOperands operands_with
-operands_form =
+two_graphs_form : Form AreTwoGraphs operands_with
+two_graphs_form =
     form_then inside (λ first. form_after (codes ",") (form_then inside (λ second.
     plain (reads_as (λ numbers. record { first = first; second = second; numbers = numbers }) (reads_integers (codes ",") 2 (codes ")") close_end)))))
+
+-- as what is made of them
+operands_form : (make : Expression → Expression → List ℤ → Expression) → Form (λ Inner. AreOperands Inner make) (λ inner. read_as (λ (o : Operands). make o.first o.second o.numbers) (operands_with inner))
+operands_form make =
+    form_is (λ Inner word e w.
+    let t = w.1 in
+    let u = t.5.2 in
+    (t.0, t.1, t.2, t.3, t.4, (t.5.0, t.5.1, (u.0, u.1, u.2, u.3, u.4, (u.5.0, u.5.1, w.2 ∙ ap (λ (o : Operands). make o.first o.second o.numbers) u.5.2)))))
+    (λ Inner word e w.
+    let u = w.5.2 in
+    (record { first = w.2; second = u.2; numbers = u.5.0 }, (w.0, w.1, w.2, w.3, w.4, (w.5.0, w.5.1, (u.0, u.1, u.2, u.3, u.4, (u.5.0, u.5.1, refl)))), u.5.2))
+    (form_as (λ (o : Operands). make o.first o.second o.numbers) two_graphs_form)
 
 -- entries in brackets
 entries_form : Form (λ Inner. AreEntries Inner []) (λ inner. entries_at inner [])
 entries_form = record {
   reads = λ Inner inner r. reads_entries r [] none_before;
-  more = λ Less More h word value w. entries_more Less More h [] word value w;
+  more = λ Less More h word value w. entries_more Less More h (length value) [] word value w;
   agrees = λ Inner inner other n r h text short. entries_agree r h [] text short;
 }
 
 -- a graph, entries and three integers
-induced_form : (graph : Expression) → Form (λ Inner. After (codes ",") (Then (IsEntryList Inner) (λ entries. As (induced_call graph entries) (AreNumbers (codes ",") 3 (codes ")"))))) (λ inner. read_after (codes ",") (then_read (entry_list_at inner) (λ entries. read_as (induced_call graph entries) (integers_at (codes ",") 3 (codes ")")))))
+induced_form : (graph : Expression) → Form (λ Inner. After (codes ",") (Then (IsEntryList Inner) (λ entries. As (induced_call graph entries) (AreArguments (codes ",") 3)))) (λ inner. read_after (codes ",") (then_read (entry_list_at inner) (λ entries. read_as (induced_call graph entries) (integers_at (codes ",") 3 (codes ")")))))
 induced_form graph =
     form_after (codes ",") (form_then (form_after (codes "[") entries_form) (λ entries.
     plain (reads_as (induced_call graph entries) (reads_integers (codes ",") 3 (codes ")") close_end))))
@@ -93,10 +115,10 @@ induced_form graph =
 pub form_of : (name : FormName) → Form (λ Inner. IsCallOf Inner name) (λ inner. arguments_with inner name)
 form_of (Generator name) = plain (reads_as Expression.Generated (reads_generator name))
 form_of Complement = form_then inside (λ graph. plain (reads_as (complement_call graph) (reads_integers (codes ",") 3 (codes ")") close_end)))
-form_of Gunion = form_as gunion_call operands_form
-form_of Intersection = form_as intersection_call operands_form
+form_of Gunion = operands_form (λ first second numbers. Expression.Gunion first second (flag_at numbers 0) (flag_at numbers 1))
+form_of Intersection = operands_form (λ first second numbers. Expression.Intersection first second (flag_at numbers 0) (flag_at numbers 1))
 form_of Lines = form_then inside (λ graph. plain (reads_as (lines_call graph) (reads_integers (codes ",") 1 (codes ")") close_end)))
-form_of Product = form_as product_call operands_form
+form_of Product = operands_form (λ first second numbers. Expression.Product first second (nth_number numbers 0) (flag_at numbers 1))
 form_of Induced = form_then inside induced_form
 form_of BiComplete = plain (reads_as bi_complete_call (reads_integers [] 3 (codes ")") close_end))
 form_of Wheel = plain (reads_as wheel_call (reads_integers [] 3 (codes ")") close_end))

@@ -2,7 +2,8 @@
 use Rattle.std.proofs.Common.{◌≤◌, ℕ, ℤ, zero, suc, List, [], ◌∷◌, ◌++◌, codes, sym, subst, lit≤}
 use Rattle.std.specs.Char.{digit_value}
 use Rattle.sgb_gen.specs.Shorthands.{complete, transitive, empty, circuit, cycle, disjoint_subsets, petersen}
-use Rattle.sgb_expr.specs.Forms.{AreNumbers, IsGeneratorCall, nth_number, board_params, simplex_params, subsets_params}
+use Rattle.sgb_expr.specs.Numbers.{IsInteger}
+use Rattle.sgb_expr.specs.Forms.{AreArguments, AreSeparated, IsGeneratorCall, nth_number, board_params, simplex_params, subsets_params}
 use Rattle.sgb_text.specs.Languages.{As}
 use Rattle.sgb_text.proofs.Readings.{read_as}
 use Rattle.sgb_expr.specs.inner.Readings.{integers_at}
@@ -30,12 +31,12 @@ end_clear end tail comma_end = clear_byte 44 tail (lit≤ tt)
 end_clear end tail close_end = clear_byte 41 tail (lit≤ tt)
 
 -- what follows an integer in a list
-numbers_clear : (n : ℕ) (end word tail : List ℕ) (numbers : List ℤ) → IsEnd end → AreNumbers (codes ",") n end word numbers → Clear (word ++ tail)
+numbers_clear : (n : ℕ) (end word tail : List ℕ) (numbers : List ℤ) → IsEnd end → AreSeparated IsInteger (codes ",") n end word numbers → Clear (word ++ tail)
 numbers_clear zero end word tail numbers is a = subst (λ (u : List ℕ). Clear (u ++ tail)) (sym a.0) (end_clear end tail is)
 numbers_clear (suc n) end word tail numbers is a = subst (λ (u : List ℕ). Clear (u ++ tail)) (sym a.1) (clear_byte 44 (a.0 ++ tail) (lit≤ tt))
 
 -- a reader of integers one after another
-pub reads_integers : (separator : List ℕ) (n : ℕ) (end : List ℕ) → IsEnd end → Reads (AreNumbers separator n end) Anything (integers_at separator n end)
+pub reads_integers : (separator : List ℕ) (n : ℕ) (end : List ℕ) → IsEnd end → Reads (AreSeparated IsInteger separator n end) Anything (integers_at separator n end)
 reads_integers separator zero end is = reads_fixed [] end
 reads_integers separator (suc n) end is =
     reads_after separator (reads_cons reads_integer (reads_integers (codes ",") n end is) (λ word tail numbers w t. numbers_clear n end word tail numbers is w))
@@ -49,7 +50,7 @@ reads_subsets =
     (λ v word tail value w t. tt)
 
 -- a form of n integers
-reads_as_integers : (n : ℕ) (make : List ℤ → Generator) → Reads (As make (AreNumbers [] n (codes ")"))) Anything (read_as make (integers_at [] n (codes ")")))
+reads_as_integers : (n : ℕ) (make : List ℤ → Generator) → Reads (As make (AreArguments [] n)) Anything (read_as make (integers_at [] n (codes ")")))
 reads_as_integers n make = reads_as make (reads_integers [] n (codes ")") close_end)
 
 -- a reader of the arguments of each generator's form

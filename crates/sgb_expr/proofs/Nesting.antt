@@ -3,10 +3,11 @@ use Rattle.std.proofs.Common.{◌≡◌, ◌≤◌, ◌<◌, ◌&&◌, ℕ, zero
 use Rattle.std.proofs.lemmas.Bool.{and_parts, cases_lt}
 use Rattle.sgb_expr.specs.Expression.{Expression}
 use Rattle.sgb_expr.specs.Expressions.{IsNested}
-use Rattle.sgb_text.specs.Languages.{Then}
+use Rattle.sgb_text.specs.Languages.{As, Then}
 use Rattle.sgb_expr.specs.Names.{name_opening}
 use Rattle.sgb_expr.specs.inner.Names.{all_names, all_generator_names, generator_openings, openings}
-use Rattle.sgb_expr.specs.Operations.{IsCallOf, IsGenerator}
+use Rattle.sgb_expr.specs.Forms.{IsGeneratorCall}
+use Rattle.sgb_expr.specs.Operations.{IsCallOf}
 use Rattle.sgb_text.proofs.Readings.{then_read, word_at}
 use Rattle.sgb_expr.specs.inner.Reading.{arguments_with, expression_at, nested_at}
 use Rattle.sgb_expr.specs.declared.names.GeneratorName.{GeneratorName}
@@ -111,11 +112,11 @@ opening_shorter text name rest e =
     omega (arith, some, ap length f.whole, length-append f.word rest)
 
 -- expressions in which no operation stands
-generator_is : (text : List ℕ) (e : Expression) → Then (IsWord generator_openings) IsGenerator text e → IsNested 0 text e
+generator_is : (text : List ℕ) (e : Expression) → Then (IsWord generator_openings) (λ name. As Expression.Generated (IsGeneratorCall name)) text e → IsNested 0 text e
 unfolding generator_openings
 generator_is text e h = (h.2, (h.1, h.3 ∙ ap (λ u. u ++ h.1) (opening_is (λ name. name_opening (Generator name)) all_generator_names h.0 h.2 h.4), h.5))
 
-generator_from : (text : List ℕ) (e : Expression) → IsNested 0 text e → Then (IsWord generator_openings) IsGenerator text e
+generator_from : (text : List ℕ) (e : Expression) → IsNested 0 text e → Then (IsWord generator_openings) (λ name. As Expression.Generated (IsGeneratorCall name)) text e
 generator_from text e (name, (arguments, parts, is)) = (name_opening (Generator name), arguments, name, parts, generator_is_there name, is)
 
 -- expressions in which operations may stand

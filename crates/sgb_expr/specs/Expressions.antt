@@ -1,8 +1,9 @@
 -- The expressions that name a graph, in GraphBase's official names; which texts are too large to be read.
 use Rattle.std.specs.Prelude.{◌≤◌, ◌<◌, ◌+◌, ◌⊎◌, ◌==◌, ℕ, zero, suc, List, length, take, count_by, Result, Ok, Err}
-use Rattle.sgb_expr.specs.Expression.{Expression, expression_of}
-use Rattle.sgb_text.specs.Languages.{After, IsLongestPrefixOf, IsNoWord}
-use Rattle.sgb_expr.specs.Operations.{IsGenerator, IsCallOf}
+use Rattle.sgb_expr.specs.Expression.{Expression, Generated, expression_of}
+use Rattle.sgb_text.specs.Languages.{After, As, IsLongestPrefixOf, IsNoWord}
+use Rattle.sgb_expr.specs.Forms.{IsGeneratorCall}
+use Rattle.sgb_expr.specs.Operations.{IsCallOf}
 use Rattle.sgb_expr.specs.Names.{name_opening}
 use Rattle.sgb_expr.specs.declared.expressions.Expr.{Expr}
 use Rattle.sgb_expr.specs.declared.expressions.Unread.{Unread}
@@ -22,39 +23,30 @@ most_depth = 64
 -- the text is this expression, in which operations stand one in another at most so deep: a name, with a `(` where its form has
 -- arguments, and these with `)`
 abbrev pub IsNested : ℕ → List ℕ → Expression → Type 0
-IsNested zero text e = (name : GeneratorName) × After (name_opening (form.Generator name)) (IsGenerator name) text e
+IsNested zero text e = (name : GeneratorName) × After (name_opening (form.Generator name)) (As Generated (IsGeneratorCall name)) text e
 IsNested (suc depth) text e = (name : FormName) × After (name_opening name) (IsCallOf (IsNested depth) name) text e
 
 -- the text is this expression
 abbrev pub IsExpression : List ℕ → Expression → Type 0
 IsExpression text e = (depth : ℕ) × IsNested depth text e
 
--- how many `(` (40) and how many `)` (41)
-abbrev pub opened_count : List ℕ → ℕ
-opened_count text = count_by (λ byte. byte == 40) text
-
-abbrev pub closed_count : List ℕ → ℕ
-closed_count text = count_by (λ byte. byte == 41) text
-
--- some prefix of the text has over 64 more `(` than `)`
+-- some prefix of the text has over 64 more `(` (40) than `)` (41)
 abbrev pub IsDeep : List ℕ → Type 0
-IsDeep text = (k : ℕ) × (k ≤ length text) × (closed_count (take k text) + most_depth < opened_count (take k text))
+IsDeep text =
+    (k : ℕ) × (k ≤ length text)
+    × (count_by (λ byte. byte == 41) (take k text) + most_depth < count_by (λ byte. byte == 40) (take k text))
 
 -- the text is too large, whatever it says
 abbrev pub IsTooLarge : List ℕ → Type 0
 IsTooLarge text = (most_expression_bytes < length text) ⊎ IsDeep text
 
--- why a text of a language is not read: too large before all else, then no word, with the length of the longest prefix that
--- begins one; or out of memory, where reading takes some
-abbrev pub IsUnread : {V : Type 0} → (List ℕ → V → Type 0) → (memory : Type 0) → List ℕ → Unread → Type 0
-IsUnread Word memory text unread.TooLarge = IsTooLarge text
-IsUnread Word memory text (unread.At k) = (IsTooLarge text → ⊥) × IsNoWord Word text × IsLongestPrefixOf Word text k
-IsUnread Word memory text unread.NoRoom = memory
-
--- the text is read as this, the word of which it stands for, or not read for this cause
+-- the text is read as this, the word of which it stands for, or not read for this cause: too large before all else, then no
+-- word, with the length of the longest prefix that begins one; or out of memory, where reading takes some
 abbrev pub IsTextRead : {V T : Type 0} → (List ℕ → V → Type 0) → (memory : Type 0) → (T → V) → List ℕ → Result T Unread → Type 0
 IsTextRead Word memory stands_for text (Ok x) = (IsTooLarge text → ⊥) × Word text (stands_for x)
-IsTextRead Word memory stands_for text (Err cause) = IsUnread Word memory text cause
+IsTextRead Word memory stands_for text (Err unread.TooLarge) = IsTooLarge text
+IsTextRead Word memory stands_for text (Err (unread.At k)) = (IsTooLarge text → ⊥) × IsNoWord Word text × IsLongestPrefixOf Word text k
+IsTextRead Word memory stands_for text (Err unread.NoRoom) = memory
 
 -- the text is read as this expression, or not read for this cause
 abbrev pub IsExpressionRead : List ℕ → Result Expr Unread → Type 0

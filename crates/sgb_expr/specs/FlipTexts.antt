@@ -1,5 +1,5 @@
 -- The texts that ask for numbers of the random generator [GB_FLIP]: flip(START,SKIP,COUNT,M).
-use Rattle.std.specs.Prelude.{ℕ, ℤ, List, codes, Result}
+use Rattle.std.specs.Prelude.{ℕ, ℤ, List, [], codes, Result}
 use Rattle.sgb_expr.specs.Expressions.{IsTextRead}
 use Rattle.sgb_expr.specs.Forms.{AreArguments, nth_number}
 use Rattle.sgb_text.specs.Languages.{After, As}
@@ -17,7 +17,7 @@ flip_of numbers = record {
 
 -- the text asks for these
 abbrev pub IsFlip : List ℕ → FlipParams → Type 0
-IsFlip = After (codes "flip(") (As flip_of (AreArguments 4))
+IsFlip = After (codes "flip(") (As flip_of (AreArguments [] 4))
 
 -- the text is read as these parameters, or not read for this cause, which is never want of memory
 abbrev pub IsFlipRead : List ℕ → Result FlipParams Unread → Type 0

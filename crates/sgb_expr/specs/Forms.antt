@@ -1,5 +1,5 @@
 -- What the generators' forms mean: the arguments of each, and the graph that they name.
-use Rattle.std.specs.Prelude.{ℕ, ℤ, pos, negsuc, zero, suc, Bool, true, false, List, [], codes}
+use Rattle.std.specs.Prelude.{ℕ, ℤ, pos, zero, suc, Bool, true, false, List, [], codes}
 use Rattle.std.specs.List.{slice_index_or}
 use Rattle.sgb_text.specs.Languages.{After, As, Cons, Fixed, Then}
 use Rattle.sgb_gen.specs.Shorthands.{complete, transitive, empty, circuit, cycle, disjoint_subsets, petersen}
@@ -15,12 +15,15 @@ use Rattle.sgb_expr.specs.declared.names.GeneratorName.TheVariants.{Board, Simpl
 -- an integer taken as a flag: true where it is not zero
 abbrev pub flag_of : ℤ → Bool
 flag_of (pos zero) = false
-flag_of (pos (suc n)) = true
-flag_of (negsuc n) = true
+flag_of _ = true
 
 -- integer number k of some, counted from 0
 abbrev pub nth_number : List ℤ → ℕ → ℤ
 nth_number numbers k = slice_index_or numbers k (pos 0)
+
+-- the same as a flag
+abbrev pub flag_at : List ℤ → ℕ → Bool
+flag_at numbers k = flag_of (nth_number numbers k)
 
 -- board(n1,n2,n3,n4,piece,wrap,directed)
 abbrev pub board_params : List ℤ → BoardParams
@@ -31,7 +34,7 @@ board_params numbers = record {
   n4 = nth_number numbers 3;
   piece = nth_number numbers 4;
   wrap = nth_number numbers 5;
-  directed = flag_of (nth_number numbers 6);
+  directed = flag_at numbers 6;
 }
 
 -- simplex(n,n0,n1,n2,n3,n4,directed)
@@ -43,7 +46,7 @@ simplex_params numbers = record {
   n2 = nth_number numbers 3;
   n3 = nth_number numbers 4;
   n4 = nth_number numbers 5;
-  directed = flag_of (nth_number numbers 6);
+  directed = flag_at numbers 6;
 }
 
 -- subsets(n,n0,n1,n2,n3,n4,size_bits,directed)
@@ -59,26 +62,26 @@ subsets_params numbers size_bits directed = record {
   directed = flag_of directed;
 }
 
--- n integers, each after a separator, which is `,` from the second on, and then this end
-abbrev pub AreNumbers : List ℕ → ℕ → List ℕ → List ℕ → List ℤ → Type 0
-AreNumbers separator zero end = Fixed [] end
-AreNumbers separator (suc n) end = After separator (Cons IsInteger (AreNumbers (codes ",") n end))
+-- n words of a language, each after a separator, which is `,` from the second on, and then this end
+abbrev pub AreSeparated : {V : Type 0} → (List ℕ → V → Type 0) → List ℕ → ℕ → List ℕ → List ℕ → List V → Type 0
+AreSeparated Word separator zero end = Fixed [] end
+AreSeparated Word separator (suc n) end = After separator (Cons Word (AreSeparated Word (codes ",") n end))
 
--- n integers in an argument list, to its `)`
-abbrev pub AreArguments : ℕ → List ℕ → List ℤ → Type 0
-AreArguments n = AreNumbers [] n (codes ")")
+-- n integers in an argument list, the first of them after this separator, to its `)`
+abbrev pub AreArguments : List ℕ → ℕ → List ℕ → List ℤ → Type 0
+AreArguments separator n = AreSeparated IsInteger separator n (codes ")")
 
 -- the text is the arguments of the generator's form of this name, to its `)`, and with them it names this graph
 abbrev pub IsGeneratorCall : GeneratorName → List ℕ → Generator → Type 0
-IsGeneratorCall Board = As (λ numbers. generator.Board (board_params numbers)) (AreArguments 7)
-IsGeneratorCall Simplex = As (λ numbers. generator.Simplex (simplex_params numbers)) (AreArguments 7)
+IsGeneratorCall Board = As (λ numbers. generator.Board (board_params numbers)) (AreArguments [] 7)
+IsGeneratorCall Simplex = As (λ numbers. generator.Simplex (simplex_params numbers)) (AreArguments [] 7)
 IsGeneratorCall Subsets =
-    Then (AreNumbers [] 6 (codes ",")) (λ numbers. Then IsBits (λ size_bits.
-    As (λ directed. generator.Subsets (subsets_params numbers size_bits (nth_number directed 0))) (AreNumbers (codes ",") 1 (codes ")"))))
-IsGeneratorCall Complete = As (λ numbers. generator.Board (complete (nth_number numbers 0))) (AreArguments 1)
-IsGeneratorCall Transitive = As (λ numbers. generator.Board (transitive (nth_number numbers 0))) (AreArguments 1)
-IsGeneratorCall Empty = As (λ numbers. generator.Board (empty (nth_number numbers 0))) (AreArguments 1)
-IsGeneratorCall Circuit = As (λ numbers. generator.Board (circuit (nth_number numbers 0))) (AreArguments 1)
-IsGeneratorCall Cycle = As (λ numbers. generator.Board (cycle (nth_number numbers 0))) (AreArguments 1)
-IsGeneratorCall DisjointSubsets = As (λ numbers. generator.Subsets (disjoint_subsets (nth_number numbers 0) (nth_number numbers 1))) (AreArguments 2)
-IsGeneratorCall Petersen = As (λ numbers. generator.Subsets petersen) (AreArguments 0)
+    Then (AreSeparated IsInteger [] 6 (codes ",")) (λ numbers. Then IsBits (λ size_bits.
+    As (λ directed. generator.Subsets (subsets_params numbers size_bits (nth_number directed 0))) (AreArguments (codes ",") 1)))
+IsGeneratorCall Complete = As (λ numbers. generator.Board (complete (nth_number numbers 0))) (AreArguments [] 1)
+IsGeneratorCall Transitive = As (λ numbers. generator.Board (transitive (nth_number numbers 0))) (AreArguments [] 1)
+IsGeneratorCall Empty = As (λ numbers. generator.Board (empty (nth_number numbers 0))) (AreArguments [] 1)
+IsGeneratorCall Circuit = As (λ numbers. generator.Board (circuit (nth_number numbers 0))) (AreArguments [] 1)
+IsGeneratorCall Cycle = As (λ numbers. generator.Board (cycle (nth_number numbers 0))) (AreArguments [] 1)
+IsGeneratorCall DisjointSubsets = As (λ numbers. generator.Subsets (disjoint_subsets (nth_number numbers 0) (nth_number numbers 1))) (AreArguments [] 2)
+IsGeneratorCall Petersen = As (λ numbers. generator.Subsets petersen) (AreArguments [] 0)

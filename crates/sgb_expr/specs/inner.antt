@@ -7,6 +7,8 @@ pub mod FlipTexts
 pub mod Gives
 -- all names, and what each begins with
 pub mod Names
+-- what the steps of reading an operation speak of
+pub mod Operations
 -- reading an expression: its name, and then its form
 pub mod Reading
 -- reading numbers from the beginning of a text

@@ -5,7 +5,7 @@ ghost use Rattle.sgb_expr.specs.Expression.{entry_of, expression_of};
 ghost use Rattle.sgb_expr.specs.inner.Gives.{Finds, Gives};
 ghost use Rattle.sgb_expr.specs.inner.TwoGraphs.{operands_of};
 ghost use Rattle.sgb_expr.specs.declared.wrong.Wrong.TheVariants.{NoRoom};
-ghost use Rattle.sgb_expr.specs.Operations.{bi_complete_call, gunion_call, induced_call, intersection_call, product_call, wheel_call};
+ghost use Rattle.sgb_expr.specs.inner.Operations.{bi_complete_call, gunion_call, induced_call, intersection_call, product_call, wheel_call};
 ghost use Rattle.sgb_text.proofs.Readings.{read_as};
 ghost use Rattle.sgb_expr.specs.inner.Readings.{integers_at};
 ghost use Rattle.sgb_expr.specs.inner.Reading.{arguments_with, complement_with, entry_at, entry_list_at, expression_at, induced_with, lines_with, operands_with};

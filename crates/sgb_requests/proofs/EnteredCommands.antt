@@ -11,8 +11,8 @@ use Rattle.clap.specs.Walk.{answers_to, nothing_held, stop_after, walk_from}
 use Rattle.clap.specs.Words.{App, FailsBy, HasKind, HasMatchesOf, Row, Rule, Shape, Text, built, fault_of, first_of, is_simple_and_free, subcommand_name_of, subcommand_of, subcommand_rows_of}
 use Rattle.clap.specs.declared.error.Error.{Error}
 use Rattle.clap.specs.declared.parser.matches.ArgMatches.{ArgMatches}
-use Rattle.sgb_requests.specs.CommandLine.{AsksAlone, Enters, HasNoCommand, alone_shape, asked_by, called_by, command_line, output_shape}
-use Rattle.sgb_requests.specs.inner.CommandLine.{IsTaken}
+use Rattle.sgb_requests.specs.CommandLine.{Enters, alone_shape, command_line, output_shape}
+use Rattle.sgb_requests.specs.inner.CommandLine.{HasNoCommand, IsTaken}
 use Rattle.sgb_requests.proofs.ClapValues.{name_by_rows, or_false, pair_is}
 use Rattle.sgb_requests.proofs.ClapHelp.{IsNotHelp, walk_stops}
 use Rattle.sgb_requests.proofs.ClapRequired.{each_valued, is_valued, none_first, none_second, required_first}
@@ -174,20 +174,17 @@ has_expression words m name rows other is named has =
     expression_there (name, rows) (λ queen. true≢false (sym ((bytes_eq-Decides name (codes "queen")).1 queen) ∙ other)) (which_entered _ (commands_entered words _ is.taken (entered_is words m _ rows is named has)))
 
 -- the command of these matches is entered
-pub enters : (words : List Text) (m : ArgMatches) (name : Text) → IsTaken words m → subcommand_name_of m ≡ Some name → Enters words name
-enters words m name is named = record {
-  taken = is.taken;
-  entered = ap (option_map (λ (p : Text × List Row). p.0)) (sym is.entered) ∙ sym (name_by_rows m) ∙ named;
-}
+pub enters : (words : List Text) (m : ArgMatches) (name : Text) (rows : List Row) → IsTaken words m → subcommand_name_of m ≡ Some name → option_map (λ p. p.1) (subcommand_rows_of m) ≡ Some rows
+    → Enters words name rows
+enters words m name rows is named has = record { taken = is.taken; entered = entered_is words m name rows is named has }
 
--- the command of these matches, which takes an expression alone, is asked with this one
-pub asks_alone : (words : List Text) (m : ArgMatches) (name : Text) (rows : List Row) (text : Text) → IsTaken words m → subcommand_name_of m ≡ Some name
-    → option_map (λ p. p.1) (subcommand_rows_of m) ≡ Some rows → first_of (codes "EXPR") rows ≡ Some text → AsksAlone words name text
-asks_alone words m name rows text is named has first = record {
-  taken = is.taken;
-  called =
-      ap (option_map called_by) (entered_is words m name rows is named has) ∙ ap (λ (text : Option Text). Some (name, text)) first;
-}
+-- by its name, with some matches
+pub enters_some : (words : List Text) (m : ArgMatches) (name : Text) → IsTaken words m → subcommand_name_of m ≡ Some name → (rows : List Row) × Enters words name rows
+enters_some words m name is named = go (subcommand_rows_of m) refl (sym (name_by_rows m) ∙ named)
+  where
+    go : (o : Option (Text × List Row)) → subcommand_rows_of m ≡ o → option_map (λ p. p.0) o ≡ Some name → (rows : List Row) × Enters words name rows
+    go (Some p) e first = (p.1, enters words m name p.1 is named (ap (option_map (λ (p : Text × List Row). p.1)) e))
+    go None e first = cc
 
 -- where none of the commands is entered, no command is
 pub not_called : (words : List Text) (m : ArgMatches) → IsTaken words m → (subcommand_name_of m ≡ Some (codes "names") → ⊥)
@@ -196,7 +193,7 @@ pub not_called : (words : List Text) (m : ArgMatches) → IsTaken words m → (s
 not_called words m is no_names no_list no_save no_queen no_flip = go (subcommand_of command_line words) refl
   where
     go : (o : Option (Text × List Row)) → subcommand_of command_line words ≡ o → HasNoCommand words
-    go None e = inr (ap (option_map asked_by) e)
+    go None e = inr e
     go (Some p) e = absurd (which (which_entered p (commands_entered words p is.taken e)))
       where
         named : subcommand_name_of m ≡ Some p.0

@@ -5,8 +5,9 @@ use Rattle.clap.specs.Kinds.{Kinds}
 use Rattle.clap.specs.Walk.{bundle_met, walked}
 use Rattle.clap.specs.Words.{Text, fault_of}
 use Rattle.clap.specs.declared.error.kind.ErrorKind.TheVariants as kind
-use Rattle.sgb_requests.specs.CommandLine.{Asked, asked_of, command_line}
-use Rattle.sgb_requests.specs.Counts.{IsDigits}
+use Rattle.sgb_requests.specs.CommandLine.{command_line}
+use Rattle.sgb_requests.specs.inner.CommandLine.{Asked, asked_of}
+use Rattle.sgb_expr.specs.Numbers.{IsNumber, most_digits}
 use Rattle.sgb_requests.specs.Reading.{IsFlipReadAs, IsReadAs}
 use Rattle.sgb_requests.specs.Requests.{IsCommandLineReadAs, IsRequest}
 use Rattle.sgb_expr.specs.declared.expressions.Expr.{Expr}
@@ -66,14 +67,14 @@ list_board e read =
     (list_law _ _ _ (After (codes "0.1")) (Ok (request.List e (After (codes "0.1")))) (expression_plain _ e read) (letter 48 refl, refl)).1 (e, read, refl)
 
 -- `007` is 7
-seven : IsDigits (codes "007")
-seven = record { numeral = (omega arith, (omega arith, (omega arith, (omega arith, tt)))); short = omega arith }
+seven : IsNumber 10 most_digits (codes "007") 7
+seven = record { numeral = (omega arith, (omega arith, (omega arith, (omega arith, tt)))); short = omega arith; writes = refl }
 
 -- `sgb names petersen() --skip 007`
 names_skipped : (e : Expr) → IsReadAs (codes "petersen()") (Ok e)
     → IsRequest (codes "sgb" ∷ codes "names" ∷ codes "petersen()" ∷ codes "--skip" ∷ codes "007" ∷ []) (request.Names e (Skip 7))
 names_skipped e read =
-    (names_law _ _ _ (Skip 7) (Ok (request.Names e (Skip 7))) (expression_plain _ e read) (codes "007", seven, refl, refl)).1 (e, read, refl)
+    (names_law _ _ _ (Skip 7) (Ok (request.Names e (Skip 7))) (expression_plain _ e read) (codes "007", seven, refl)).1 (e, read, refl)
 
 -- `sgb save stdin`
 save_stdin : (e : Expr) → IsReadAs (codes "stdin") (Ok e) → IsRequest (codes "sgb" ∷ codes "save" ∷ codes "stdin" ∷ []) (request.Save e)

@@ -1,4 +1,6 @@
 -- The lemmas of sgb_requests, by subject.
+-- where answers begin
+pub mod Beginnings
 -- words that clap takes do not enter its own command `help`
 pub mod ClapHelp
 -- words that clap takes give each required argument a value

@@ -1,11 +1,15 @@
 -- The commands that plain words enter, and what they ask of them.
-use Rattle.std.proofs.Common.{◌≡◌, ◌∙◌, false, List, [], ◌∷◌, Option, Some, None, refl, ap, codes, fold, option_map}
+use Rattle.std.proofs.Common.{◌≡◌, ◌∙◌, false, List, [], ◌∷◌, Option, Some, None, refl, ap, codes, fold}
 use Rattle.clap.specs.Faults.{defaults_fault, level_fault, step_fault, turn_fault, walk_fault}
 use Rattle.clap.specs.Kinds.{Kinds, or_else}
 use Rattle.clap.specs.Simple.{Shape, rows_at}
-use Rattle.clap.specs.Walk.{Text, Walk, finished, first_of, nothing_held, plain_word, subcommand_met, walk_from, walked}
+use Rattle.clap.specs.Walk.{Row, Text, Walk, finished, first_of, nothing_held, plain_word, subcommand_met, walk_from, walked}
 use Rattle.clap.specs.Words.{fault_of, subcommand_of}
-use Rattle.sgb_requests.specs.CommandLine.{Asked, Asks, AsksAlone, asked_by, called_by, command_line}
+use Rattle.sgb_requests.specs.CommandLine.{Asks, command_line}
+use Rattle.sgb_requests.specs.Requests.{IsResumeOf}
+use Rattle.sgb_requests.specs.declared.requests.Resume.{Resume}
+use Rattle.sgb_requests.specs.inner.CommandLine.{Asked, asked_by}
+use Rattle.sgb_requests.proofs.Beginnings.{begins_by}
 use Rattle.sgb_requests.specs.PlainWords.{IsPlain}
 use Rattle.sgb_requests.proofs.EnteredCommands.{alone_leaf, built_line, output_leaf, queen_leaf}
 use Rattle.sgb_requests.proofs.PlainWalks.{EntersShape, ends_fault, level_passes, passed, shape_entered, shape_passes, turn_passes, walk_passes}
@@ -26,11 +30,7 @@ module _ (name text : Text) (plain : IsPlain text) where
   unfolding defaults_fault
   alone_passes = level_passes (alone_leaf name) (text ∷ []) (passed (alone_leaf name) text (walk_from nothing_held)) alone_walk alone_turn refl
 
-  -- as the expression
-  pub alone_called : called_by (rows_at (alone_leaf name) (text ∷ [])) ≡ (name, Some text)
-  alone_called = ap (λ (w : Walk). (name, first_of (codes "EXPR") (finished (alone_leaf name).rules w.held))) alone_walk
-
-  -- and with no option
+  -- with no option
   pub alone_asked : asked_by (rows_at (alone_leaf name) (text ∷ [])) ≡ record { command = name; expression = Some text; after = None; skip = None }
   alone_asked =
       ap (λ (w : Walk). asked_by (name, finished (alone_leaf name).rules w.held)) alone_walk
@@ -140,24 +140,29 @@ flip_enters = record { stops = refl; turn = refl; found = refl; others = refl }
 
 -- ---- what is asked
 
+-- the words ask the command of this name for the answer to this expression, from here on
+pub record AsksSo (words : List Text) (name text : Text) (resume : Resume) : Type 0 where
+  pub rows : List Row
+  pub asks : Asks words name rows text
+  pub begins : IsResumeOf (first_of (codes "after") rows) (first_of (codes "skip") rows) resume
+
 module _ (program name text : Text) (leaf : Shape) (enters : EntersShape built_line name leaf) where
   -- the words ask the command for what it makes of those after its name
-  pub asks : (words : List Text) (after skip : Option Text) → level_fault leaf [] nothing_held words false [] ≡ []
+  pub asks : (words : List Text) (after skip : Option Text) (resume : Resume) → level_fault leaf [] nothing_held words false [] ≡ []
       → asked_by (rows_at leaf words) ≡ record { command = name; expression = Some text; after = after; skip = skip }
-      → Asks (program ∷ name ∷ words) name text after skip
-  asks words after skip passes asked = record {
-    taken = shape_passes built_line name leaf enters words passes;
-    asked = ap (option_map asked_by) (shape_entered built_line name leaf enters words) ∙ ap (λ (asked : Asked). Some asked) asked;
-  }
-
--- a command of an expression alone
-pub asks_one : (program name text : Text) → IsPlain text → EntersShape built_line name (alone_leaf name) → AsksAlone (program ∷ name ∷ text ∷ []) name text
-asks_one program name text plain enters = record {
-  taken = shape_passes built_line name (alone_leaf name) enters (text ∷ []) (alone_passes name text plain);
-  called =
-      ap (option_map called_by) (shape_entered built_line name (alone_leaf name) enters (text ∷ []))
-      ∙ ap (λ (called : Text × Option Text). Some called) (alone_called name text plain);
-}
+      → IsResumeOf after skip resume → AsksSo (program ∷ name ∷ words) name text resume
+  asks words after skip resume passes asked begins =
+      let rows = (rows_at leaf words).1 in record {
+        rows = rows;
+        asks = (
+          record {
+            taken = shape_passes built_line name leaf enters words passes;
+            entered = shape_entered built_line name leaf enters words ∙ ap (λ (a : Asked). Some (a.command, rows)) asked;
+          },
+          ap (λ (a : Asked). a.expression) asked,
+        );
+        begins = begins_by rows after skip resume (ap (λ (a : Asked). a.after) asked) (ap (λ (a : Asked). a.skip) asked) begins;
+      }
 
 -- `queen`, with nothing after it
 pub queen_passes : level_fault queen_leaf [] nothing_held [] false [] ≡ []

@@ -1,15 +1,15 @@
 -- What words are read as, where it is known what they ask.
-use Rattle.std.proofs.Common.{◌≡◌, ◌∙◌, ◌↔◌, true≢false, false, List, [], Option, Some, None, Result, Ok, Err, inl, inr, refl, sym, ap, subst, codes, unwrap_or, option_map, option_and_then}
+use Rattle.std.proofs.Common.{◌≡◌, ◌∙◌, ◌↔◌, true≢false, false, List, [], Option, Some, None, Result, Ok, Err, inl, inr, refl, sym, ap, subst, codes, unwrap_or}
 use Rattle.std.specs.Str.{bytes_eq}
 use Rattle.std.proofs.lemmas.Slice.Eq.{bytes_eq-Decides}
-use Rattle.clap.specs.Words.{Row, Text, subcommand_of}
-use Rattle.sgb_requests.specs.CommandLine.{Asked, Asks, AsksAlone, Enters, asked_by, asked_of, called_by, command_line}
+use Rattle.clap.specs.Words.{Row, Text, first_of}
+use Rattle.sgb_requests.specs.CommandLine.{Asks, Enters}
 use Rattle.sgb_expr.specs.Expressions.{IsExpressionRead}
 use Rattle.sgb_expr.specs.FlipTexts.{IsFlipRead}
 use Rattle.sgb_expr.specs.declared.expressions.Unread.TheVariants as unread
 use Rattle.sgb_requests.specs.PlainWords.{IsFlipReadBy, IsQueenRead, IsReadBy}
 use Rattle.sgb_requests.specs.Reading.{IsFlipReadAs, IsReadAs}
-use Rattle.sgb_requests.specs.Requests.{GoTogether, IsAskedOf, IsCommandLineReadAs, IsInvalidCommandLine, IsRequest, IsResumeOf, TakesOptions, resume_of}
+use Rattle.sgb_requests.specs.Requests.{IsAskedOf, IsCommandLineReadAs, IsInvalidCommandLine, IsRequest, IsResumeOf}
 use Rattle.sgb_vec.specs.declared.panics.Panic.{Panic}
 use Rattle.sgb_vec.specs.declared.panics.Panic.TheVariants.{NoRoom}
 use Rattle.sgb_expr.specs.declared.expressions.Expr.{Expr}
@@ -18,6 +18,9 @@ use Rattle.sgb_requests.specs.declared.faults.Fault.TheVariants as fault
 use Rattle.sgb_requests.specs.declared.requests.Request.{Request}
 use Rattle.sgb_requests.specs.declared.requests.Request.TheVariants as request
 use Rattle.sgb_requests.specs.declared.requests.Resume.{Resume}
+use Rattle.sgb_requests.specs.declared.requests.Resume.TheVariants.{Whole}
+use Rattle.sgb_requests.proofs.Beginnings.{begins_once}
+use Rattle.sgb_requests.proofs.PlainCommands.{AsksSo}
 use Rattle.sgb_requests.proofs.RefusedTexts.{IsRefusedWithText, faults_here}
 
 -- a value is there or not
@@ -26,35 +29,16 @@ no_some x e = cc
 
 -- ---- the words enter one command
 
--- the words enter the command of this name
-abbrev IsNamed : List Text → Text → Type 0
-IsNamed words name = option_map (λ e. e.0) (subcommand_of command_line words) ≡ Some name
-
-asks_named : (words : List Text) (name text : Text) (after skip : Option Text) → Asks words name text after skip → IsNamed words name
-asks_named words name text after skip asks = go (subcommand_of command_line words) asks.asked
-  where
-    go : (o : Option (Text × List Row)) → option_map asked_by o ≡ Some (record { command = name; expression = Some text; after = after; skip = skip })
-        → option_map (λ e. e.0) o ≡ Some name
-    go None e = ap (option_map (λ (asked : Asked). asked.command)) e
-    go (Some p) e = ap (option_map (λ (asked : Asked). asked.command)) e
-
-alone_named : (words : List Text) (name text : Text) → AsksAlone words name text → IsNamed words name
-alone_named words name text asks = go (subcommand_of command_line words) asks.called
-  where
-    go : (o : Option (Text × List Row)) → option_map called_by o ≡ Some (name, Some text) → option_map (λ e. e.0) o ≡ Some name
-    go None e = ap (option_map (λ (called : Text × Option Text). called.0)) e
-    go (Some p) e = ap (option_map (λ (called : Text × Option Text). called.0)) e
+-- of one name, with its matches
+same_entered : (words : List Text) (name other : Text) (rows others : List Row) → Enters words name rows → Enters words other others → (name ≡ other) × (rows ≡ others)
+same_entered words name other rows others is other_is =
+    let same : Some (name, rows) ≡ Some (other, others) = sym is.entered ∙ other_is.entered in
+    (ap (λ (o : Option (Text × List Row)). (unwrap_or o ([], [])).0) same, ap (λ (o : Option (Text × List Row)). (unwrap_or o ([], [])).1) same)
 
 -- not two
-apart : (words : List Text) (name other : Text) → bytes_eq name other ≡ false → IsNamed words name → IsNamed words other → ⊥
-apart words name other differ is other_is =
-    true≢false (sym ((bytes_eq-Decides name other).1 (ap (λ (o : Option Text). unwrap_or o []) (sym is ∙ other_is))) ∙ differ)
-
--- no command with options, where that is another
-takes_none : (words : List Text) (name other : Text) → bytes_eq name (codes "names") ≡ false → bytes_eq name (codes "list") ≡ false → IsNamed words name
-    → TakesOptions other → IsNamed words other → ⊥
-takes_none words name other no_names no_list is (inl e) other_is = apart words name (codes "names") no_names is (subst (IsNamed words) e other_is)
-takes_none words name other no_names no_list is (inr e) other_is = apart words name (codes "list") no_list is (subst (IsNamed words) e other_is)
+apart : (words : List Text) (name other : Text) (rows others : List Row) → bytes_eq name other ≡ false → Enters words name rows → Enters words other others → ⊥
+apart words name other rows others differ is other_is =
+    true≢false (sym ((bytes_eq-Decides name other).1 (same_entered words name other rows others is other_is).0) ∙ differ)
 
 -- the command of a request
 abbrev command_of : Request → Text
@@ -64,16 +48,18 @@ command_of (request.Save e) = codes "save"
 command_of request.Queen = codes "queen"
 command_of (request.Flip p) = codes "flip"
 
-command_named : (words : List Text) (r : Request) → IsRequest words r → IsNamed words (command_of r)
-command_named words (request.Names e resume) h = asks_named words (codes "names") h.0 h.1 h.2 h.3
-command_named words (request.List e resume) h = asks_named words (codes "list") h.0 h.1 h.2 h.3
-command_named words (request.Save e) h = alone_named words (codes "save") h.0 h.1
-command_named words request.Queen h = h.entered
-command_named words (request.Flip p) h = alone_named words (codes "flip") h.0 h.1
+command_entered : (words : List Text) (r : Request) → IsRequest words r → (rows : List Row) × Enters words (command_of r) rows
+command_entered words (request.Names e resume) h = (h.0, h.2.0)
+command_entered words (request.List e resume) h = (h.0, h.2.0)
+command_entered words (request.Save e) h = (h.0, h.2.0)
+command_entered words request.Queen h = h
+command_entered words (request.Flip p) h = (h.0, h.2.0)
 
 -- no request of another command is made
-other_request : (words : List Text) (name : Text) (r : Request) → IsNamed words name → bytes_eq name (command_of r) ≡ false → IsRequest words r → ⊥
-other_request words name r is differ h = apart words name (command_of r) differ is (command_named words r h)
+other_request : (words : List Text) (name : Text) (rows : List Row) (r : Request) → Enters words name rows → bytes_eq name (command_of r) ≡ false → IsRequest words r → ⊥
+other_request words name rows r is differ h =
+    let other = command_entered words r h in
+    apart words name (command_of r) rows other.0 differ is other.1
 
 -- ---- words that are refused
 
@@ -86,156 +72,149 @@ faults_there words P valid by_text no_room f h = by_text f h
 
 -- ---- a command with its expression
 
-module _ (words : List Text) (name text : Text) (after skip : Option Text) (asks : Asks words name text after skip) where
-  named : IsNamed words name
-  named = asks_named words name text after skip asks
-
+module _ (words : List Text) (name text : Text) (rows : List Row) (asks : Asks words name rows text) (resume : Resume)
+    (begins : IsResumeOf (first_of (codes "after") rows) (first_of (codes "skip") rows) resume) where
   -- what is asked is known
-  text_is : (other t : Text) (a s : Option Text) → Asks words other t a s → text ≡ t
-  text_is other t a s asked =
-      ap (λ (o : Option Asked). unwrap_or (option_and_then (λ asked. asked.expression) o) []) (sym asks.asked ∙ asked.asked)
+  text_is : (other t : Text) (others : List Row) → Asks words other others t → text ≡ t
+  text_is other t others asked =
+      let same = (same_entered words name other rows others asks.0 asked.0).1 in
+      ap (λ (o : Option Text). unwrap_or o []) (sym asks.1 ∙ ap (first_of (codes "EXPR")) same ∙ asked.1)
 
-  after_is : (other t : Text) (a s : Option Text) → Asks words other t a s → after ≡ a
-  after_is other t a s asked = ap (λ (o : Option Asked). option_and_then (λ asked. asked.after) o) (sym asks.asked ∙ asked.asked)
-
-  skip_is : (other t : Text) (a s : Option Text) → Asks words other t a s → skip ≡ s
-  skip_is other t a s asked = ap (λ (o : Option Asked). option_and_then (λ asked. asked.skip) o) (sym asks.asked ∙ asked.asked)
+  -- and where its answer begins
+  begins_there : (other : Text) (others : List Row) → Enters words other others → IsResumeOf (first_of (codes "after") others) (first_of (codes "skip") others) resume
+  begins_there other others is =
+      subst (λ (rows : List Row). IsResumeOf (first_of (codes "after") rows) (first_of (codes "skip") rows) resume) (same_entered words name other rows others asks.0 is).1 begins
 
   -- the words are no invalid command line
-  pub valid : GoTogether after skip → IsInvalidCommandLine words → ⊥
-  valid together (inl (inl refused)) = refused asks.taken
-  valid together (inl (inr none)) = no_some _ (sym asks.asked ∙ none)
-  valid together (inr h) =
-      h.5 (subst (λ (a : Option Text). GoTogether a h.3) (after_is h.0 h.1 h.2 h.3 h.4) (subst (GoTogether after) (skip_is h.0 h.1 h.2 h.3 h.4) together))
+  valid : IsInvalidCommandLine words → ⊥
+  valid (inl (inl refused)) = refused asks.0.taken
+  valid (inl (inr none)) = no_some _ (sym asks.0.entered ∙ none)
+  valid (inr h) = h.4 resume (begins_there h.0 h.1 h.3.0)
 
--- a command with options
-module _ (words : List Text) (name text : Text) (after skip : Option Text) (asks : Asks words name text after skip) (resume : Resume) (begins : IsResumeOf after skip resume)
-    (no_save : bytes_eq name (codes "save") ≡ false) (no_flip : bytes_eq name (codes "flip") ≡ false) where
-  -- a request to this command is that of its expression
-  asked_same : (e : Expr) (r : Resume) → IsAskedOf words name e r → IsReadAs text (Ok e) × (r ≡ resume)
-  asked_same e r h = (
-    subst (λ (t : Text). IsReadAs t (Ok e)) (sym (text_is words name text after skip asks name h.0 h.1 h.2 h.3)) h.4.1,
-    h.4.0.1 ∙ ap (λ (a : Option Text). resume_of a h.2) (sym (after_is words name text after skip asks name h.0 h.1 h.2 h.3))
-        ∙ ap (resume_of after) (sym (skip_is words name text after skip asks name h.0 h.1 h.2 h.3)) ∙ sym begins.1,
+  -- what is asked of a command with options is asked of this expression
+  asked_same : (other : Text) (r : Resume) (read : Result Expr Fault) → IsAskedOf words other r read → IsReadAs text read × (r ≡ resume)
+  asked_same other r read h = (
+    subst (λ (t : Text). IsReadAs t read) (sym (text_is other h.1 h.0 h.2)) h.4,
+    begins_once (first_of (codes "after") h.0) (first_of (codes "skip") h.0) r resume h.3 (begins_there other h.0 h.2.0),
   )
 
+  -- no other command is asked
+  other_asked : (other t : Text) (others : List Row) → bytes_eq name other ≡ false → Asks words other others t → ⊥
+  other_asked other t others differ asked = apart words name other rows others differ asks.0 asked.0
+
+-- a command with options
+module _ (words : List Text) (name text : Text) (rows : List Row) (asks : Asks words name rows text) (resume : Resume)
+    (begins : IsResumeOf (first_of (codes "after") rows) (first_of (codes "skip") rows) resume) (no_save : bytes_eq name (codes "save") ≡ false)
+    (no_flip : bytes_eq name (codes "flip") ≡ false) where
   -- a refusal is that of its text
   refused_same : (f : Fault) → IsRefusedWithText words f → IsReadAs text (Err f)
-  refused_same f (inl h) = subst (λ (t : Text). IsReadAs t (Err f)) (sym (text_is words name text after skip asks h.0 h.1 h.2 h.3 h.5)) h.7
-  refused_same f (inr (inl h)) = absurd (apart words name (codes "save") no_save (named words name text after skip asks) (alone_named words (codes "save") h.0 h.1))
-  refused_same f (inr (inr h)) = absurd (apart words name (codes "flip") no_flip (named words name text after skip asks) (alone_named words (codes "flip") h.0 h.1))
+  refused_same f (inl (r, (inl h))) = (asked_same words name text rows asks resume begins (codes "names") r (Err f) h).0
+  refused_same f (inl (r, (inr h))) = (asked_same words name text rows asks resume begins (codes "list") r (Err f) h).0
+  refused_same f (inr (inl h)) = absurd (other_asked words name text rows asks resume begins (codes "save") h.1 h.0 no_save h.2)
+  refused_same f (inr (inr h)) = absurd (other_asked words name text rows asks resume begins (codes "flip") h.1 h.0 no_flip h.2)
 
   -- so the words are read as the expression is, in a request that is made of it
-  options_read : (make : Expr → Request) → TakesOptions name → ((r : Request) → IsRequest words r → IsReadBy make text (Ok r))
-      → ((e : Expr) → IsAskedOf words name e resume → IsRequest words (make e)) → (result : Result Request Fault) → IsCommandLineReadAs words result ↔ IsReadBy make text result
-  options_read make takes there here (Ok r) = (there r, λ h. subst (IsRequest words) (sym h.2) (here h.0 (text, after, skip, asks, (begins, h.1))))
-  options_read make takes there here (Err f) = (
-    faults_there words (λ f. IsReadAs text (Err f)) (valid words name text after skip asks begins.0) refused_same (unread.NoRoom, tt, refl) f,
-    faults_here words (IsExpressionRead text) (λ f h. inl (name, text, after, skip, takes, asks, begins.0, h)) f,
+  options_read : (make : Expr → Request) → ((r : Request) → IsRequest words r → IsReadBy make text (Ok r)) → ((e : Expr) → IsAskedOf words name resume (Ok e) → IsRequest words (make e))
+      → ((f : Fault) → IsAskedOf words name resume (Err f) → IsRefusedWithText words f) → (result : Result Request Fault) → IsCommandLineReadAs words result ↔ IsReadBy make text result
+  options_read make there here refused (Ok r) = (there r, λ h. subst (IsRequest words) (sym h.2) (here h.0 (rows, text, asks, begins, h.1)))
+  options_read make there here refused (Err f) = (
+    faults_there words (λ f. IsReadAs text (Err f)) (valid words name text rows asks resume begins) refused_same (unread.NoRoom, tt, refl) f,
+    faults_here words (IsExpressionRead text) (λ f h. refused f (rows, text, asks, begins, h)) f,
   )
 
 -- `names` and `list`
-module _ (words : List Text) (text : Text) (after skip : Option Text) (resume : Resume) (begins : IsResumeOf after skip resume) where
-  module _ (asks : Asks words (codes "names") text after skip) where
+module _ (words : List Text) (text : Text) (resume : Resume) where
+  module _ (so : AsksSo words (codes "names") text resume) where
     names_there : (r : Request) → IsRequest words r → IsReadBy (λ e. request.Names e resume) text (Ok r)
     names_there (request.Names e r) h =
-        let same = asked_same words (codes "names") text after skip asks resume begins refl refl e r h in
+        let same = asked_same words (codes "names") text so.rows so.asks resume so.begins (codes "names") r (Ok e) h in
         (e, same.0, ap (request.Names e) same.1)
-    names_there r h = absurd (other_request words (codes "names") r (named words _ text after skip asks) refl h)
+    names_there r h = absurd (other_request words (codes "names") so.rows r so.asks.0 refl h)
 
     pub names_read : (result : Result Request Fault) → IsCommandLineReadAs words result ↔ IsReadBy (λ e. request.Names e resume) text result
-    names_read = options_read words (codes "names") text after skip asks resume begins refl refl (λ e. request.Names e resume) (inl refl) names_there (λ e h. h)
+    names_read =
+        options_read words (codes "names") text so.rows so.asks resume so.begins refl refl (λ e. request.Names e resume) names_there (λ e h. h) (λ f h. inl (resume, inl h))
 
-  module _ (asks : Asks words (codes "list") text after skip) where
+  module _ (so : AsksSo words (codes "list") text resume) where
     list_there : (r : Request) → IsRequest words r → IsReadBy (λ e. request.List e resume) text (Ok r)
     list_there (request.List e r) h =
-        let same = asked_same words (codes "list") text after skip asks resume begins refl refl e r h in
+        let same = asked_same words (codes "list") text so.rows so.asks resume so.begins (codes "list") r (Ok e) h in
         (e, same.0, ap (request.List e) same.1)
-    list_there r h = absurd (other_request words (codes "list") r (named words _ text after skip asks) refl h)
+    list_there r h = absurd (other_request words (codes "list") so.rows r so.asks.0 refl h)
 
     pub list_read : (result : Result Request Fault) → IsCommandLineReadAs words result ↔ IsReadBy (λ e. request.List e resume) text result
-    list_read = options_read words (codes "list") text after skip asks resume begins refl refl (λ e. request.List e resume) (inr refl) list_there (λ e h. h)
+    list_read =
+        options_read words (codes "list") text so.rows so.asks resume so.begins refl refl (λ e. request.List e resume) list_there (λ e h. h) (λ f h. inl (resume, inr h))
 
 -- ---- a command of an expression alone
 
-module _ (words : List Text) (name text : Text) (asks : Asks words name text None None) (alone : AsksAlone words name text) (no_names : bytes_eq name (codes "names") ≡ false)
-    (no_list : bytes_eq name (codes "list") ≡ false) where
-  -- the text is known
-  alone_text : (t : Text) → AsksAlone words name t → text ≡ t
-  alone_text t other =
-      ap (λ (o : Option (Text × Option Text)). unwrap_or (option_and_then (λ called. called.1) o) []) (sym alone.called ∙ other.called)
-
-  -- no options were taken
-  alone_options : (t : Text) (a s : Option Text) (other : Text) → TakesOptions other → Asks words other t a s → ⊥
-  alone_options t a s other takes asked =
-      takes_none words name other no_names no_list (alone_named words name text alone) takes (asks_named words other t a s asked)
-
-  -- nor is it another command
-  alone_other : (other t : Text) → bytes_eq name other ≡ false → AsksAlone words other t → ⊥
-  alone_other other t differ asked = apart words name other differ (alone_named words name text alone) (alone_named words other t asked)
-
 -- `save`
-module _ (words : List Text) (text : Text) (asks : Asks words (codes "save") text None None) (alone : AsksAlone words (codes "save") text) where
+module _ (words : List Text) (text : Text) (so : AsksSo words (codes "save") text Whole) where
+  save_is : (t : Text) (rows : List Row) → Asks words (codes "save") rows t → text ≡ t
+  save_is t rows = text_is words (codes "save") text so.rows so.asks Whole so.begins (codes "save") t rows
+
   save_there : (r : Request) → IsRequest words r → IsReadBy (λ e. request.Save e) text (Ok r)
-  save_there (request.Save e) h =
-      (e, subst (λ (t : Text). IsReadAs t (Ok e)) (sym (alone_text words (codes "save") text asks alone refl refl h.0 h.1)) h.2, refl)
-  save_there r h = absurd (other_request words (codes "save") r (alone_named words _ text alone) refl h)
+  save_there (request.Save e) h = (e, subst (λ (t : Text). IsReadAs t (Ok e)) (sym (save_is h.1 h.0 h.2)) h.3, refl)
+  save_there r h = absurd (other_request words (codes "save") so.rows r so.asks.0 refl h)
 
   save_text : (f : Fault) → IsRefusedWithText words f → IsReadAs text (Err f)
-  save_text f (inl h) = absurd (alone_options words (codes "save") text asks alone refl refl h.1 h.2 h.3 h.0 h.4 h.5)
-  save_text f (inr (inl h)) =
-      subst (λ (t : Text). IsReadAs t (Err f)) (sym (alone_text words (codes "save") text asks alone refl refl h.0 h.1)) h.2
-  save_text f (inr (inr h)) = absurd (alone_other words (codes "save") text asks alone refl refl (codes "flip") h.0 refl h.1)
+  save_text f (inl (r, (inl h))) = absurd (apart words (codes "save") (codes "names") so.rows h.0 refl so.asks.0 h.2.0)
+  save_text f (inl (r, (inr h))) = absurd (apart words (codes "save") (codes "list") so.rows h.0 refl so.asks.0 h.2.0)
+  save_text f (inr (inl h)) = subst (λ (t : Text). IsReadAs t (Err f)) (sym (save_is h.1 h.0 h.2)) h.3
+  save_text f (inr (inr h)) = absurd (apart words (codes "save") (codes "flip") so.rows h.0 refl so.asks.0 h.2.0)
 
   pub save_read : (result : Result Request Fault) → IsCommandLineReadAs words result ↔ IsReadBy (λ e. request.Save e) text result
-  save_read (Ok r) = (save_there r, λ h. subst (IsRequest words) (sym h.2) (text, alone, h.1))
+  save_read (Ok r) = (save_there r, λ h. subst (IsRequest words) (sym h.2) (so.rows, text, so.asks, h.1))
   save_read (Err f) = (
-    faults_there words (λ f. IsReadAs text (Err f)) (valid words (codes "save") text None None asks tt) save_text (unread.NoRoom, tt, refl) f,
-    faults_here words (IsExpressionRead text) (λ f h. inr (inl (text, alone, h))) f,
+    faults_there words (λ f. IsReadAs text (Err f)) (valid words (codes "save") text so.rows so.asks Whole so.begins) save_text (unread.NoRoom, tt, refl) f,
+    faults_here words (IsExpressionRead text) (λ f h. inr (inl (so.rows, text, so.asks, h))) f,
   )
 
 -- `flip`
-module _ (words : List Text) (text : Text) (asks : Asks words (codes "flip") text None None) (alone : AsksAlone words (codes "flip") text) where
+module _ (words : List Text) (text : Text) (so : AsksSo words (codes "flip") text Whole) where
+  flip_is : (t : Text) (rows : List Row) → Asks words (codes "flip") rows t → text ≡ t
+  flip_is t rows = text_is words (codes "flip") text so.rows so.asks Whole so.begins (codes "flip") t rows
+
   flip_there : (r : Request) → IsRequest words r → IsFlipReadBy text (Ok r)
-  flip_there (request.Flip p) h =
-      (p, subst (λ (t : Text). IsFlipReadAs t (Ok p)) (sym (alone_text words (codes "flip") text asks alone refl refl h.0 h.1)) h.2, refl)
-  flip_there r h = absurd (other_request words (codes "flip") r (alone_named words _ text alone) refl h)
+  flip_there (request.Flip p) h = (p, subst (λ (t : Text). IsFlipReadAs t (Ok p)) (sym (flip_is h.1 h.0 h.2)) h.3, refl)
+  flip_there r h = absurd (other_request words (codes "flip") so.rows r so.asks.0 refl h)
 
   flip_text : (f : Fault) → IsRefusedWithText words f → IsFlipReadBy text (Err f)
-  flip_text f (inl h) = absurd (alone_options words (codes "flip") text asks alone refl refl h.1 h.2 h.3 h.0 h.4 h.5)
-  flip_text f (inr (inl h)) = absurd (alone_other words (codes "flip") text asks alone refl refl (codes "save") h.0 refl h.1)
-  flip_text f (inr (inr h)) =
-      inl (subst (λ (t : Text). IsFlipReadAs t (Err f)) (sym (alone_text words (codes "flip") text asks alone refl refl h.0 h.1)) h.2)
+  flip_text f (inl (r, (inl h))) = absurd (apart words (codes "flip") (codes "names") so.rows h.0 refl so.asks.0 h.2.0)
+  flip_text f (inl (r, (inr h))) = absurd (apart words (codes "flip") (codes "list") so.rows h.0 refl so.asks.0 h.2.0)
+  flip_text f (inr (inl h)) = absurd (apart words (codes "flip") (codes "save") so.rows h.0 refl so.asks.0 h.2.0)
+  flip_text f (inr (inr h)) = inl (subst (λ (t : Text). IsFlipReadAs t (Err f)) (sym (flip_is h.1 h.0 h.2)) h.3)
 
   flip_refused : (f : Fault) → IsFlipReadBy text (Err f) → IsCommandLineReadAs words (Err f)
-  flip_refused f (inl h) = faults_here words (IsFlipRead text) (λ f h. inr (inr (text, alone, h))) f h
+  flip_refused f (inl h) = faults_here words (IsFlipRead text) (λ f h. inr (inr (so.rows, text, so.asks, h))) f h
   flip_refused f (inr e) = subst (λ (f : Fault). IsCommandLineReadAs words (Err f)) (sym e) refl
 
   pub flip_read : (result : Result Request Fault) → IsCommandLineReadAs words result ↔ IsFlipReadBy text result
-  flip_read (Ok r) = (flip_there r, λ h. subst (IsRequest words) (sym h.2) (text, alone, h.1))
+  flip_read (Ok r) = (flip_there r, λ h. subst (IsRequest words) (sym h.2) (so.rows, text, so.asks, h.1))
   flip_read (Err f) =
-      (faults_there words (λ f. IsFlipReadBy text (Err f)) (valid words (codes "flip") text None None asks tt) flip_text (inr refl) f, flip_refused f)
+      (faults_there words (λ f. IsFlipReadBy text (Err f)) (valid words (codes "flip") text so.rows so.asks Whole so.begins) flip_text (inr refl) f, flip_refused f)
 
 -- ---- `queen`
 
-module _ (words : List Text) (enters : Enters words (codes "queen"))
-    (asked : asked_of words ≡ Some (record { command = codes "queen"; expression = None; after = None; skip = None })) where
+module _ (words : List Text) (rows : List Row) (enters : Enters words (codes "queen") rows) (alone : first_of (codes "EXPR") rows ≡ None) where
   queen_there : (r : Request) → IsRequest words r → r ≡ request.Queen
   queen_there request.Queen h = refl
-  queen_there r h = absurd (other_request words (codes "queen") r enters.entered refl h)
+  queen_there r h = absurd (other_request words (codes "queen") rows r enters refl h)
 
   queen_text : (f : Fault) → IsRefusedWithText words f → ⊥
-  queen_text f (inl h) = takes_none words (codes "queen") h.0 refl refl enters.entered h.4 (asks_named words h.0 h.1 h.2 h.3 h.5)
-  queen_text f (inr (inl h)) = apart words (codes "queen") (codes "save") refl enters.entered (alone_named words (codes "save") h.0 h.1)
-  queen_text f (inr (inr h)) = apart words (codes "queen") (codes "flip") refl enters.entered (alone_named words (codes "flip") h.0 h.1)
+  queen_text f (inl (r, (inl h))) = apart words (codes "queen") (codes "names") rows h.0 refl enters h.2.0
+  queen_text f (inl (r, (inr h))) = apart words (codes "queen") (codes "list") rows h.0 refl enters h.2.0
+  queen_text f (inr (inl h)) = apart words (codes "queen") (codes "save") rows h.0 refl enters h.2.0
+  queen_text f (inr (inr h)) = apart words (codes "queen") (codes "flip") rows h.0 refl enters h.2.0
 
   queen_valid : IsInvalidCommandLine words → ⊥
   queen_valid (inl (inl refused)) = refused enters.taken
-  queen_valid (inl (inr none)) = no_some _ (sym asked ∙ none)
-  queen_valid (inr h) = no_some _ (ap (option_and_then (λ (asked : Asked). asked.expression)) (sym h.4.asked ∙ asked))
+  queen_valid (inl (inr none)) = no_some _ (sym enters.entered ∙ none)
+  queen_valid (inr h) =
+      no_some _ (sym h.3.1 ∙ ap (first_of (codes "EXPR")) (sym (same_entered words (codes "queen") h.0 rows h.1 enters h.3.0).1) ∙ alone)
 
   pub queen_read : (result : Result Request Fault) → IsCommandLineReadAs words result ↔ IsQueenRead result
-  queen_read (Ok r) = (queen_there r, λ e. subst (IsRequest words) (sym e) enters)
+  queen_read (Ok r) = (queen_there r, λ e. subst (IsRequest words) (sym e) (rows, enters))
   queen_read (Err f) = (
     faults_there words (λ f. f ≡ fault.Panic NoRoom) queen_valid (λ f h. absurd (queen_text f h)) refl f,
     λ e. subst (λ (f : Fault). IsCommandLineReadAs words (Err f)) (sym e) refl,

@@ -6,14 +6,14 @@ use Rattle.sgb_expr.specs.Expressions.{IsExpression}
 use Rattle.sgb_expr.proofs.WholeReading.{no_hyphen}
 use Rattle.sgb_expr.specs.declared.expressions.Expr.{Expr}
 use Rattle.sgb_expr.specs.declared.flips.FlipParams.{FlipParams}
-use Rattle.sgb_requests.specs.Counts.{IsDigits}
+use Rattle.sgb_expr.specs.Numbers.{IsNumber, most_digits}
 use Rattle.sgb_requests.specs.PlainWords.{IsPlain}
 use Rattle.sgb_requests.specs.Reading.{IsFlipReadAs, IsReadAs}
 
 -- a count begins with a digit
-pub digits_plain : (count : List ℕ) → IsDigits count → IsPlain count
-digits_plain [] is = let bad : 0 < 0 = is.numeral.0 in absurd (omega (arith, bad))
-digits_plain (c ∷ cs) is = λ e. let bad : digit_value 45 < 10 = subst (λ (x : ℕ). digit_value x < 10) e is.numeral.1.0 in absurd (omega (arith, bad))
+pub digits_plain : (count : List ℕ) (k : ℕ) → IsNumber 10 most_digits count k → IsPlain count
+digits_plain [] k is = let bad : 0 < 0 = is.numeral.0 in absurd (omega (arith, bad))
+digits_plain (c ∷ cs) k is = λ e. let bad : digit_value 45 < 10 = subst (λ (x : ℕ). digit_value x < 10) e is.numeral.1.0 in absurd (omega (arith, bad))
 
 -- a known first byte is not the hyphen
 pub letter : (n : ℕ) → (n == 45) ≡ false → n ≢ 45

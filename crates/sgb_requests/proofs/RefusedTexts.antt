@@ -1,16 +1,17 @@
 -- The faults of texts that are not read.
-use Rattle.std.proofs.Common.{◌≡◌, ◌∙◌, ◌⊎◌, Bool, true, false, true≢false, List, Option, Result, Err, codes, refl, sym, ap}
-use Rattle.clap.specs.Words.{Text}
+use Rattle.std.proofs.Common.{◌≡◌, ◌∙◌, ◌⊎◌, Bool, true, false, true≢false, List, Result, Err, codes, refl, sym, ap}
+use Rattle.clap.specs.Words.{Row, Text}
 use Rattle.sgb_vec.specs.declared.panics.Panic.{Panic}
 use Rattle.sgb_vec.specs.declared.panics.Panic.TheVariants.{NoRoom}
 use Rattle.sgb_expr.specs.declared.expressions.Unread.{Unread}
 use Rattle.sgb_expr.specs.declared.expressions.Unread.TheVariants as unread
 use Rattle.sgb_requests.specs.Faults.{fault_of_unread}
-use Rattle.sgb_requests.specs.CommandLine.{Asks, AsksAlone}
+use Rattle.sgb_requests.specs.CommandLine.{Asks}
 use Rattle.sgb_requests.specs.Reading.{IsFlipReadAs, IsReadAs, IsReadOrRefused}
-use Rattle.sgb_requests.specs.Requests.{GoTogether, IsRefusedCommandLine, TakesOptions}
+use Rattle.sgb_requests.specs.Requests.{IsAskedOf, IsRefusedCommandLine}
 use Rattle.sgb_requests.specs.declared.faults.Fault.{Fault}
 use Rattle.sgb_requests.specs.declared.faults.Fault.TheVariants as fault
+use Rattle.sgb_requests.specs.declared.requests.Resume.{Resume}
 
 -- the faults that a text may be refused with
 abbrev is_of_text : Fault → Bool
@@ -40,10 +41,9 @@ panic_is_no_room IsRead p (cause, is, e) = panic_of_unread p cause e
 -- words that are refused with a fault that is neither `Usage` nor want of memory
 abbrev pub IsRefusedWithText : List Text → Fault → Type 0
 IsRefusedWithText words f =
-    ((command text : Text) × (after skip : Option Text) × TakesOptions command
-    × Asks words command text after skip × GoTogether after skip × IsReadAs text (Err f))
-    ⊎ (((text : Text) × AsksAlone words (codes "save") text × IsReadAs text (Err f))
-    ⊎ ((text : Text) × AsksAlone words (codes "flip") text × IsFlipReadAs text (Err f)))
+    ((resume : Resume) × (IsAskedOf words (codes "names") resume (Err f) ⊎ IsAskedOf words (codes "list") resume (Err f)))
+    ⊎ (((rows : List Row) × (text : Text) × Asks words (codes "save") rows text × IsReadAs text (Err f))
+    ⊎ ((rows : List Row) × (text : Text) × Asks words (codes "flip") rows text × IsFlipReadAs text (Err f)))
 
 -- a text that is refused refuses the words that gave it
 pub faults_here : {T : Type 0} (words : List Text) (IsRead : Result T Unread → Type 0) → ((f : Fault) → IsReadOrRefused IsRead (Err f) → IsRefusedWithText words f)

@@ -19,13 +19,9 @@ status_of NoVertex = 1
 status_of Read = 3
 status_of Write = 3
 
--- the usage line
-unfoldable pub usage_line : List ℕ
-usage_line = codes "usage: sgb (names|list) EXPR [--after NAME|--skip K], sgb save EXPR, sgb queen, sgb flip EXPR\n"
-
 -- the line on standard error, with its newline
 unfoldable pub fault_line : Fault → List ℕ
-fault_line Usage = usage_line
+fault_line Usage = codes "usage: sgb (names|list) EXPR [--after NAME|--skip K], sgb save EXPR, sgb queen, sgb flip EXPR\n"
 fault_line TooLarge = codes "sgb: expression too large\n"
 fault_line (Expr k) = codes "sgb: bad expression at byte " ++ decimal k ++ codes "\n"
 fault_line (Panic p) = codes "Something went wrong (panic code " ++ decimal (code_of p) ++ codes ")!\n"

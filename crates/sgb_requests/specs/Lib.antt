@@ -1,8 +1,6 @@
 -- What the contracts of sgb_requests speak of.
 -- the command line by clap's meaning, and what its words ask for
 pub mod CommandLine
--- the texts of counts
-pub mod Counts
 -- what each fault comes from, its line and its exit status
 pub mod Faults
 -- the plain forms of words, and what each is read as

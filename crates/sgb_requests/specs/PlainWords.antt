@@ -1,8 +1,7 @@
 -- The plain forms of words, and what each is read as. Who uses these forms needs nothing of what clap takes: the law
 -- `plain_words_law` says that the words are read so, and not otherwise.
 use Rattle.std.specs.Prelude.{◌≡◌, ◌≢◌, ◌⊎◌, ℕ, List, [], ◌∷◌, Result, Ok, Err, codes, slice_index}
-use Rattle.std.specs.Str.Parse.{digits_value}
-use Rattle.sgb_requests.specs.Counts.{IsDigits}
+use Rattle.sgb_expr.specs.Numbers.{IsNumber, most_digits}
 use Rattle.sgb_requests.specs.Reading.{IsFlipReadAs, IsReadAs}
 use Rattle.sgb_vec.specs.declared.panics.Panic.TheVariants.{NoRoom}
 use Rattle.sgb_expr.specs.declared.expressions.Expr.{Expr}
@@ -22,8 +21,7 @@ IsPlain word = slice_index word 0 ≢ 45
 abbrev pub AreOptions : List (List ℕ) → Resume → Type 0
 AreOptions words Whole = words ≡ []
 AreOptions words (After name) = IsPlain name × (words ≡ codes "--after" ∷ name ∷ [])
-AreOptions words (Skip k) =
-    (count : List ℕ) × IsDigits count × (k ≡ digits_value 10 count) × (words ≡ codes "--skip" ∷ count ∷ [])
+AreOptions words (Skip k) = (count : List ℕ) × IsNumber 10 most_digits count k × (words ≡ codes "--skip" ∷ count ∷ [])
 
 -- what the words are read as, where one of them is the text of an expression: the request that is made of that expression,
 -- or the refusal of the text

@@ -1,9 +1,8 @@
 -- The requests that the words of a command line make.
-use Rattle.std.specs.Prelude.{◌≡◌, ◌⊎◌, List, Option, Some, None, Result, Ok, Err, codes}
-use Rattle.std.specs.Str.Parse.{digits_value}
-use Rattle.clap.specs.Words.{Text}
-use Rattle.sgb_requests.specs.CommandLine.{Asks, AsksAlone, Enters, HasNoCommand}
-use Rattle.sgb_requests.specs.Counts.{IsDigits}
+use Rattle.std.specs.Prelude.{◌≡◌, ◌≢◌, ◌⊎◌, List, [], Option, Some, None, Result, Ok, Err, codes}
+use Rattle.clap.specs.Words.{Row, Text, fault_of, first_of, subcommand_of}
+use Rattle.sgb_expr.specs.Numbers.{IsNumber, most_digits}
+use Rattle.sgb_requests.specs.CommandLine.{Asks, Enters, command_line}
 use Rattle.sgb_requests.specs.Reading.{IsFlipReadAs, IsReadAs}
 use Rattle.sgb_vec.specs.declared.panics.Panic.TheVariants.{NoRoom}
 use Rattle.sgb_expr.specs.declared.expressions.Expr.{Expr}
@@ -14,62 +13,43 @@ use Rattle.sgb_requests.specs.declared.requests.Request.TheVariants as request
 use Rattle.sgb_requests.specs.declared.requests.Resume.{Resume}
 use Rattle.sgb_requests.specs.declared.requests.Resume.TheVariants.{Whole, Skip, After}
 
--- the values of `--after` and `--skip` go together: not both stand, and K is a number of 1 to 18 digits
-abbrev pub GoTogether : Option Text → Option Text → Type 0
-GoTogether None None = Unit {0}
-GoTogether None (Some count) = IsDigits count
-GoTogether (Some name) None = Unit {0}
-GoTogether (Some name) (Some count) = ⊥
-
--- where the answer begins by the values of `--after` and `--skip`, which go together
-abbrev pub resume_of : Option Text → Option Text → Resume
-resume_of None None = Whole
-resume_of None (Some count) = Skip (digits_value 10 count)
-resume_of (Some name) _ = After name
-
--- the answer begins here by the values of `--after` and `--skip`
+-- the answer begins here by the values of `--after` and `--skip`: not both stand, and K is a number of 1 to 18 digits
 abbrev pub IsResumeOf : Option Text → Option Text → Resume → Type 0
-IsResumeOf after skip resume = GoTogether after skip × (resume ≡ resume_of after skip)
-
--- these values of `EXPR`, `--after` and `--skip` are read as this expression and this place to begin
-abbrev pub AreReadAs : Text → Option Text → Option Text → Expr → Resume → Type 0
-AreReadAs text after skip e resume = IsResumeOf after skip resume × IsReadAs text (Ok e)
+IsResumeOf None None Whole = Unit {0}
+IsResumeOf None (Some count) (Skip k) = IsNumber 10 most_digits count k
+IsResumeOf (Some text) None (After name) = name ≡ text
+IsResumeOf _ _ _ = ⊥
 
 -- an invalid command line: clap refuses the words, or there is no command, or both options stand, or K is no number of 1 to
 -- 18 digits
 abbrev pub IsInvalidCommandLine : List Text → Type 0
 IsInvalidCommandLine words =
-    HasNoCommand words
-    ⊎ ((command expression : Text) × (after skip : Option Text)
-    × Asks words command expression after skip × (GoTogether after skip → ⊥))
+    ((fault_of command_line words ≢ []) ⊎ (subcommand_of command_line words ≡ None))
+    ⊎ ((command : Text) × (rows : List Row) × (text : Text) × Asks words command rows text
+    × ((resume : Resume) → IsResumeOf (first_of (codes "after") rows) (first_of (codes "skip") rows) resume → ⊥))
 
--- the words ask this command for the answer to this expression, from here on
-abbrev pub IsAskedOf : List Text → Text → Expr → Resume → Type 0
-IsAskedOf words command e resume =
-    (text : Text) × (after skip : Option Text) × Asks words command text after skip
-    × AreReadAs text after skip e resume
+-- the words ask this command for the answer, from here on, to an expression that is read as this or refused so
+abbrev pub IsAskedOf : List Text → Text → Resume → Result Expr Fault → Type 0
+IsAskedOf words command resume read =
+    (rows : List Row) × (text : Text) × Asks words command rows text
+    × IsResumeOf (first_of (codes "after") rows) (first_of (codes "skip") rows) resume × IsReadAs text read
 
 -- the words make this request
 abbrev pub IsRequest : List Text → Request → Type 0
-IsRequest words (request.Names e resume) = IsAskedOf words (codes "names") e resume
-IsRequest words (request.List e resume) = IsAskedOf words (codes "list") e resume
-IsRequest words (request.Save e) = (text : Text) × AsksAlone words (codes "save") text × IsReadAs text (Ok e)
-IsRequest words request.Queen = Enters words (codes "queen")
-IsRequest words (request.Flip p) = (text : Text) × AsksAlone words (codes "flip") text × IsFlipReadAs text (Ok p)
-
--- the command begins where the options say
-abbrev pub TakesOptions : Text → Type 0
-TakesOptions command = (command ≡ codes "names") ⊎ (command ≡ codes "list")
+IsRequest words (request.Names e resume) = IsAskedOf words (codes "names") resume (Ok e)
+IsRequest words (request.List e resume) = IsAskedOf words (codes "list") resume (Ok e)
+IsRequest words (request.Save e) = (rows : List Row) × (text : Text) × Asks words (codes "save") rows text × IsReadAs text (Ok e)
+IsRequest words request.Queen = (rows : List Row) × Enters words (codes "queen") rows
+IsRequest words (request.Flip p) = (rows : List Row) × (text : Text) × Asks words (codes "flip") rows text × IsFlipReadAs text (Ok p)
 
 -- the words are refused with this fault; out of memory any may be
 abbrev pub IsRefusedCommandLine : List Text → Fault → Type 0
 IsRefusedCommandLine words fault.Usage = IsInvalidCommandLine words
 IsRefusedCommandLine words (fault.Panic p) = p ≡ NoRoom
 IsRefusedCommandLine words f =
-    ((command text : Text) × (after skip : Option Text) × TakesOptions command
-    × Asks words command text after skip × GoTogether after skip × IsReadAs text (Err f))
-    ⊎ (((text : Text) × AsksAlone words (codes "save") text × IsReadAs text (Err f))
-    ⊎ ((text : Text) × AsksAlone words (codes "flip") text × IsFlipReadAs text (Err f)))
+    ((resume : Resume) × (IsAskedOf words (codes "names") resume (Err f) ⊎ IsAskedOf words (codes "list") resume (Err f)))
+    ⊎ (((rows : List Row) × (text : Text) × Asks words (codes "save") rows text × IsReadAs text (Err f))
+    ⊎ ((rows : List Row) × (text : Text) × Asks words (codes "flip") rows text × IsFlipReadAs text (Err f)))
 
 -- what the words are read as: a request, or the fault that they are refused with
 abbrev pub IsCommandLineReadAs : List Text → Result Request Fault → Type 0

@@ -1,12 +1,10 @@
 //! The request that a command line makes.
-ghost use Rattle.std.specs.Prelude.{◌≡◌, MatchResult, map};
-ghost use Rattle.std.specs.Option.{SomeIff};
-ghost use Rattle.std.specs.Str.Parse.{digits_value};
+ghost use Rattle.std.specs.Prelude.{◌≡◌, MatchOption, MatchResult, ℕ, map};
 ghost use Rattle.std.specs.String.{string_bytes};
 ghost use Rattle.sgb_requests.specs.inner.CommandLine.{bytes_of};
-ghost use Rattle.sgb_requests.specs.Counts.{IsDigits};
-ghost use Rattle.sgb_requests.specs.Requests.{AreReadAs, IsCommandLineReadAs, IsResumeOf};
-ghost use Rattle.sgb_requests.specs.inner.Requests.{AreRefused, IsResumeFault};
+ghost use Rattle.sgb_expr.specs.Numbers.{IsNumber, most_digits};
+ghost use Rattle.sgb_requests.specs.Requests.{IsCommandLineReadAs, IsResumeOf};
+ghost use Rattle.sgb_requests.specs.inner.Requests.{AreReadAs, AreRefused, IsResumeFault};
 
 use crate::arguments::{Arguments, Subcommand, entered_subcommand};
 use crate::expressions::{parse_expr, parse_flip};
@@ -83,7 +81,8 @@ fn resume_of(alloc: Global, after: Option<&str>, skip: Option<&str>) -> Result<R
 
 // The number that a text of 1 to 18 decimal digits writes. `parse` alone would take a plus too.
 fn count_of(text: &str) -> Option<u64>
-    ensures { SomeIff result (IsDigits text.now) (digits_value 10 text.now) }
+    ensures { MatchOption result ((k : ℕ) → IsNumber 10 most_digits text.now k → ⊥)
+        (IsNumber 10 most_digits text.now) }
 {
     if text.len() > MOST_DIGITS || text.starts_with('+') {
         return None;

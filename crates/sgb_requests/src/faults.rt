@@ -72,7 +72,7 @@ pub fn report<E: Sink>(fault: &Fault, errors: &mut E) -> u8
 }
 
 // Puts the line of a fault.
-#[tactic(auto, unfolding(crate::specs::Faults::fault_line, crate::specs::Faults::usage_line))]
+#[tactic(auto, unfolding(crate::specs::Faults::fault_line))]
 fn put_line<E: Sink>(fault: &Fault, errors: &mut E) -> Result<(), Failed>
     ensures { IsPut (fault_line fault.now) (change E.written E.has_failed errors.old errors.new)
         result }

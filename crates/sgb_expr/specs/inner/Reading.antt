@@ -3,7 +3,7 @@ use Rattle.std.specs.Prelude.{ℕ, ℤ, zero, suc, List, [], ◌∷◌, length, 
 use Rattle.sgb_gen.specs.Shorthands.{complete, transitive, empty, circuit, cycle, disjoint_subsets, petersen}
 use Rattle.sgb_expr.specs.Expression.{Expression, Entry}
 use Rattle.sgb_expr.specs.Forms.{nth_number, board_params, simplex_params, subsets_params}
-use Rattle.sgb_expr.specs.Operations.{Operands, complement_call, gunion_call, intersection_call, product_call, lines_call, induced_call, bi_complete_call, wheel_call}
+use Rattle.sgb_expr.specs.inner.Operations.{Operands, complement_call, gunion_call, intersection_call, product_call, lines_call, induced_call, bi_complete_call, wheel_call}
 use Rattle.sgb_expr.specs.inner.Names.{generator_openings, openings}
 use Rattle.sgb_text.proofs.Readings.{◌>>=◌, either, or_else, then_read, read_after, read_as, fixed_as, word_at, whole_by}
 use Rattle.sgb_expr.specs.inner.Readings.{bits_at, integer_at, integers_at}

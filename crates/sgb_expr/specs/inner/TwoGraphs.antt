@@ -1,6 +1,6 @@
 -- What two graphs with integers after them are in the code.
 use Rattle.sgb_expr.specs.Expression.{expression_of}
-use Rattle.sgb_expr.specs.Operations.{Operands}
+use Rattle.sgb_expr.specs.inner.Operations.{Operands}
 use Rattle.sgb_expr.specs.declared.operations.TwoGraphs.{TwoGraphs}
 
 -- the expressions that they hold, and the integers

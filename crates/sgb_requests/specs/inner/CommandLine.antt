@@ -1,7 +1,7 @@
 -- What the steps of reading a command line give.
-use Rattle.std.specs.Prelude.{◌≡◌, List, [], Option, Some, codes, option_map}
+use Rattle.std.specs.Prelude.{◌≡◌, ◌≢◌, ◌⊎◌, List, [], Option, Some, None, codes, option_map}
 use Rattle.std.specs.Borrow.{Bor}
-use Rattle.clap.specs.Words.{Row, Text, fault_of, first_of, subcommand_of, subcommand_rows_of}
+use Rattle.clap.specs.Words.{App, Row, Text, fault_of, first_of, new_app, subcommand_of, subcommand_rows_of, with_subcommand}
 use Rattle.clap.specs.declared.parser.matches.ArgMatches.{ArgMatches}
 use Rattle.sgb_vec.specs.declared.panics.Panic.TheVariants.{NoRoom}
 use Rattle.sgb_requests.specs.declared.arguments.Subcommand.{Subcommand}
@@ -9,7 +9,11 @@ use Rattle.sgb_requests.specs.declared.arguments.Subcommand.TheVariants as subco
 use Rattle.sgb_requests.specs.declared.arguments.Arguments.{Arguments}
 use Rattle.sgb_requests.specs.declared.faults.Fault.{Fault}
 use Rattle.sgb_requests.specs.declared.faults.Fault.TheVariants as fault
-use Rattle.sgb_requests.specs.CommandLine.{Asks, AsksAlone, Enters, HasNoCommand, command_line}
+use Rattle.sgb_requests.specs.CommandLine.{Asks, Enters, command_line, output_shape}
+
+-- `sgb` with the commands that begin where the options say
+abbrev pub output_command_line : App
+output_command_line = with_subcommand (with_subcommand (new_app (codes "sgb")) (output_shape (codes "names"))) (output_shape (codes "list"))
 
 -- clap takes the words, and these are its matches
 pub record IsTaken (words : List Text) (matches : ArgMatches) : Type 0 where
@@ -29,19 +33,42 @@ Gives rows values =
 
 -- the words are those of this command with these values
 abbrev pub AsksBy : List Text → Text → Arguments → Type 0
-AsksBy words command values =
-    Asks words command values.expression.now (bytes_of values.after) (bytes_of values.skip)
+AsksBy words command values = (rows : List Row) × Enters words command rows × Gives rows values
 
 -- the words enter this command with these values
 abbrev pub EntersSubcommand : List Text → Subcommand → Type 0
 EntersSubcommand words (subcommand.Names values) = AsksBy words (codes "names") values
 EntersSubcommand words (subcommand.List values) = AsksBy words (codes "list") values
-EntersSubcommand words (subcommand.Save text) = AsksAlone words (codes "save") text.now
-EntersSubcommand words subcommand.Queen = Enters words (codes "queen")
-EntersSubcommand words (subcommand.Flip text) = AsksAlone words (codes "flip") text.now
+EntersSubcommand words (subcommand.Save text) = (rows : List Row) × Asks words (codes "save") rows text.now
+EntersSubcommand words subcommand.Queen = (rows : List Row) × Enters words (codes "queen") rows
+EntersSubcommand words (subcommand.Flip text) = (rows : List Row) × Asks words (codes "flip") rows text.now
+
+-- clap refuses the words, or there is no command
+abbrev pub HasNoCommand : List Text → Type 0
+HasNoCommand words = (fault_of command_line words ≢ []) ⊎ (subcommand_of command_line words ≡ None)
 
 -- the words are refused with this fault before their values are looked at
 abbrev pub IsRefusedAtOnce : List Text → Fault → Type 0
 IsRefusedAtOnce words fault.Usage = HasNoCommand words
 IsRefusedAtOnce words (fault.Panic p) = p ≡ NoRoom
 IsRefusedAtOnce words _ = ⊥
+
+-- a command with the values of its argument and its options, as the words give them
+pub record Asked : Type 0 where
+  pub command : Text
+  pub expression : Option Text
+  pub after : Option Text
+  pub skip : Option Text
+
+-- what is asked of a command, by its name and its matches
+abbrev pub asked_by : Text × List Row → Asked
+asked_by entered = record {
+  command = entered.0;
+  expression = first_of (codes "EXPR") entered.1;
+  after = first_of (codes "after") entered.1;
+  skip = first_of (codes "skip") entered.1;
+}
+
+-- what the words ask for, where clap takes them
+abbrev pub asked_of : List Text → Option Asked
+asked_of words = option_map asked_by (subcommand_of command_line words)

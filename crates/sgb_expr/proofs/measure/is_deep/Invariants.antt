@@ -1,10 +1,9 @@
-use Rattle.std.proofs.Common.{◌≡◌, ◌+◌, ◌≤◌, ℕ, take}
-use Rattle.sgb_expr.specs.Expressions.{opened_count, closed_count}
+use Rattle.std.proofs.Common.{◌≡◌, ◌+◌, ◌≤◌, ◌==◌, ℕ, take, count_by}
 use Rattle.sgb_expr.proofs.measure.is_deep.Given as goal
 
 abbrev pub invariant-loop-byte : goal.invariant-loop-byte
 invariant-loop-byte l = record {
-  opened : l.opened ≡ opened_count (take l.byte-index l.text);
-  closed : l.closed ≡ closed_count (take l.byte-index l.text);
-  shallow : (k : ℕ) → k ≤ l.byte-index → opened_count (take k l.text) ≤ closed_count (take k l.text) + 64;
+  opened : l.opened ≡ count_by (λ byte. byte == 40) (take l.byte-index l.text);
+  closed : l.closed ≡ count_by (λ byte. byte == 41) (take l.byte-index l.text);
+  shallow : (k : ℕ) → k ≤ l.byte-index → count_by (λ byte. byte == 40) (take k l.text) ≤ count_by (λ byte. byte == 41) (take k l.text) + 64;
 }

@@ -1,5 +1,5 @@
 use Rattle.std.proofs.Common.{◌∙◌, refl, true≢false, sym, codes}
-use Rattle.sgb_requests.proofs.EnteredCommands.{asks_alone, enters, has_expression, not_called}
+use Rattle.sgb_requests.proofs.EnteredCommands.{enters, enters_some, has_expression, not_called}
 use Rattle.sgb_requests.proofs.arguments.entered_subcommand.Goals as goal
 
 pub arguments_of-requires : goal.arguments_of-requires
@@ -11,6 +11,15 @@ arguments_of-requires-in-Some-subcommand_matches c =
     let list = c.in-Some-subcommand_matches.ensures in
     has_expression _ _ (codes "list") _ refl c.in_ok-matches.ensures (list.found.0 refl) list.rows
 
+pub returns-in-Some : goal.returns-in-Some
+returns-in-Some c =
+    (_, enters _ _ _ _ c.in_ok-matches.ensures (c.in-Some.ensures.found.0 refl) c.in-Some.ensures.rows, c.arguments_of.ensures)
+
+pub returns-in-Some-subcommand_matches : goal.returns-in-Some-subcommand_matches
+returns-in-Some-subcommand_matches c =
+    let list = c.in-Some-subcommand_matches.ensures in
+    (_, enters _ _ _ _ c.in_ok-matches.ensures (list.found.0 refl) list.rows, c.arguments_of-in-Some-subcommand_matches.ensures)
+
 pub expression_in-requires : goal.expression_in-requires
 expression_in-requires c =
     let save = c.in-Some-subcommand_matches-2.ensures in
@@ -19,11 +28,11 @@ expression_in-requires c =
 pub returns-in-Some-subcommand_matches-2 : goal.returns-in-Some-subcommand_matches-2
 returns-in-Some-subcommand_matches-2 c =
     let save = c.in-Some-subcommand_matches-2.ensures in
-    asks_alone _ _ _ _ _ c.in_ok-matches.ensures (save.found.0 refl) save.rows c.expression_in.ensures
+    (_, (enters _ _ _ _ c.in_ok-matches.ensures (save.found.0 refl) save.rows, c.expression_in.ensures))
 
 pub returns-then-is_some : goal.returns-then-is_some
 returns-then-is_some c =
-    enters _ _ _ c.in_ok-matches.ensures (c.subcommand_matches-4.ensures.found.0 (sym c.is_some.ensures ∙ c.if-is_some.true))
+    enters_some _ _ _ c.in_ok-matches.ensures (c.subcommand_matches-4.ensures.found.0 (sym c.is_some.ensures ∙ c.if-is_some.true))
 
 pub expression_in-requires-in-Some-subcommand_matches-3 : goal.expression_in-requires-in-Some-subcommand_matches-3
 expression_in-requires-in-Some-subcommand_matches-3 c =
@@ -33,7 +42,7 @@ expression_in-requires-in-Some-subcommand_matches-3 c =
 pub returns-in-Some-subcommand_matches-3 : goal.returns-in-Some-subcommand_matches-3
 returns-in-Some-subcommand_matches-3 c =
     let flip = c.in-Some-subcommand_matches-3.ensures in
-    asks_alone _ _ _ _ _ c.in_ok-matches.ensures (flip.found.0 refl) flip.rows c.expression_in-in-Some-subcommand_matches-3.ensures
+    (_, (enters _ _ _ _ c.in_ok-matches.ensures (flip.found.0 refl) flip.rows, c.expression_in-in-Some-subcommand_matches-3.ensures))
 
 pub returns : goal.returns
 returns c =

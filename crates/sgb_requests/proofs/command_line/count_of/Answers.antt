@@ -1,7 +1,5 @@
-use Rattle.std.proofs.Common.{◌≢◌, ◌≤◌, length, get_or, subst, sym, rules, arith, Option, ℕ}
-use Rattle.std.specs.Option.{SomeIff}
-use Rattle.std.specs.Str.Parse.{digits_value}
-use Rattle.sgb_requests.specs.Counts.{IsDigits}
+use Rattle.std.proofs.Common.{◌≢◌, ◌≤◌, length, get_or, MatchOption, subst, sym, rules, arith, Option, ℕ}
+use Rattle.sgb_expr.specs.Numbers.{IsNumber, most_digits}
 use Rattle.sgb_requests.proofs.Counts.{count_read}
 use Rattle.sgb_requests.proofs.command_line.count_of.Goals as goal
 
@@ -10,4 +8,5 @@ returns c =
     let text = c.args.text.now in
     let short : length text ≤ 18 = omega arith in
     let plain : get_or text 0 0 ≢ 43 = search rules in
-    subst (λ (o : Option ℕ). SomeIff o (IsDigits text) (digits_value 10 text)) (sym c.ok.ensures.value) (count_read text _ c.parse.ensures.value.0 short plain)
+    subst (λ (o : Option ℕ). MatchOption o ((k : ℕ) → IsNumber 10 most_digits text k → ⊥) (IsNumber 10 most_digits text)) (sym c.ok.ensures.value)
+    (count_read text _ c.parse.ensures.value.0 short plain)
