@@ -6,7 +6,8 @@ use Rattle.std.proofs.lemmas.List.{drop-drop, drop-append-le, take-append-le}
 use Rattle.std.proofs.Math.ListN.{length-drop}
 use Rattle.std.proofs.Common.{inl, inr}
 use Rattle.std.proofs.lemmas.Bool.{cases_lt}
-use Rattle.sgb_file.specs.Saving.{breaks_of, broken_lines, last_part}
+use Rattle.sgb_file.specs.Saving.{breaks_of}
+use Rattle.sgb_file.specs.inner.SavedLines.{broken_lines, last_part}
 
 -- a broken line of a piece, and what stands for it on the list
 abbrev broken_line : List ℕ → ℕ → List ℕ

@@ -17,7 +17,8 @@ use Rattle.sgb_graph.specs.declared.fields.Kind.{Kind}
 use Rattle.sgb_graph.specs.declared.fields.Kind.TheVariants.{Z, A, I, V}
 use Rattle.sgb_graph.specs.declared.fields.Util.{Util}
 use Rattle.sgb_text.specs.Languages.{Each}
-use Rattle.sgb_file.specs.FileLines.{lines_of_text, clean_lines, text_of_lines}
+use Rattle.sgb_file.specs.FileLines.{clean_lines, text_of_lines}
+use Rattle.sgb_file.specs.inner.LinesLeft.{lines_of_text}
 use Rattle.sgb_file.specs.Checksum.{has_star, checksum_of_lines}
 use Rattle.sgb_file.specs.Fields.{Counts, is_decimal_digit, number_of, most_number_digits}
 use Rattle.sgb_file.specs.Files.{Head, IsFirstLine, IsComment, IsChecksumLine, AreMoreFields, IsRecordOf, IsArcRecord, AreRecordsOf, Opens, AreRecordLines, IsClosed, head_of}

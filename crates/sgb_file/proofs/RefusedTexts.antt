@@ -8,7 +8,8 @@ use Rattle.sgb_vec.specs.declared.panics.Panic.TheVariants.{Early, Late, NoRoom,
 use Rattle.sgb_vec.specs.Results.{IsValue}
 use Rattle.sgb_graph.specs.Graphs.{GraphData}
 use Rattle.sgb_graph.specs.Sound.{is_sound}
-use Rattle.sgb_file.specs.FileLines.{lines_of_text, clean_lines, text_of_lines}
+use Rattle.sgb_file.specs.FileLines.{clean_lines, text_of_lines}
+use Rattle.sgb_file.specs.inner.LinesLeft.{lines_of_text}
 use Rattle.sgb_file.specs.Files.{Head, Opens, IsClosed, HasRecords, IsFileOf}
 use Rattle.sgb_file.specs.inner.ReadRecords.{records_at}
 use Rattle.sgb_file.specs.Refused.{HasNoOpening, HasNoRecords, HasNoClosing, HasUnsoundLists, IsRestoredAs}

@@ -15,7 +15,8 @@ use Rattle.sgb_file.specs.FileLines.{clean_lines, text_of_lines}
 use Rattle.sgb_file.specs.Checksum.{checksum_prime, weighted_sum, has_star, checksum_of_lines}
 use Rattle.sgb_file.specs.Fields.{most_number_digits}
 use Rattle.sgb_file.specs.Files.{IsFirstLine, IsComment, IsChecksumLine, IsVertexRecord, IsArcRecord, AreRecordsOf, IsFileOf, head_of}
-use Rattle.sgb_file.specs.Saving.{graph_texts, vertex_texts, arc_texts, record_lines, head_line, middle_lines, checksum_line, text_of_graph}
+use Rattle.sgb_file.specs.Saving.{record_lines, middle_lines, text_of_graph}
+use Rattle.sgb_file.specs.inner.SavedLines.{graph_texts, vertex_texts, arc_texts, head_line, checksum_line}
 use Rattle.sgb_file.specs.Saved.{CanBeSaved}
 use Rattle.sgb_file.proofs.LineLemmas.{is_line, list_all-join, clean_lines_read}
 use Rattle.sgb_file.proofs.FieldReading.{number_read}

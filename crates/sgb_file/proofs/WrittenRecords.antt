@@ -17,7 +17,8 @@ use Rattle.sgb_file.specs.FileLines.{text_of_lines}
 use Rattle.sgb_file.specs.Fields.{Counts, most_number_digits, number_of, integer_of, ref_of, record_number_of}
 use Rattle.sgb_text.specs.Languages.{Each}
 use Rattle.sgb_file.specs.Files.{IsFieldText, IsComma, AreMoreFields, IsRecordOf, IsGraphRecord, head_of}
-use Rattle.sgb_file.specs.Saving.{quoted, ref_text, record_number_text, field_texts, graph_texts, pieces_of, record_lines}
+use Rattle.sgb_file.specs.Saving.{quoted, ref_text, record_number_text, field_texts, pieces_of, record_lines}
+use Rattle.sgb_file.specs.inner.SavedLines.{graph_texts}
 use Rattle.sgb_file.specs.Saved.{ValueCanBeSaved}
 use Rattle.sgb_file.proofs.LineLemmas.{is_line}
 use Rattle.sgb_file.proofs.LaidOutText.{with_breaks, after_field, lay_out, laid_out_text}

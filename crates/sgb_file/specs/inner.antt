@@ -15,6 +15,8 @@ pub mod Found
 pub mod Lanes
 -- lines that are laid out, and what the sink has of them
 pub mod Layouts
+-- the lines of a graph's text, step by step
+pub mod SavedLines
 -- what is left of a file's lines while they are read
 pub mod LinesLeft
 -- parts with the records that a text begins with

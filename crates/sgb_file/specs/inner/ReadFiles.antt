@@ -10,7 +10,8 @@ use Rattle.sgb_graph.specs.Graphs.{GraphData}
 use Rattle.sgb_graph.specs.Sound.{is_sound}
 use Rattle.sgb_graph.specs.declared.fields.Kind.{Kind}
 use Rattle.sgb_graph.specs.declared.fields.Kind.TheVariants.{Z, I, V, S, A}
-use Rattle.sgb_file.specs.FileLines.{lines_of_text, clean_lines, text_of_lines}
+use Rattle.sgb_file.specs.FileLines.{clean_lines, text_of_lines}
+use Rattle.sgb_file.specs.inner.LinesLeft.{lines_of_text}
 use Rattle.sgb_file.specs.Checksum.{has_star, checksum_of_lines}
 use Rattle.sgb_file.specs.Fields.{is_decimal_digit, number_of, most_number_digits}
 use Rattle.sgb_file.specs.Files.{Head}
