@@ -17,7 +17,7 @@ use Rattle.sgb_graph.specs.Parts.{checked}
 use Rattle.sgb_graph.specs.Sound.{is_sound}
 use Rattle.sgb_file.specs.Checksum.{has_star}
 use Rattle.sgb_vec.specs.Results.{IsValue}
-use Rattle.sgb_file.specs.Files.{Head}
+use Rattle.sgb_file.specs.inner.Heads.{Head}
 use Rattle.sgb_file.specs.inner.ReadRecords.{records_at}
 use Rattle.sgb_file.proofs.FirstLines.{kept_one, no_more_kinds}
 use Rattle.sgb_file.proofs.LeftTexts.{next_left}

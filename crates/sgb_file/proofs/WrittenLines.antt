@@ -14,8 +14,7 @@ use Rattle.sgb_graph.specs.declared.fields.Kind.{Kind}
 use Rattle.sgb_graph.specs.declared.fields.Kind.TheVariants.{Z}
 use Rattle.sgb_graph.specs.declared.fields.Util.{Util}
 use Rattle.sgb_graph.specs.declared.fields.Util.TheVariants.{Nothing}
-use Rattle.sgb_file.specs.Fields.{Counts}
-use Rattle.sgb_file.specs.Files.{head_of}
+use Rattle.sgb_file.specs.inner.Heads.{Counts, head_of}
 use Rattle.sgb_file.specs.Saving.{letter_of, field_texts, record_lines, middle_lines}
 use Rattle.sgb_file.specs.inner.SavedLines.{graph_texts, vertex_texts, arc_texts, head_line}
 use Rattle.sgb_file.specs.Saved.{ValueCanBeSaved}

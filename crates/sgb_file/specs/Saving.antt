@@ -1,5 +1,5 @@
 -- The one text that is written for a graph [GB_SAVE, save_graph].
-use Rattle.std.specs.Prelude.{ℕ, ◌+◌, ◌-◌, ◌*◌, ◌/◌, Bool, List, [], ◌∷◌, ◌++◌, map, length, take, drop, codes, decimal, Option, Some, None, slice_index, nat_le, ◌==◌, if◌then◌else◌}
+use Rattle.std.specs.Prelude.{ℕ, ◌+◌, ◌-◌, ◌*◌, ◌/◌, List, [], ◌∷◌, ◌++◌, map, length, take, drop, codes, decimal, Option, Some, None, slice_index, nat_le, ◌==◌, if◌then◌else◌}
 use Rattle.std.specs.List.{flat_map, range_with_len}
 use Rattle.std.specs.Fmt.{signed_decimal}
 use Rattle.sgb_graph.specs.Graphs.{GraphData}
@@ -82,12 +82,12 @@ middle_lines g =
     record_lines (quoted g.id ∷ decimal (length g.vertices) ∷ decimal g.m ∷ flat_map field_texts g.util)
     ++ codes "* Vertices" ∷ flat_map (λ v. record_lines (quoted v.name ∷ record_number_text v.arcs ∷ flat_map field_texts v.util)) g.vertices
     ++ codes "* Arcs" ∷ flat_map (λ r. record_lines (
-        ref_text r.tip ∷ record_number_text r.next ∷ signed_decimal r.len ∷ flat_map field_texts (r.a ∷ r.b ∷ []))) g.records
+    ref_text r.tip ∷ record_number_text r.next ∷ signed_decimal r.len ∷ flat_map field_texts (r.a ∷ r.b ∷ []))) g.records
 
 -- the text of a graph: a line with its kinds and numbers, those of its records, and a line with their checksum
 abbrev pub text_of_graph : GraphData → List ℕ
 text_of_graph g =
     let first = codes "* GraphBase graph (util_types " ++ map letter_of g.kinds
-        ++ codes "," ++ decimal (length g.vertices) ++ codes "V," ++ decimal (length g.records) ++ codes "A)" in
+    ++ codes "," ++ decimal (length g.vertices) ++ codes "V," ++ decimal (length g.records) ++ codes "A)" in
     let last = codes "* Checksum " ++ decimal (checksum_of_lines (middle_lines g)) in
     text_of_lines (first ∷ (middle_lines g ++ last ∷ []))

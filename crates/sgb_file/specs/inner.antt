@@ -1,4 +1,8 @@
 -- What only the private contracts and the proofs of sgb_file speak of.
+-- what a first line says, and what stands after it
+pub mod Heads
+-- what the text of a field says
+pub mod FieldValues
 -- records that are read of one line
 pub mod LineRecords
 -- how an adapted reader or writer is stored
