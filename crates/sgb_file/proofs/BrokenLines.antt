@@ -1,12 +1,12 @@
 -- Lemmas on the lines of a piece that is broken.
 use Rattle.std.specs.Prelude.{◌≡◌, ℕ, zero, suc, ◌+◌, ◌*◌, ◌<◌, ◌≤◌, List, [], ◌∷◌, ◌++◌, map, length, take, drop, refl}
 use Rattle.std.specs.List.{range_with_len}
-use Rattle.std.proofs.Common.{arith, ap, sym, ◌∙◌, length-append}
+use Rattle.std.proofs.Common.{arith, ap, sym, ◌∙◌, length-append, inl, inr}
 use Rattle.std.proofs.lemmas.List.{drop-drop, drop-append-le, take-append-le}
 use Rattle.std.proofs.Math.ListN.{length-drop}
-use Rattle.std.proofs.Common.{inl, inr}
 use Rattle.std.proofs.lemmas.Bool.{cases_lt}
-use Rattle.sgb_file.specs.Saving.{breaks_of, broken_lines, last_part}
+use Rattle.sgb_file.specs.Saving.{breaks_of}
+use Rattle.sgb_file.specs.inner.SavedLines.{broken_lines, last_part}
 
 -- a broken line of a piece, and what stands for it on the list
 abbrev broken_line : List ℕ → ℕ → List ℕ

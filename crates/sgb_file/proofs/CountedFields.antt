@@ -7,7 +7,8 @@ use Rattle.std.proofs.lemmas.Bool.Decides.{nat_tests}
 use Rattle.sgb_graph.specs.declared.fields.Ref.{Ref}
 use Rattle.sgb_graph.specs.declared.fields.Ref.TheVariants.{At}
 use Rattle.sgb_file.specs.Checksum.{checksum_prime, has_star}
-use Rattle.sgb_file.specs.Fields.{integer_of, most_integer_digits, most_number_digits, number_below, number_of, record_number_of, ref_of}
+use Rattle.sgb_file.specs.Fields.{most_number_digits}
+use Rattle.sgb_file.specs.inner.FieldValues.{integer_of, most_integer_digits, number_below, number_of, record_number_of, ref_of}
 use Rattle.sgb_file.specs.inner.Found.{is_at_end}
 use Rattle.sgb_file.specs.inner.Layouts.{checksum_from, counted_bytes, value_after, value_from}
 use Rattle.sgb_file.specs.inner.LineRecords.{IsCountedField}

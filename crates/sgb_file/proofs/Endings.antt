@@ -7,9 +7,9 @@ use Rattle.std.proofs.lemmas.List.Elements.{filter_map-append}
 use Rattle.std.specs.List.{cons_option}
 use Rattle.std.specs.Result.{IsErrAnd}
 use Rattle.sgb_graph.specs.declared.fields.Kind.{Kind}
-use Rattle.sgb_file.specs.FileLines.{lines_among, lines_of_text, clean_lines, text_of_lines}
+use Rattle.sgb_file.specs.FileLines.{lines_among, clean_lines, text_of_lines}
+use Rattle.sgb_file.specs.inner.LinesLeft.{lines_of_text, LinesLeft, text_left, next_begun, none_begun, lines_still, lines_passed}
 use Rattle.sgb_file.specs.inner.Found.{IsFoundBy}
-use Rattle.sgb_file.specs.inner.LinesLeft.{LinesLeft, text_left, next_begun, none_begun, lines_still, lines_passed}
 use Rattle.sgb_vec.specs.declared.panics.Panic.{Panic}
 use Rattle.sgb_vec.specs.declared.panics.Panic.TheVariants.{NoRoom, Syntax}
 use Rattle.sgb_graph.specs.Graphs.{GraphData}
@@ -17,7 +17,7 @@ use Rattle.sgb_graph.specs.Parts.{checked}
 use Rattle.sgb_graph.specs.Sound.{is_sound}
 use Rattle.sgb_file.specs.Checksum.{has_star}
 use Rattle.sgb_vec.specs.Results.{IsValue}
-use Rattle.sgb_file.specs.Files.{Head}
+use Rattle.sgb_file.specs.inner.Heads.{Head}
 use Rattle.sgb_file.specs.inner.ReadRecords.{records_at}
 use Rattle.sgb_file.proofs.FirstLines.{kept_one, no_more_kinds}
 use Rattle.sgb_file.proofs.LeftTexts.{next_left}

@@ -16,11 +16,11 @@ use Rattle.sgb_graph.specs.declared.fields.Ref.{Ref}
 use Rattle.sgb_graph.specs.declared.fields.Ref.TheVariants.{Null, One, At}
 use Rattle.sgb_graph.proofs.Lists.{list_all-weaker}
 use Rattle.sgb_graph.specs.Sound.{ref_fits, chain_fits}
-use Rattle.sgb_file.specs.Fields.{is_decimal_digit, number_of, number_below, most_number_digits, most_integer_digits, integer_of, ref_of, record_number_of, unbroken}
+use Rattle.sgb_file.specs.Fields.{most_number_digits, unbroken, IsStringText}
+use Rattle.sgb_file.specs.inner.FieldValues.{is_decimal_digit, number_of, number_below, most_integer_digits, integer_of, ref_of, record_number_of}
 use Rattle.sgb_file.specs.inner.ReadFields.{string_at, plain_text, plain_at}
 use Rattle.sgb_file.specs.Saving.{quoted, ref_text, record_number_text}
 use Rattle.sgb_file.proofs.LineLemmas.{is_line, is_one_line, is_within_line, ends_well, ends_well-last, list_all-drop, list_all-take, list_all-join}
-use Rattle.sgb_file.specs.Files.{IsStringText}
 use Rattle.std.proofs.lemmas.List.Sums.{AllPass-from_list_all, list_all-from_AllPass}
 use Rattle.sgb_file.proofs.LeftTexts.{first_beyond, any_beyond}
 use Rattle.sgb_file.proofs.LaidOutText.{with_breaks, breaks_within}
@@ -86,7 +86,7 @@ digits_are_plain text h = list_all-weaker is_decimal_digit is_plain_byte text di
 digit_tested : (b : ℕ) → (48 ≤ b) × (b ≤ 57) → is_decimal_digit b ≡ true
 digit_tested b h = let low = h.0 in let high = h.1 in grind (arith, nat_tests)
 
-digits_tested : (text : List ℕ) → AllDigits 10 text → list_all is_decimal_digit text ≡ true
+pub digits_tested : (text : List ℕ) → AllDigits 10 text → list_all is_decimal_digit text ≡ true
 digits_tested [] h = refl
 digits_tested (b ∷ text) h =
     and_from (is_decimal_digit b) (list_all is_decimal_digit text) (digit_tested b (digit_at (b ∷ text) 0 h (omega arith))) (digits_tested text h.1)
@@ -140,7 +140,7 @@ number_is_said n h = record {
 }
 
 -- an integer is read of its text
-integer_by_digits : (text : List ℕ) (n : ℕ) → number_of most_integer_digits text ≡ Some n → list_all is_decimal_digit text ≡ true → n < 2 ^ 63 → integer_of text ≡ Some (pos n)
+pub integer_by_digits : (text : List ℕ) (n : ℕ) → number_of most_integer_digits text ≡ Some n → list_all is_decimal_digit text ≡ true → n < 2 ^ 63 → integer_of text ≡ Some (pos n)
 integer_by_digits [] n read digits h = absurd cc
 integer_by_digits (b ∷ text) n read digits h =
     let byte : is_decimal_digit b ≡ true = (and_parts (is_decimal_digit b) (list_all is_decimal_digit text) digits).0 in

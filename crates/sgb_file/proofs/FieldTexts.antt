@@ -6,7 +6,8 @@ use Rattle.std.specs.List.{flat_map}
 use Rattle.std.proofs.lemmas.List.{at_drop_more, drop_all}
 use Rattle.sgb_graph.specs.declared.fields.Util.{Util}
 use Rattle.sgb_graph.specs.declared.fields.Util.TheVariants.{Nothing}
-use Rattle.sgb_file.specs.Saving.{field_texts, pieces_of, laid_out, lines_ended, line_begun}
+use Rattle.sgb_file.specs.Saving.{field_texts, pieces_of, laid_out}
+use Rattle.sgb_file.specs.inner.SavedLines.{lines_ended, line_begun}
 use Rattle.sgb_file.specs.inner.Layouts.{Stage, HasLaid, IsStopped, IsLaid, IsPlaced, IsNextPlaced, AreLaidOut, LinesSoFar, has_any, piece_of}
 use Rattle.sgb_file.proofs.LaidLines.{lines-more, lines-cut, lines-last, stopped-first, laid-after}
 

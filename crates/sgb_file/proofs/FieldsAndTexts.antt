@@ -1,6 +1,5 @@
 -- Fields and their texts: a field's reader finds exactly a text that stands for its value.
-use Rattle.std.specs.Prelude.{◌≡◌, ◌≢◌, ℕ, zero, suc, ℤ, pos, neg_ℤ, ◌^◌, ◌<◌, ◌≤◌, true, not, ◌&&◌, ◌||◌, List, [], ◌∷◌, ◌++◌, length, drop, codes, Option, Some, None, FitsSigned, option_map, get_or, nat_lt, nat_le, ◌==◌, refl}
-use Rattle.std.specs.Int.{w64}
+use Rattle.std.specs.Prelude.{◌≡◌, ◌≢◌, ℕ, ℤ, ◌<◌, true, not, ◌&&◌, ◌||◌, List, [], ◌∷◌, ◌++◌, length, drop, codes, Option, Some, None, option_map, get_or, nat_lt, ◌==◌, refl}
 use Rattle.std.specs.List.{list_all, list_any, before_first, after_first, position_or_len}
 use Rattle.std.specs.Str.{bytes_eq}
 use Rattle.std.proofs.Common.{ap, sym, subst, ◌∙◌, arith, append_assoc, inl, inr}
@@ -10,22 +9,23 @@ use Rattle.std.proofs.lemmas.List.Sums.{list_all-from_AllPass, passes_at_first, 
 use Rattle.std.proofs.lemmas.Slice.Eq.{bytes_eq-Decides}
 use Rattle.sgb_text.proofs.Findings.{Found, after_prefix, taken_and_left, was_given, was_mapped, was_let_through, was_chosen, was_either}
 use Rattle.sgb_vec.specs.Limits.{most_bytes}
-use Rattle.sgb_vec.specs.Names.{is_text_byte}
 use Rattle.sgb_graph.specs.Sound.{ref_fits, chain_fits}
 use Rattle.sgb_graph.specs.declared.fields.Kind.{Kind}
 use Rattle.sgb_graph.specs.declared.fields.Kind.TheVariants.{Z, I, V, S, A}
 use Rattle.sgb_graph.specs.declared.fields.Ref.{Ref}
 use Rattle.sgb_graph.specs.declared.fields.Ref.TheVariants.{Null, One, At}
 use Rattle.sgb_graph.specs.declared.fields.Util.TheVariants.{Int, Vertex as VertexField, Str, Chain}
-use Rattle.sgb_file.specs.Fields.{Counts, number_of, number_below, most_integer_digits, integer_of, ref_of, record_number_of, unbroken, string_of}
+use Rattle.sgb_file.specs.Fields.{IsStringText}
+use Rattle.sgb_file.specs.inner.FieldValues.{number_of, number_below, most_integer_digits, integer_of, ref_of, record_number_of, string_of}
+use Rattle.sgb_file.specs.inner.Heads.{Counts}
 use Rattle.sgb_file.specs.inner.ReadFields.{string_at, plain_text, plain_at, field_at}
-use Rattle.sgb_file.specs.Files.{IsStringText, IsFieldText}
+use Rattle.sgb_file.specs.Files.{IsFieldText}
 use Rattle.sgb_file.specs.Saving.{quoted}
 use Rattle.sgb_file.proofs.FieldReading.{Ends, is_plain_byte, plain_read, plain_begins, digits_are_plain, have_no_quote, string_says}
+use Rattle.sgb_file.proofs.FieldWords.{integer_again, integer_found, record_number_again, record_number_found, ref_again, ref_found, string_of_is}
 use Rattle.sgb_file.proofs.LeftTexts.{passes_within, prefix_passes}
-use Rattle.sgb_file.proofs.NumberReading.{at_most, test_below, number_says}
-use Rattle.sgb_text.proofs.Finders.{Finds, StandsIn, found_with, finds_as}
-use Rattle.sgb_text.specs.Languages.{Says}
+use Rattle.sgb_file.proofs.NumberReading.{number_says}
+use Rattle.sgb_text.proofs.Finders.{Finds, StandsIn, found_with, finds_as, finds_is}
 
 -- a text that begins with no newline
 abbrev pub GoesOn : List ℕ → Type 0
@@ -35,6 +35,10 @@ GoesOn text = after_prefix (codes "\n") text ≡ None
 pub record IsPlainText (text : List ℕ) : Type 0 where
   pub some : 0 < length text
   pub bytes : list_all is_plain_byte text ≡ true
+
+-- a text that says a value by this function
+abbrev Says : {X : Type 0} → (List ℕ → Option X) → List ℕ → X → Type 0
+Says says text x = says text ≡ Some x
 
 -- a plain text is read, where all that say a value are plain
 pub finds_plain : {X : Type 0} (says : List ℕ → Option X) → ((text : List ℕ) (x : X) → says text ≡ Some x → IsPlainText text) → Finds found_with GoesOn Ends (Says says) (plain_at says)
@@ -60,13 +64,14 @@ string_found most (b ∷ text) result e =
     let tests = and_parts (b == 34) (list_any (λ c. c == 34) text) chosen.0 in
     let inside = before_first (λ c. c == 34) text in
     let m = was_mapped (string_of most inside) chosen.1 in
+    let is = string_of_is most inside m.first m.here in
     let within = passes_within (λ c. c == 34) text tests.1 in
     let parts = split_at_first (λ c. c == 34) text 0 within ∙ ap (λ c. inside ++ c ∷ after_first (λ d. d == 34) text) ((Decides-eqb _ 34).0 (passes_at_first (λ c. c == 34) text 0 within)) in
     record {
       value = m.first;
       word = quoted inside;
       rest = after_first (λ c. c == 34) text;
-      says = (inside, refl, have_no_quote inside (prefix_passes (λ c. not (c == 34)) text), m.here);
+      says = (inside, refl, have_no_quote inside (prefix_passes (λ c. not (c == 34)) text), is.0, is.1, is.2);
       parts = ap (λ c. c ∷ text) ((Decides-eqb b 34).0 tests.0) ∙ ap (λ x. 34 ∷ x) (parts ∙ sym (append_assoc inside (34 ∷ []) (after_first (λ c. c == 34) text)));
       made = m.same;
     }
@@ -75,11 +80,7 @@ string_again : (most : ℕ) (s text rest : List ℕ) → IsStringText most text 
 string_again most s text rest h =
     let inside = h.0 in
     let quotes = list_all-from_AllPass (λ b. not (b == 34)) inside (λ k d below. no_quote_is (get_or inside k d) (h.2 k d below)) in
-    let p = was_let_through (nat_le (length (unbroken inside)) most && list_all is_text_byte (unbroken inside)) (unbroken inside) s h.3 in
-    let parts = and_parts (nat_le (length (unbroken inside)) most) (list_all is_text_byte (unbroken inside)) p.0 in
-    ap (λ x. string_at most (x ++ rest)) h.1
-    ∙ string_says most inside (unbroken inside) rest quotes refl (at_most (length (unbroken inside)) most parts.0) parts.1
-    ∙ ap (λ (t : List ℕ). Some (record { value = t; rest = rest })) p.1
+    ap (λ x. string_at most (x ++ rest)) h.1 ∙ string_says most inside s rest quotes h.3 h.4 h.5
   where
     no_quote_is : (b : ℕ) → b ≢ 34 → not (b == 34) ≡ true
     no_quote_is b h = grind (arith, nat_tests)
@@ -132,31 +133,29 @@ record_number_says m (b ∷ text) first e =
       | inr h ↦ let none = was_chosen (bytes_eq (b ∷ text) (codes "0")) h.1 in fixed_says Good (b ∷ text) 48 first None refl refl none.0 none.1
     ]
 
--- the text of an integer is plain, and the integer has 64 bits
-negative_fits : (n : ℕ) → n ≤ 2 ^ 63 → FitsSigned w64 (neg_ℤ (pos n))
-negative_fits zero h = omega arith
-negative_fits (suc n) h = omega arith
-
-pub integer_says : (text : List ℕ) (i : ℤ) → integer_of text ≡ Some i → IsPlainText text × FitsSigned w64 i
-integer_says [] i e = absurd cc
-integer_says (b ∷ text) i e = elim (was_either (b == 45) e) [
+-- the text of an integer is plain
+integer_is_plain : (text : List ℕ) (i : ℤ) → integer_of text ≡ Some i → IsPlainText text
+integer_is_plain [] i e = absurd cc
+integer_is_plain (b ∷ text) i e = elim (was_either (b == 45) e) [
   | inl h ↦
       let g = was_given (number_of most_integer_digits text) h.1 in
-      let t = was_let_through (nat_le g.first (2 ^ 63)) (neg_ℤ (pos g.first)) i g.made in (
-        more_plain b text (ap is_plain_byte ((Decides-eqb b 45).0 h.0)) (number_is_plain most_integer_digits text g.first g.here),
-        subst (λ j. FitsSigned w64 j) t.1 (negative_fits g.first (at_most g.first (2 ^ 63) t.0)),
-      )
+      more_plain b text (ap is_plain_byte ((Decides-eqb b 45).0 h.0)) (number_is_plain most_integer_digits text g.first g.here)
   | inr h ↦
       let g = was_given (number_of most_integer_digits (b ∷ text)) h.1 in
-      let t = was_let_through (nat_lt g.first (2 ^ 63)) (pos g.first) i g.made in
-      let below = test_below g.first (2 ^ 63) t.0 in
-      (number_is_plain most_integer_digits (b ∷ text) g.first g.here, subst (λ j. FitsSigned w64 j) t.1 (omega (arith, below)))
+      number_is_plain most_integer_digits (b ∷ text) g.first g.here
 ]
 
+-- a word of a language that a function says is read
+pub finds_said : {X : Type 0} {Word : List ℕ → X → Type 0} (says : List ℕ → Option X) → ((text : List ℕ) (x : X) → says text ≡ Some x → IsPlainText text)
+    → ((text : List ℕ) (x : X) → says text ≡ Some x → Word text x) → ((text : List ℕ) (x : X) → Word text x → says text ≡ Some x) → Finds found_with GoesOn Ends Word (plain_at says)
+finds_said says plain found again = finds_is (λ text goes. goes) found again (finds_plain says plain)
+
 -- a field is read
-pub finds_field : (counts : Counts) (kind : Kind) → (kind ≡ Z → ⊥) → Finds found_with GoesOn Ends (IsFieldText counts kind) (field_at counts kind)
+pub finds_field : (counts : Counts) (kind : Kind) → (kind ≡ Z → ⊥) → Finds found_with GoesOn Ends (IsFieldText counts.vertices counts.arcs kind) (field_at counts kind)
 finds_field counts Z used = absurd (used refl)
-finds_field counts I used = finds_as Int (finds_plain integer_of (λ text i e. (integer_says text i e).0))
-finds_field counts V used = finds_as VertexField (finds_plain (ref_of counts.vertices) (λ text r e. (ref_says counts.vertices text r e).0))
+finds_field counts I used = finds_as Int (finds_said integer_of integer_is_plain integer_found integer_again)
+finds_field counts V used =
+    finds_as VertexField (finds_said (ref_of counts.vertices) (λ text r e. (ref_says counts.vertices text r e).0) (ref_found counts.vertices) (ref_again counts.vertices))
 finds_field counts S used = finds_as Str (finds_string most_bytes)
-finds_field counts A used = finds_as Chain (finds_plain (record_number_of counts.arcs) (λ text k e. (record_number_says counts.arcs text k e).0))
+finds_field counts A used =
+    finds_as Chain (finds_said (record_number_of counts.arcs) (λ text k e. (record_number_says counts.arcs text k e).0) (record_number_found counts.arcs) (record_number_again counts.arcs))

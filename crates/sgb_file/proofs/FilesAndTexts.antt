@@ -17,19 +17,23 @@ use Rattle.sgb_graph.specs.declared.fields.Kind.{Kind}
 use Rattle.sgb_graph.specs.declared.fields.Kind.TheVariants.{Z, A, I, V}
 use Rattle.sgb_graph.specs.declared.fields.Util.{Util}
 use Rattle.sgb_text.specs.Languages.{Each}
-use Rattle.sgb_file.specs.FileLines.{lines_of_text, clean_lines, text_of_lines}
+use Rattle.sgb_file.specs.FileLines.{clean_lines, text_of_lines}
+use Rattle.sgb_file.specs.inner.LinesLeft.{lines_of_text}
 use Rattle.sgb_file.specs.Checksum.{has_star, checksum_of_lines}
-use Rattle.sgb_file.specs.Fields.{Counts, is_decimal_digit, number_of, most_number_digits}
-use Rattle.sgb_file.specs.Files.{Head, IsFirstLine, IsComment, IsChecksumLine, AreMoreFields, IsRecordOf, IsArcRecord, AreRecordsOf, Opens, AreRecordLines, IsClosed, head_of}
+use Rattle.sgb_file.specs.Fields.{most_number_digits}
+use Rattle.sgb_file.specs.inner.FieldValues.{is_decimal_digit, number_of}
+use Rattle.sgb_file.specs.inner.Heads.{Counts, Head, AreRecordLines, head_of, SaysHead, OpensWith}
+use Rattle.sgb_file.specs.Files.{IsComment, IsChecksumLine, AreMoreFields, IsRecordOf, IsArcRecord, AreRecordsOf, IsClosed}
 use Rattle.sgb_file.specs.inner.ReadRecords.{records_at}
 use Rattle.sgb_file.specs.inner.ReadFiles.{Opening, leading_number, head_of_line, opening_of, checksum_in_line, checksum_agrees, line_closes, closes}
 use Rattle.sgb_file.proofs.LineLemmas.{is_one_line, is_within_line, lines_again, lines_read, clean_are_one_line}
 use Rattle.sgb_file.proofs.NumberReading.{at_most_passes, number_says}
 use Rattle.sgb_file.proofs.FirstLines.{IsLeading, leading_found, leading_says, first_line_found, kinds_read}
 use Rattle.sgb_file.proofs.RecordsAndTexts.{finds_records}
+use Rattle.sgb_file.proofs.FieldWords.{digits_again, digits_found}
 
 -- and a first line is read as one
-first_line_read : (head : Head) (line : List ℕ) → IsFirstLine head line → head_of_line line ≡ Some head
+first_line_read : (head : Head) (line : List ℕ) → SaysHead head line → head_of_line line ≡ Some head
 first_line_read head line (n, m, anything, n_says, m_says, fourteen, few, form) =
     let third = codes "V," ++ (m ++ (codes "A)" ++ anything)) in
     let passes = at_most_passes head.counts.vertices most_vertices few in
@@ -43,9 +47,9 @@ comment_is_passed line h = by_head (head_of_line line) refl
   where
     by_head : (o : Option Head) → head_of_line line ≡ o → o ≡ None
     by_head None e = refl
-    by_head (Some head) e = absurd (h.1 head (first_line_found line head e))
+    by_head (Some head) e = absurd (h.1 head.kinds head.counts.vertices head.counts.arcs (first_line_found line head e))
 
-pub opening_read : (head : Head) (comments : List (List ℕ)) (first : List ℕ) (lines : List (List ℕ)) → All IsComment comments → IsFirstLine head first
+pub opening_read : (head : Head) (comments : List (List ℕ)) (first : List ℕ) (lines : List (List ℕ)) → All IsComment comments → SaysHead head first
     → opening_of (comments ++ first ∷ lines) ≡ Some (record { head = head; lines = lines })
 unfolding opening_of
 opening_read head [] first lines h says = rw (first_line_read head first says) refl
@@ -55,10 +59,10 @@ opening_read head (line ∷ comments) first lines h says =
 
 -- comments, a first line, and the lines after it
 abbrev pub IsOpened : List (List ℕ) → Opening → Type 0
-IsOpened lines opening = (comments : List (List ℕ)) × (first : List ℕ) × All IsComment comments × IsFirstLine opening.head first × (lines ≡ comments ++ first ∷ opening.lines)
+IsOpened lines opening = (comments : List (List ℕ)) × (first : List ℕ) × All IsComment comments × SaysHead opening.head first × (lines ≡ comments ++ first ∷ opening.lines)
 
 comment_found : (line : List ℕ) → head_of_line line ≡ None → has_star line ≡ true → IsComment line
-comment_found line none star = (star, λ head says. let is = first_line_read head line says in absurd cc)
+comment_found line none star = (star, λ kinds n m says. let is = first_line_read (record { kinds = kinds; counts = record { vertices = n; arcs = m } }) line says in absurd cc)
 
 pub opening_found : (lines : List (List ℕ)) (opening : Opening) → opening_of lines ≡ Some opening → IsOpened lines opening
 unfolding opening_of
@@ -94,7 +98,7 @@ minus_first (b ∷ text) h = ap (λ c. c ∷ text) ((Decides-eqb b 45).0 h)
 agreeing_line : (sum : ℕ) (line text : List ℕ) (found : Found ℕ) → IsLeading text found
     → ((found.value ≡ sum) × (line ≡ codes "* Checksum " ++ text)) ⊎ (((0 < found.value) ⊎ (found.value ≡ sum)) × (line ≡ codes "* Checksum -" ++ text)) → IsChecksumLine sum line
 agreeing_line sum line text found l h =
-    (l.digits, found.rest, found.value, l.says, l.ends, subst (λ (t : List ℕ). ((found.value ≡ sum) × (line ≡ codes "* Checksum " ++ t)) ⊎ (((0 < found.value) ⊎ (found.value ≡ sum)) × (line ≡ codes "* Checksum -" ++ t))) l.parts h)
+    (l.digits, found.rest, found.value, digits_found most_number_digits l.digits found.value l.says, l.ends, subst (λ (t : List ℕ). ((found.value ≡ sum) × (line ≡ codes "* Checksum " ++ t)) ⊎ (((0 < found.value) ⊎ (found.value ≡ sum)) × (line ≡ codes "* Checksum -" ++ t))) l.parts h)
 
 -- a line that is read as an agreeing checksum's is one
 checksum_found : (line : List ℕ) (c : ℤ) (lines : List (List ℕ)) → checksum_in_line line ≡ Some c → checksum_agrees c lines ≡ true → IsChecksumLine (checksum_of_lines lines) line
@@ -127,7 +131,7 @@ Closes lines line = option_map_or (λ c. checksum_agrees c lines) (checksum_in_l
 pub checksum_read : (line : List ℕ) (lines : List (List ℕ)) → IsChecksumLine (checksum_of_lines lines) line → Closes lines line
 checksum_read line lines (digits, anything, k, says, ends, inl (same, parts)) =
     ap (λ l. option_map_or (λ c. checksum_agrees c lines) (checksum_in_line l) false) parts
-    ∙ rw (digits_no_minus digits anything k says) (rw (leading_says digits anything k says ends) ((Decides-eqb k (checksum_of_lines lines)).1 same))
+    ∙ rw (digits_no_minus digits anything k (digits_again most_number_digits digits k says)) (rw (leading_says digits anything k says ends) ((Decides-eqb k (checksum_of_lines lines)).1 same))
 checksum_read line lines (digits, anything, k, says, ends, inr (agrees, parts)) =
     ap (λ l. option_map_or (λ c. checksum_agrees c lines) (checksum_in_line l) false) parts
     ∙ rw (leading_says digits anything k says ends) (minus_passes k lines agrees)
@@ -140,14 +144,14 @@ pub record EndsLine (text : List ℕ) : Type 0 where
 ends_too : (before text : List ℕ) → EndsLine text → EndsLine (before ++ text)
 ends_too before text h = record { front = before ++ h.front; whole = ap (λ x. before ++ x) h.whole ∙ sym (append_assoc before h.front (10 ∷ [])) }
 
-more_end : (counts : Counts) (kinds : List Kind) (us : List Util) (whole : List ℕ) → AreMoreFields counts kinds whole us → EndsLine whole
+more_end : (counts : Counts) (kinds : List Kind) (us : List Util) (whole : List ℕ) → AreMoreFields counts.vertices counts.arcs kinds whole us → EndsLine whole
 more_end counts [] us whole h = record { front = []; whole = h.0 }
 more_end counts (Z ∷ kinds) us whole h = more_end counts kinds h.0 whole h.1
 more_end counts (kind ∷ kinds) us whole h =
     let c = h.5 in
     subst EndsLine (sym (h.3 ∙ ap (λ x. h.0 ++ x) c.3)) (ends_too h.0 (c.0 ++ c.1) (ends_too c.0 c.1 (more_end counts kinds c.5.0 c.1 c.5.1)))
 
-record_ends : (counts : Counts) (kind : Kind) (kinds : List Kind) (us : List Util) (whole : List ℕ) → IsRecordOf counts kind kinds whole us → EndsLine whole
+record_ends : (counts : Counts) (kind : Kind) (kinds : List Kind) (us : List Util) (whole : List ℕ) → IsRecordOf counts.vertices counts.arcs kind kinds whole us → EndsLine whole
 record_ends counts kind kinds us whole h = subst EndsLine (sym h.3) (ends_too h.0 h.1 (more_end counts kinds h.5.0 h.1 h.5.1))
 
 records_end : {X : Type 0} (IsOne : List ℕ → X → Type 0) → ((x : X) (whole : List ℕ) → IsOne whole x → EndsLine whole)
@@ -161,7 +165,7 @@ records_end IsOne ends (x ∷ xs) whole h line =
 
 pub all_records_end : (g : GraphData) (whole : List ℕ) → AreRecordsOf g whole → EndsLine whole
 all_records_end g whole h =
-    let arcs = records_end (IsArcRecord (head_of g)) (λ r t is. record_ends (head_of g).counts V (A ∷ I ∷ arc_kinds g.kinds) _ t is) g.records h.arcs h.arc_records (codes "* Arcs") in
+    let arcs = records_end (IsArcRecord g) (λ r t is. record_ends (head_of g).counts V (A ∷ I ∷ arc_kinds g.kinds) _ t is) g.records h.arcs h.arc_records (codes "* Arcs") in
     subst EndsLine (sym h.parts) (ends_too h.own (codes "* Vertices\n" ++ (h.vertices ++ (codes "* Arcs\n" ++ h.arcs)))
     (ends_too (codes "* Vertices\n") (h.vertices ++ (codes "* Arcs\n" ++ h.arcs)) (ends_too h.vertices (codes "* Arcs\n" ++ h.arcs) arcs)))
 
@@ -227,16 +231,16 @@ pub closes_by : (opening : Opening) (records : List (List ℕ)) (rest : List ℕ
 closes_by opening records rest e = search (rules, before_following, records)
 
 -- an opening is read, and what is read is an opening
-pub opens_read : (text : List ℕ) (head : Head) (lines : List (List ℕ)) → Opens text head lines → opening_of (clean_lines text) ≡ Some (record { head = head; lines = lines })
+pub opens_read : (text : List ℕ) (head : Head) (lines : List (List ℕ)) → OpensWith text head lines → opening_of (clean_lines text) ≡ Some (record { head = head; lines = lines })
 opens_read text head lines h = ap opening_of h.parts ∙ opening_read head h.comments h.first lines h.comments_are h.first_says
 
-pub opens_found : (text : List ℕ) (o : Opening) → opening_of (clean_lines text) ≡ Some o → Opens text o.head o.lines
+pub opens_found : (text : List ℕ) (o : Opening) → opening_of (clean_lines text) ≡ Some o → OpensWith text o.head o.lines
 opens_found text o e =
     let p = opening_found (clean_lines text) o e in
     record { comments = p.0; first = p.1; parts = p.4; comments_are = p.2; first_says = p.3 }
 
 -- no newline stands in the lines after an opening
-pub after_opening : (text : List ℕ) (head : Head) (lines : List (List ℕ)) → Opens text head lines → list_all is_one_line lines ≡ true
+pub after_opening : (text : List ℕ) (head : Head) (lines : List (List ℕ)) → OpensWith text head lines → list_all is_one_line lines ≡ true
 after_opening text head lines h =
     let all : list_all is_one_line (h.comments ++ h.first ∷ lines) ≡ true = ap (list_all is_one_line) (sym h.parts) ∙ clean_are_one_line text in
     (and_parts (is_one_line h.first) (list_all is_one_line lines) (last_lines h.comments (h.first ∷ lines) all)).1

@@ -1,7 +1,6 @@
 -- First lines: what one that is read says, and how its kinds and numbers are read.
 use Rattle.std.specs.Prelude.{◌≡◌, ℕ, suc, ◌+◌, ◌≤◌, Bool, true, false, List, [], ◌∷◌, ◌++◌, map, length, take, drop, codes, Option, Some, None, filter_map, take_while, nat_le, ◌==◌, if◌then◌else◌, refl}
-use Rattle.std.specs.List.{prefix_len, cons_option}
-use Rattle.std.specs.List.{list_all}
+use Rattle.std.specs.List.{prefix_len, cons_option, list_all}
 use Rattle.std.proofs.Common.{rules, ap, sym, subst, ◌∙◌, arith, inl, inr}
 use Rattle.std.proofs.Math.Seq.{take-append_seam, drop-append_seam}
 use Rattle.std.proofs.lemmas.Bool.{and_parts, cases_lt}
@@ -13,11 +12,13 @@ use Rattle.sgb_text.proofs.Findings.{Found, after_prefix, prefix_is, taken_and_l
 use Rattle.sgb_vec.specs.Limits.{most_vertices}
 use Rattle.sgb_graph.specs.declared.fields.Kind.{Kind}
 use Rattle.sgb_graph.specs.declared.fields.Kind.TheVariants.{Z, I, V, S, A}
-use Rattle.sgb_file.specs.Fields.{is_decimal_digit, number_of, most_number_digits}
-use Rattle.sgb_file.specs.Files.{Head, IsFirstLine, BeginsWithNoDigit}
+use Rattle.sgb_file.specs.Fields.{most_number_digits, AreDigitsOf}
+use Rattle.sgb_file.specs.inner.FieldValues.{is_decimal_digit, number_of}
+use Rattle.sgb_file.specs.inner.Heads.{Head, BeginsWithNoDigit, SaysHead}
 use Rattle.sgb_file.specs.inner.ReadFiles.{kind_of_letter, kinds_at, leading_number, head_of_line}
 use Rattle.sgb_file.specs.Saving.{letter_of}
 use Rattle.sgb_file.proofs.NumberReading.{at_most, number_says}
+use Rattle.sgb_file.proofs.FieldWords.{digits_again, digits_found}
 
 -- the kind of a letter is written by it
 letter_is : (c : ℕ) (k : Kind) → kind_of_letter c ≡ Some k → c ≡ letter_of k
@@ -77,7 +78,7 @@ no_digit_left text =
     let place = ap (λ (k : ℕ). drop k text) (length-prefix_len is_decimal_digit text) in
     elim (cases_lt n (length text)) [
       | inl within ↦ subst BeginsWithNoDigit (sym (place ∙ drop_more text n 0 within)) (prefix_len_stops is_decimal_digit text 0 within)
-      | inr past ↦ subst BeginsWithNoDigit (sym (place ∙ drop_all n text past)) tt
+      | inr past ↦ subst BeginsWithNoDigit (sym (place ∙ drop_all n text past)) refl
     ]
 
 pub leading_found : (text : List ℕ) (found : Found ℕ) → leading_number text ≡ Some found → IsLeading text found
@@ -92,7 +93,7 @@ leading_found text found e =
     })
 
 -- a line that is read as a first line is one
-pub first_line_found : (line : List ℕ) (head : Head) → head_of_line line ≡ Some head → IsFirstLine head line
+pub first_line_found : (line : List ℕ) (head : Head) → head_of_line line ≡ Some head → SaysHead head line
 first_line_found line head e =
     let letters = was_given (after_prefix (codes "* GraphBase graph (util_types ") line) e in
     let kinds = was_given (kinds_at letters.first) letters.made in
@@ -108,12 +109,12 @@ first_line_found line head e =
     let m_is = leading_found third.first m.first m.here in
     let after_letters = ap (λ x. codes "," ++ x) (n_is.parts ∙ ap (λ x. n_is.digits ++ x) (prefix_is (codes "V,") n.first.rest third.first third.here
     ∙ ap (λ x. codes "V," ++ x) (m_is.parts ∙ ap (λ x. m_is.digits ++ x) (prefix_is (codes "A)") m.first.rest anything.first anything.here)))) in
-    subst (λ (h : Head). IsFirstLine h line) through.1 (
+    subst (λ (h : Head). SaysHead h line) through.1 (
       n_is.digits,
       m_is.digits,
       anything.first,
-      n_is.says,
-      m_is.says,
+      digits_found most_number_digits n_is.digits n.first.value n_is.says,
+      digits_found most_number_digits m_is.digits m.first.value m_is.says,
       k.0,
       at_most n.first.value most_vertices through.0,
       prefix_is (codes "* GraphBase graph (util_types ") line letters.first letters.here
@@ -123,14 +124,16 @@ first_line_found line head e =
 -- digits end where they did
 digits_end : (text more : List ℕ) → list_all is_decimal_digit text ≡ true → BeginsWithNoDigit more → prefix_len is_decimal_digit (text ++ more) ≡ length text
 digits_end [] [] h e = refl
-digits_end [] (b ∷ more) h e = rw e refl
+digits_end [] (b ∷ more) h e = let other : is_decimal_digit b ≡ false = e in rw other refl
 digits_end (b ∷ text) more h e =
     let parts = and_parts (is_decimal_digit b) (list_all is_decimal_digit text) h in
     rw parts.0 (ap (λ k. 1 + k) (digits_end text more parts.1 e) ∙ omega arith)
 
 -- the number that a text begins with is read
-pub leading_says : (digits more : List ℕ) (k : ℕ) → number_of most_number_digits digits ≡ Some k → BeginsWithNoDigit more → leading_number (digits ++ more) ≡ Some (record { value = k; rest = more })
-leading_says digits more k says none = search (rules, digits, digits_end, number_says, says, take-append_seam, drop-append_seam)
+pub leading_says : (digits more : List ℕ) (k : ℕ) → AreDigitsOf most_number_digits digits k → BeginsWithNoDigit more → leading_number (digits ++ more) ≡ Some (record { value = k; rest = more })
+leading_says digits more k is none =
+    let says = digits_again most_number_digits digits k is in
+    search (rules, digits, digits_end, number_says, says, take-append_seam, drop-append_seam)
 
 -- the kinds are read of their letters
 letters_say : (kinds : List Kind) → filter_map kind_of_letter (map letter_of kinds) ≡ kinds

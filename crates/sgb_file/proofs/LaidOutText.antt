@@ -6,7 +6,8 @@ use Rattle.std.proofs.lemmas.Bool.{and_parts, and_from, cases_lt}
 use Rattle.std.proofs.lemmas.Grind.{flat_map-append}
 use Rattle.std.proofs.lemmas.List.{take-append-le, drop-append-le, length-drop}
 use Rattle.sgb_file.specs.FileLines.{text_of_lines}
-use Rattle.sgb_file.specs.Saving.{breaks_of, broken_lines, last_part, fits_on, lines_ended, line_begun, laid_out, pieces_of, record_lines}
+use Rattle.sgb_file.specs.Saving.{breaks_of, laid_out, pieces_of, record_lines}
+use Rattle.sgb_file.specs.inner.SavedLines.{broken_lines, last_part, fits_on, lines_ended, line_begun}
 use Rattle.sgb_file.specs.inner.Layouts.{comma_of, has_any, piece_of}
 use Rattle.sgb_file.proofs.BrokenLines.{breaks-long, breaks-short, broken-long, broken-short, last-long, last-short}
 use Rattle.sgb_file.proofs.LayoutLemmas.{laid_out_pass}

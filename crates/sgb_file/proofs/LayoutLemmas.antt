@@ -9,7 +9,8 @@ use Rattle.std.proofs.lemmas.List.Folds.{list_all-append}
 use Rattle.sgb_graph.proofs.Lists.{list_all-made}
 use Rattle.std.proofs.lemmas.Bool.{and_parts}
 use Rattle.std.proofs.lemmas.Bool.Decides.{nat_tests}
-use Rattle.sgb_file.specs.Saving.{most_file_line_bytes, breaks_of, broken_lines, last_part, fits_on, part_from_break, lines_ended, line_begun, laid_out}
+use Rattle.sgb_file.specs.Saving.{most_file_line_bytes, breaks_of, part_from_break, laid_out}
+use Rattle.sgb_file.specs.inner.SavedLines.{broken_lines, last_part, fits_on, lines_ended, line_begun}
 
 -- the line has at most 79 bytes
 abbrev pub is_short : List ℕ → Bool

@@ -7,6 +7,7 @@ pub mod FirstLines
 -- what a file's records say fits its kinds, and can be saved
 pub mod ReadParts
 -- a field is read exactly of a text that says its value
+pub mod FieldWords
 pub mod FieldsAndTexts
 -- a record is read exactly of the texts of its fields
 pub mod RecordsAndTexts

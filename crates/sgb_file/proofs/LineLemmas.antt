@@ -9,7 +9,8 @@ use Rattle.std.proofs.lemmas.List.Folds.{list_all-append}
 use Rattle.std.proofs.lemmas.List.Sums.{AllPass-from_list_all, list_all-from_AllPass}
 use Rattle.std.proofs.lemmas.Bool.Decides.{nat_tests, Decides-eqb}
 use Rattle.sgb_graph.proofs.Lists.{list_all-weaker, list_all-mapped, map-stays}
-use Rattle.sgb_file.specs.FileLines.{lines_among, lines_of_text, without_end_spaces, clean_lines, text_of_lines}
+use Rattle.sgb_file.specs.FileLines.{lines_among, without_end_spaces, clean_lines, text_of_lines}
+use Rattle.sgb_file.specs.inner.LinesLeft.{lines_of_text}
 
 -- the byte is no newline
 abbrev pub is_within_line : ℕ → Bool

@@ -11,9 +11,9 @@ use Rattle.sgb_graph.specs.declared.fields.Util.{Util}
 use Rattle.sgb_graph.specs.declared.fields.Util.TheVariants.{Chain, Int, Nothing}
 use Rattle.sgb_graph.specs.Sound.{arc_kinds}
 use Rattle.sgb_file.specs.Checksum.{checksum_prime}
-use Rattle.sgb_file.specs.Fields.{Counts, integer_of, record_number_of, ref_of}
+use Rattle.sgb_file.specs.inner.FieldValues.{integer_of, record_number_of, ref_of}
+use Rattle.sgb_file.specs.inner.Heads.{Counts, Head}
 use Rattle.sgb_file.specs.inner.ReadFields.{field_at, plain_at}
-use Rattle.sgb_file.specs.Files.{Head}
 use Rattle.sgb_file.specs.inner.ReadRecords.{after_comma, arc_record_at, more_fields_at}
 use Rattle.sgb_file.specs.inner.Found.{is_used}
 use Rattle.sgb_file.specs.inner.Layouts.{checksum_from, counted_bytes, value_after, value_from}

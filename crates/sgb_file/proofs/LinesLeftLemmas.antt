@@ -9,10 +9,10 @@ use Rattle.std.proofs.lemmas.List.Elements.{All-from_get_or}
 use Rattle.std.proofs.Math.Seq.{take-append_seam}
 use Rattle.std.proofs.lemmas.Bool.{and_parts}
 use Rattle.std.proofs.lemmas.Bool.Decides.{nat_tests}
-use Rattle.sgb_file.specs.FileLines.{lines_among, lines_of_text, clean_lines, text_of_lines, without_end_spaces}
+use Rattle.sgb_file.specs.FileLines.{lines_among, clean_lines, text_of_lines, without_end_spaces}
+use Rattle.sgb_file.specs.inner.LinesLeft.{lines_of_text, IsWhole, lines_passed, text_left, next_begun, has_no_newline, HasPassed, AreLinesLeft, lines_left, lines_still}
 use Rattle.sgb_file.specs.Checksum.{checksum_of_lines}
 use Rattle.sgb_file.specs.inner.Layouts.{checksum_from, counted_bytes}
-use Rattle.sgb_file.specs.inner.LinesLeft.{IsWhole, lines_passed, text_left, next_begun, has_no_newline, HasPassed, AreLinesLeft, lines_left, lines_still}
 use Rattle.sgb_file.proofs.LineLemmas.{clean_are_one_line, is_one_line, is_within_line, ends_well, ends_well-last, list_all-drop, first_line, some_part, line_read, lines_read}
 use Rattle.sgb_file.proofs.LaidLines.{checksum_from-append, counted-append}
 use Rattle.sgb_file.proofs.WholeText.{checksum-whole}

@@ -12,7 +12,7 @@ use Rattle.std.proofs.lemmas.Int.Digits.{digits_value_more, digits_value-lt}
 use Rattle.std.proofs.lemmas.Str.Parse.{digits_value-take-le}
 use native.Mathlib.Nat.{pow-le-pow_right}
 use Rattle.sgb_text.proofs.Findings.{was_let_through}
-use Rattle.sgb_file.specs.Fields.{is_decimal_digit, number_of}
+use Rattle.sgb_file.specs.inner.FieldValues.{is_decimal_digit, number_of}
 use Rattle.sgb_file.specs.inner.Found.{value_if_digits}
 
 -- a decimal digit, and its value

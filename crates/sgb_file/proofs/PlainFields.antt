@@ -9,7 +9,7 @@ use Rattle.std.proofs.lemmas.List.{drop_all, drop_more, drop-append-le, get_or-t
 use Rattle.std.proofs.lemmas.List.Folds.{length-prefix_len}
 use Rattle.std.proofs.lemmas.List.Sums.{AllPass-from_list_all, passes_at_first, position_or_len_is, prefix_len-le-length, prefix_len_is, prefix_len_passes}
 use Rattle.sgb_graph.specs.declared.fields.Ref.TheVariants.{At}
-use Rattle.sgb_file.specs.Fields.{is_decimal_digit, number_below, number_of, record_number_of, ref_of}
+use Rattle.sgb_file.specs.inner.FieldValues.{is_decimal_digit, number_below, number_of, record_number_of, ref_of}
 use Rattle.sgb_file.specs.inner.ReadFields.{plain_at}
 use Rattle.sgb_file.specs.inner.Found.{is_at_end}
 use Rattle.sgb_file.specs.inner.LinesLeft.{LinesLeft, text_left, skipped, has_no_newline}

@@ -1,13 +1,13 @@
 -- What is read of a file's records: fields that fit their kinds, texts and numbers within their limits.
 use Rattle.std.specs.Prelude.{◌≡◌, ℕ, ◌<◌, ◌≤◌, true, ◌&&◌, List, [], ◌∷◌, length, get_or, Some, Ok, Err, All, if◌then◌else◌, refl}
 use Rattle.std.specs.List.{list_all}
-use Rattle.std.proofs.Common.{arith, sym, subst, ◌∙◌}
-use Rattle.std.proofs.lemmas.Bool.{and_parts, and_from}
+use Rattle.std.proofs.Common.{sym, subst, ◌∙◌}
+use Rattle.std.proofs.lemmas.Bool.{and_from}
 use Rattle.std.proofs.lemmas.List.Elements.{All-cons, All-nil}
 use Rattle.std.proofs.lemmas.List.Sums.{AllPass-from_list_all, list_all-from_AllPass}
-use Rattle.sgb_text.proofs.Findings.{Found, was_let_through}
-use Rattle.sgb_vec.specs.Limits.{most_vertices, most_bytes}
-use Rattle.sgb_vec.specs.Names.{IsTextByte}
+use Rattle.sgb_text.proofs.Findings.{Found}
+use Rattle.sgb_vec.specs.Limits.{most_vertices}
+use Rattle.sgb_vec.specs.Names.{IsTextByte, is_text_byte}
 use Rattle.sgb_vec.specs.declared.panics.Panic.TheVariants.{Syntax}
 use Rattle.sgb_graph.specs.Graphs.{GraphData}
 use Rattle.sgb_graph.specs.Ids.{most_id_bytes}
@@ -18,35 +18,32 @@ use Rattle.sgb_graph.specs.declared.fields.Kind.TheVariants.{Z, I, V, S, A}
 use Rattle.sgb_graph.specs.declared.fields.Util.{Util}
 use Rattle.sgb_graph.specs.declared.fields.Util.TheVariants.{Nothing}
 use Rattle.sgb_file.specs.FileLines.{text_of_lines}
-use Rattle.sgb_file.specs.Fields.{Counts, most_number_digits, string_of}
-use Rattle.sgb_file.specs.Files.{Head, IsFieldText, AreMoreFields, IsRecordOf, IsFirstLine, IsVertexRecord, IsArcRecord, IsGraphRecord, AreRecordsOf, head_of}
+use Rattle.sgb_file.specs.Fields.{most_number_digits}
+use Rattle.sgb_file.specs.inner.Heads.{Counts, Head, head_of, SaysHead, IsGraphAfter}
+use Rattle.sgb_file.specs.Files.{IsFieldText, AreMoreFields, IsRecordOf, IsVertexRecord, IsArcRecord, AreRecordsOf}
 use Rattle.sgb_text.specs.Languages.{Each}
 use Rattle.sgb_file.specs.inner.ReadRecords.{records_at}
 use Rattle.sgb_file.specs.inner.ReadFiles.{Opening, opening_of, graph_of_records, graph_of_text}
 use Rattle.sgb_file.specs.Saved.{number_limit, ValueCanBeSaved, CanBeChecked, CanBeSaved}
-use Rattle.sgb_file.proofs.NumberReading.{at_most, at_most_passes, number_is_small}
+use Rattle.sgb_file.proofs.NumberReading.{at_most_passes, number_is_small}
 use Rattle.sgb_file.proofs.FilesAndTexts.{opening_found}
-use Rattle.sgb_file.proofs.FieldsAndTexts.{integer_says, record_number_says, ref_says}
+use Rattle.sgb_file.proofs.FieldsAndTexts.{record_number_says, ref_says}
 use Rattle.sgb_file.proofs.RecordsAndTexts.{finds_records}
 use Rattle.sgb_file.proofs.RefusedTexts.{file_from_read}
 use Rattle.sgb_file.proofs.SavedGraphs.{FieldsFit, VertexFits, ArcFits, arc_saved, arc_tests, vertex_saved}
-
--- a string
-read_string_fits : (most : ℕ) (bytes s : List ℕ) → string_of most bytes ≡ Some s → (length s ≤ most) × All IsTextByte s
-read_string_fits most bytes s e = grind (arith, was_let_through, and_parts, at_most, AllPass-from_list_all)
+use Rattle.sgb_file.proofs.FieldWords.{digits_again, record_number_again, ref_again}
 
 -- a value whose text is a field's fits its kind, and can be saved
 record FieldFits (counts : Counts) (kind : Kind) (u : Util) : Type 0 where
   fits : util_fits counts.vertices counts.arcs kind u ≡ true
   value : ValueCanBeSaved u
 
-field_fits : (counts : Counts) (kind : Kind) (u : Util) (text : List ℕ) → IsFieldText counts kind text u → FieldFits counts kind u
-field_fits counts I u text h = subst (FieldFits counts I) (sym h.2) (record { fits = refl; value = (integer_says text h.0 h.1).1 })
-field_fits counts V u text h = subst (FieldFits counts V) (sym h.2) (record { fits = (ref_says counts.vertices text h.0 h.1).1; value = tt })
+field_fits : (counts : Counts) (kind : Kind) (u : Util) (text : List ℕ) → IsFieldText counts.vertices counts.arcs kind text u → FieldFits counts kind u
+field_fits counts I u text h = subst (FieldFits counts I) (sym h.2) (record { fits = refl; value = h.1.1 })
+field_fits counts V u text h = subst (FieldFits counts V) (sym h.2) (record { fits = (ref_says counts.vertices text h.0 (ref_again counts.vertices text h.0 h.1)).1; value = tt })
 field_fits counts S u text h =
-    let p = read_string_fits most_bytes h.1.0 h.0 h.1.3 in
-    subst (FieldFits counts S) (sym h.2) (record { fits = refl; value = record { short = p.0; printable = p.1 } })
-field_fits counts A u text h = subst (FieldFits counts A) (sym h.2) (record { fits = (record_number_says counts.arcs text h.0 h.1).1; value = tt })
+    subst (FieldFits counts S) (sym h.2) (record { fits = refl; value = record { short = h.1.4; printable = AllPass-from_list_all is_text_byte h.0 h.1.5 } })
+field_fits counts A u text h = subst (FieldFits counts A) (sym h.2) (record { fits = (record_number_says counts.arcs text h.0 (record_number_again counts.arcs text h.0 h.1)).1; value = tt })
 field_fits counts Z u text h = absurd h
 
 one_more_fits : (counts : Counts) (kind : Kind) (kinds : List Kind) (u : Util) (us : List Util) → FieldFits counts kind u → FieldsFit counts kinds us → FieldsFit counts (kind ∷ kinds) (u ∷ us)
@@ -55,7 +52,7 @@ one_more_fits counts kind kinds u us one more = record {
   values = All-cons ValueCanBeSaved u us one.value more.values;
 }
 
-fields_fit : (counts : Counts) (kinds : List Kind) (us : List Util) (whole : List ℕ) → AreMoreFields counts kinds whole us → FieldsFit counts kinds us
+fields_fit : (counts : Counts) (kinds : List Kind) (us : List Util) (whole : List ℕ) → AreMoreFields counts.vertices counts.arcs kinds whole us → FieldsFit counts kinds us
 fields_fit counts [] us whole h = subst (FieldsFit counts []) (sym h.1) (record { fits = refl; values = All-nil ValueCanBeSaved })
 fields_fit counts (Z ∷ kinds) us whole h =
     subst (FieldsFit counts (Z ∷ kinds)) (sym h.2) (one_more_fits counts Z kinds Nothing h.0 (record { fits = refl; value = tt }) (fields_fit counts kinds h.0 whole h.1))
@@ -63,7 +60,7 @@ fields_fit counts (kind ∷ kinds) us whole h =
     let c = h.5 in
     subst (FieldsFit counts (kind ∷ kinds)) (sym c.5.2) (one_more_fits counts kind kinds c.2 c.5.0 (field_fits counts kind c.2 c.0 c.4) (fields_fit counts kinds c.5.0 c.1 c.5.1))
 
-record_fits_kinds : (counts : Counts) (kind : Kind) (kinds : List Kind) (us : List Util) (whole : List ℕ) → IsRecordOf counts kind kinds whole us → FieldsFit counts (kind ∷ kinds) us
+record_fits_kinds : (counts : Counts) (kind : Kind) (kinds : List Kind) (us : List Util) (whole : List ℕ) → IsRecordOf counts.vertices counts.arcs kind kinds whole us → FieldsFit counts (kind ∷ kinds) us
 record_fits_kinds counts kind kinds us whole h =
     subst (FieldsFit counts (kind ∷ kinds)) (sym h.5.2) (one_more_fits counts kind kinds h.2 h.5.0 (field_fits counts kind h.2 h.0 h.4) (fields_fit counts kinds h.5.0 h.1 h.5.1))
 
@@ -73,13 +70,13 @@ record OwnFits (head : Head) (bytes : List ℕ) (m : ℕ) (util : List Util) : T
   few : m < number_limit
   fields : FieldsFit head.counts (graph_kinds head.kinds) util
 
-own_fits : (head : Head) (g : GraphData) (whole : List ℕ) → IsGraphRecord head whole g → OwnFits head g.id g.m g.util
+own_fits : (head : Head) (g : GraphData) (whole : List ℕ) → IsGraphAfter head whole g → OwnFits head g.id g.m g.util
 own_fits head g whole h =
     let m = h.5.5.5.5 in
     let last = m.5 in
     subst (λ (p : List ℕ × ℕ × ℕ × List Util). OwnFits head p.0 p.2 p.3) (sym last.2) (record {
-      id = read_string_fits most_id_bytes h.4.0 h.2 h.4.3;
-      few = number_is_small most_number_digits m.0 m.2 m.4;
+      id = (h.4.4, AllPass-from_list_all is_text_byte h.2 h.4.5);
+      few = number_is_small most_number_digits m.0 m.2 (digits_again most_number_digits m.0 m.2 m.4);
       fields = fields_fit head.counts (graph_kinds head.kinds) last.0 m.1 last.1;
     })
 
@@ -95,15 +92,15 @@ pub record IsGoodHead (head : Head) : Type 0 where
   pub arcs : head.counts.arcs < number_limit
 
 -- a first line within the limits
-pub first_is_good : (line : List ℕ) (head : Head) → IsFirstLine head line → IsGoodHead head
+pub first_is_good : (line : List ℕ) (head : Head) → SaysHead head line → IsGoodHead head
 first_is_good line head (n, m, anything, n_says, m_says, fourteen, few, form) =
-    record { vertices = few; kinds = fourteen; arcs = number_is_small most_number_digits m head.counts.arcs m_says }
+    record { vertices = few; kinds = fourteen; arcs = number_is_small most_number_digits m head.counts.arcs (digits_again most_number_digits m head.counts.arcs m_says) }
 
 -- what the records of a file say can be checked
-parts_can_be_checked : (g : GraphData) (whole : List ℕ) → IsGoodHead (head_of g) → AreRecordsOf g whole → CanBeChecked g
+pub parts_can_be_checked : (g : GraphData) (whole : List ℕ) → IsGoodHead (head_of g) → AreRecordsOf g whole → CanBeChecked g
 parts_can_be_checked g whole good h =
-    let vertices = each_record (IsVertexRecord (head_of g)) (VertexFits g) (λ v text is. record_fits_kinds (head_of g).counts _ _ _ text is) g.vertices h.vertices h.vertex_records in
-    let arcs = each_record (IsArcRecord (head_of g)) (ArcFits g) (λ r text is. record_fits_kinds (head_of g).counts _ _ _ text is) g.records h.arcs h.arc_records in
+    let vertices = each_record (IsVertexRecord g) (VertexFits g) (λ v text is. record_fits_kinds (head_of g).counts _ _ _ text is) g.vertices h.vertices h.vertex_records in
+    let arcs = each_record (IsArcRecord g) (ArcFits g) (λ r text is. record_fits_kinds (head_of g).counts _ _ _ text is) g.records h.arcs h.arc_records in
     let own = own_fits (head_of g) g h.own h.graph_record in
     let utils = utils_fit (length g.vertices) (length g.records) (graph_kinds g.kinds) g.util in
     let nodes_fit = list_all-from_AllPass (vertex_fits g) g.vertices (λ k d below. (vertices k d below).fits) in
@@ -138,6 +135,6 @@ read_is_checked lines opening found opens says =
 -- a graph that is read can be saved
 pub read_can_be_saved : (g : GraphData) (text : List ℕ) → graph_of_text text ≡ Ok g → CanBeSaved g
 read_can_be_saved g text e =
-    let (records, following, (head, lines, opens, are), closed, sound) = file_from_read g text e in
-    let h = parts_can_be_checked g (text_of_lines records) (subst IsGoodHead are.counted (first_is_good opens.first head opens.first_says)) are.say in
+    let (records, following, (opens, are), closed, sound) = file_from_read g text e in
+    let h = parts_can_be_checked g (text_of_lines records) (first_is_good opens.first (head_of g) opens.first_says) are in
     record { graph = record { vertices_fit = h.vertices_fit; fields = h.fields; lists = sound }; writable = h.writable }

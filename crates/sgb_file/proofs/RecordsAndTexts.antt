@@ -5,8 +5,7 @@ use Rattle.std.proofs.lemmas.Bool.Decides.{Decides-eqb}
 use Rattle.sgb_text.specs.Languages.{As, Each, Fixed, Then}
 use Rattle.sgb_text.proofs.Readers.{Anything}
 use Rattle.sgb_text.proofs.Finders.{AreSoMany, Finds, From, StandsIn, found_with, rest_alone, finds_all, finds_as, finds_cons, finds_fixed, finds_from, finds_is, finds_prefix, finds_then, tested}
-use Rattle.sgb_text.proofs.Findings.{Found, after_prefix, prefix_is, was_mapped, was_let_through}
-use Rattle.sgb_text.specs.Given.{given}
+use Rattle.sgb_text.proofs.Findings.{Found, after_prefix, prefix_is, was_mapped, was_let_through, given}
 use Rattle.sgb_graph.specs.Graphs.{GraphData}
 use Rattle.sgb_graph.specs.Growth.{graph_data}
 use Rattle.sgb_graph.specs.Ids.{most_id_bytes}
@@ -17,13 +16,16 @@ use Rattle.sgb_graph.specs.declared.fields.Util.{Util}
 use Rattle.sgb_graph.specs.declared.fields.Util.TheVariants.{Nothing, Int, Vertex as VertexField, Str, Chain}
 use Rattle.sgb_graph.specs.declared.fields.Vertex.{Vertex}
 use Rattle.sgb_graph.specs.declared.fields.ArcRec.{ArcRec}
-use Rattle.sgb_file.specs.Fields.{Counts, number_of, most_number_digits}
+use Rattle.sgb_file.specs.Fields.{most_number_digits, IsStringText, IsNumberText}
+use Rattle.sgb_file.specs.inner.FieldValues.{number_of}
+use Rattle.sgb_file.specs.inner.Heads.{Counts, Head, head_of, IsVertexAfter, IsArcAfter, IsGraphAfter}
 use Rattle.sgb_file.specs.inner.ReadFields.{plain_at}
-use Rattle.sgb_file.specs.Files.{Head, IsStringText, IsNumberText, IsComma, AreMoreFields, IsRecordOf, IsVertexRecord, IsArcRecord, IsGraphRecord, AreRecordsOf, head_of}
+use Rattle.sgb_file.specs.Files.{IsComma, AreMoreFields, IsRecordOf, IsGraphRecord, AreRecordsOf}
 use Rattle.sgb_file.specs.inner.ReadRecords.{after_comma, more_fields_at, record_at, graph_record_at, vertex_of_fields, vertex_record_at, arc_of_fields, arc_record_at, records_at}
 use Rattle.sgb_file.proofs.FieldReading.{Ends}
 use Rattle.sgb_file.proofs.SavedGraphs.{fields_of_vertex, fields_of_arc}
-use Rattle.sgb_file.proofs.FieldsAndTexts.{GoesOn, finds_plain, finds_string, finds_field, number_is_plain}
+use Rattle.sgb_file.proofs.FieldsAndTexts.{GoesOn, finds_said, finds_string, finds_field, number_is_plain}
+use Rattle.sgb_file.proofs.FieldWords.{digits_again, digits_found}
 
 -- a comma and perhaps a newline stand before what follows the comma
 comma_found : (text start : List ℕ) → after_comma text ≡ Some start → StandsIn rest_alone IsComma text start
@@ -49,7 +51,7 @@ finds_comma : Finds rest_alone Ends GoesOn IsComma after_comma
 finds_comma = record { found = comma_found; again = λ comma rest none h t. comma_passed comma rest none h t; front = λ comma rest none h t. comma_ends comma rest none h }
 
 -- the fields after the first of a record
-finds_more : (counts : Counts) (kinds : List Kind) → Finds found_with Ends Anything (AreMoreFields counts kinds) (more_fields_at counts kinds)
+finds_more : (counts : Counts) (kinds : List Kind) → Finds found_with Ends Anything (AreMoreFields counts.vertices counts.arcs kinds) (more_fields_at counts kinds)
 unfolding more_fields_at
 finds_more counts [] = finds_fixed [] (codes "\n") (λ more. refl)
 finds_more counts (Z ∷ kinds) = finds_as (λ (others : List Util). Nothing ∷ others) (finds_more counts kinds)
@@ -58,9 +60,9 @@ finds_more counts (kind ∷ kinds) = finds_then _ finds_comma (λ none. finds_co
 -- a record of fields is read, and what is made of them
 finds_record : {X : Type 0} (counts : Counts) (kind : Kind) (kinds : List Kind) → (kind ≡ Z → ⊥) → (make : List Util → Option X) (fields_of : X → List Util)
     → ((us : List Util) (x : X) → make us ≡ Some x → us ≡ fields_of x) → ((x : X) → make (fields_of x) ≡ Some x)
-    → Finds found_with Anything Anything (λ whole x. IsRecordOf counts kind kinds whole (fields_of x)) (λ text. given (record_at counts kind kinds text) (λ fields. option_map (λ x. record { value = x; rest = fields.rest }) (make fields.value)))
+    → Finds found_with Anything Anything (λ whole x. IsRecordOf counts.vertices counts.arcs kind kinds whole (fields_of x)) (λ text. given (record_at counts kind kinds text) (λ fields. option_map (λ x. record { value = x; rest = fields.rest }) (make fields.value)))
 finds_record counts kind kinds used make fields_of are made =
-    finds_is (λ text h. tt) (λ whole x h. subst (λ us. IsRecordOf counts kind kinds whole us) (are h.0 x h.2) h.1) (λ whole x h. (fields_of x, h, made x))
+    finds_is (λ text h. tt) (λ whole x h. subst (λ us. IsRecordOf counts.vertices counts.arcs kind kinds whole us) (are h.0 x h.2) h.1) (λ whole x h. (fields_of x, h, made x))
     (finds_from make found_with _ (λ us rest. refl) (finds_cons (finds_field counts kind used) (finds_more counts kinds)))
 
 -- vertices
@@ -70,7 +72,7 @@ are_of_vertex (Str name ∷ Chain arcs ∷ util) v e =
     ap fields_of_vertex same
 are_of_vertex _ v e = absurd cc
 
-finds_vertex : (head : Head) → Finds found_with Anything Anything (IsVertexRecord head) (vertex_record_at head)
+finds_vertex : (head : Head) → Finds found_with Anything Anything (IsVertexAfter head) (vertex_record_at head)
 finds_vertex head = finds_record head.counts S (A ∷ vertex_kinds head.kinds) (λ z. absurd cc) vertex_of_fields fields_of_vertex are_of_vertex (λ v. refl)
 
 -- arcs
@@ -80,7 +82,7 @@ are_of_arc (VertexField tip ∷ Chain next ∷ Int len ∷ a ∷ b ∷ []) r e =
     ap fields_of_arc same
 are_of_arc _ r e = absurd cc
 
-finds_arc : (head : Head) → Finds found_with Anything Anything (IsArcRecord head) (arc_record_at head)
+finds_arc : (head : Head) → Finds found_with Anything Anything (IsArcAfter head) (arc_record_at head)
 finds_arc head = finds_record head.counts V (A ∷ I ∷ arc_kinds head.kinds) (λ z. absurd cc) arc_of_fields fields_of_arc are_of_arc (λ r. refl)
 
 -- the graph's record, with this last part
@@ -101,14 +103,14 @@ abbrev graph_of_parts : Head → List ℕ → ℕ → ℕ → List Util → Opti
 graph_of_parts head id n m util = if n == head.counts.vertices then Some (graph_data id m head.kinds util [] []) else None
 
 abbrev GraphMade : Head → List ℕ → ℕ → ℕ → List ℕ → GraphData → Type 0
-GraphMade head id n m = From (graph_of_parts head id n m) (AreMoreFields head.counts (graph_kinds head.kinds))
+GraphMade head id n m = From (graph_of_parts head id n m) (AreMoreFields head.counts.vertices head.counts.arcs (graph_kinds head.kinds))
 
 -- and as the file has it: what is said
 abbrev GraphSaid : Head → List ℕ → ℕ → ℕ → List ℕ → List ℕ × ℕ × ℕ × List Util → Type 0
-GraphSaid head id n m = As (λ util. (id, n, m, util)) (AreMoreFields head.counts (graph_kinds head.kinds))
+GraphSaid head id n m = As (λ util. (id, n, m, util)) (AreMoreFields head.counts.vertices head.counts.arcs (graph_kinds head.kinds))
 
 finds_number : Finds found_with GoesOn Ends IsNumberText (plain_at (number_of most_number_digits))
-finds_number = finds_plain (number_of most_number_digits) (number_is_plain most_number_digits)
+finds_number = finds_said (number_of most_number_digits) (number_is_plain most_number_digits) (digits_found most_number_digits) (digits_again most_number_digits)
 
 finds_graph : (head : Head) → Finds found_with GoesOn Anything (GraphWord (GraphMade head)) (graph_record_at head)
 finds_graph head =
@@ -135,7 +137,7 @@ made_kinds head bare whole h =
     sym (ap (λ (x : GraphData). x.kinds) (is_bare head n.2 h.2 m.2 m.5.0 bare m.5.2).1)
 
 graph_from : (head : Head) (bare : GraphData) (vertices : List Vertex) (records : List ArcRec) (whole : List ℕ) → length vertices ≡ head.counts.vertices
-    → GraphWord (GraphMade head) whole bare → IsGraphRecord head whole (record bare { vertices = vertices; records = records })
+    → GraphWord (GraphMade head) whole bare → IsGraphAfter head whole (record bare { vertices = vertices; records = records })
 graph_from head bare vertices records whole count h =
     other_last (GraphMade head) (GraphSaid head) bare (bare.id, length vertices, bare.m, bare.util) (λ id n m text last.
     let t = is_bare head n id m last.0 bare last.2 in (
@@ -144,7 +146,7 @@ graph_from head bare vertices records whole count h =
       ap (λ (x : GraphData). (x.id, length vertices, x.m, x.util)) (sym t.1) ∙ ap (λ k. (id, k, m, last.0)) (count ∙ sym t.0),
     )) whole h
 
-graph_into : (g : GraphData) (whole : List ℕ) → IsGraphRecord (head_of g) whole g → GraphWord (GraphMade (head_of g)) whole (record g { vertices = []; records = [] })
+graph_into : (g : GraphData) (whole : List ℕ) → IsGraphRecord g whole → GraphWord (GraphMade (head_of g)) whole (record g { vertices = []; records = [] })
 graph_into g whole h =
     let n = length g.vertices in
     let made : graph_of_parts (head_of g) g.id n g.m g.util ≡ Some (record g { vertices = []; records = [] }) = rw ((Decides-eqb n n).1 refl) refl in
@@ -163,8 +165,8 @@ pub record AreCounted (head : Head) (whole : List ℕ) (g : GraphData) : Type 0 
 -- the same as their reader has them, section after section
 abbrev RecordsWord : Head → List ℕ → GraphData → Type 0
 RecordsWord head =
-    Then (GraphWord (GraphMade head)) (λ own. Then (Fixed {V = Unit {0}} tt (codes "* Vertices\n")) (λ none. Then (AreSoMany (IsVertexRecord head) head.counts.vertices) (λ vertices.
-    Then (Fixed {V = Unit {0}} tt (codes "* Arcs\n")) (λ none. As (λ records. record own { vertices = vertices; records = records }) (AreSoMany (IsArcRecord head) head.counts.arcs)))))
+    Then (GraphWord (GraphMade head)) (λ own. Then (Fixed {V = Unit {0}} tt (codes "* Vertices\n")) (λ none. Then (AreSoMany (IsVertexAfter head) head.counts.vertices) (λ vertices.
+    Then (Fixed {V = Unit {0}} tt (codes "* Arcs\n")) (λ none. As (λ records. record own { vertices = vertices; records = records }) (AreSoMany (IsArcAfter head) head.counts.arcs)))))
 
 records_from : (head : Head) (whole : List ℕ) (g : GraphData) → RecordsWord head whole g → AreCounted head whole g
 records_from head whole g h =
@@ -174,7 +176,7 @@ records_from head whole g h =
     let a = third.5 in
     let full = record h.2 { vertices = v.2; records = a.0 } in
     let counted = head_again head full (made_kinds head h.2 h.0 h.4) v.4.0 a.1.0 in
-    let are = λ (x : Head). Each (IsVertexRecord x) v.0 v.2 × Each (IsArcRecord x) third.1 a.0 × IsGraphRecord x h.0 full in
+    let are = λ (x : Head). Each (IsVertexAfter x) v.0 v.2 × Each (IsArcAfter x) third.1 a.0 × IsGraphAfter x h.0 full in
     let all = subst are counted (v.4.1, a.1.1, graph_from head h.2 v.2 a.0 h.0 v.4.0 h.4) in
     subst (λ (x : GraphData). AreCounted head whole x) (sym a.2) (record {
       counted = counted;
@@ -206,5 +208,5 @@ pub finds_records : (head : Head) → Finds found_with Anything Anything (AreCou
 finds_records head =
     finds_is (λ text h. tt) (records_from head) (λ whole g h. subst (λ (x : Head). RecordsWord x whole g) (sym h.counted) (records_into g whole h.are))
     (finds_then _ (finds_graph head) (λ own. finds_then _ (finds_prefix (codes "* Vertices\n") (λ more. tt)) (λ none.
-    finds_then _ (finds_all (vertex_record_at head) (IsVertexRecord head) (finds_vertex head) head.counts.vertices) (λ vertices. finds_then _ (finds_prefix (codes "* Arcs\n") (λ more. tt)) (λ none.
-    finds_as (λ (records : List ArcRec). record own { vertices = vertices; records = records }) (finds_all (arc_record_at head) (IsArcRecord head) (finds_arc head) head.counts.arcs))))))
+    finds_then _ (finds_all (vertex_record_at head) (IsVertexAfter head) (finds_vertex head) head.counts.vertices) (λ vertices. finds_then _ (finds_prefix (codes "* Arcs\n") (λ more. tt)) (λ none.
+    finds_as (λ (records : List ArcRec). record own { vertices = vertices; records = records }) (finds_all (arc_record_at head) (IsArcAfter head) (finds_arc head) head.counts.arcs))))))

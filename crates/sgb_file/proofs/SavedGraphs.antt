@@ -17,8 +17,7 @@ use Rattle.sgb_graph.specs.declared.fields.Util.{Util}
 use Rattle.sgb_graph.specs.declared.fields.Util.TheVariants.{Int, Vertex as VertexField, Str, Chain}
 use Rattle.sgb_graph.specs.declared.fields.Vertex.{Vertex}
 use Rattle.sgb_graph.specs.declared.fields.ArcRec.{ArcRec}
-use Rattle.sgb_file.specs.Fields.{Counts}
-use Rattle.sgb_file.specs.Files.{head_of}
+use Rattle.sgb_file.specs.inner.Heads.{Counts, head_of}
 use Rattle.sgb_file.specs.Saved.{ValueCanBeSaved, VertexCanBeSaved, ArcCanBeSaved, CanBeSaved}
 use Rattle.sgb_file.proofs.NumberReading.{at_most}
 

@@ -8,7 +8,8 @@ use Rattle.std.proofs.lemmas.List.Sums.{fold-append}
 use Rattle.std.proofs.lemmas.Fmt.{length-decimal-le}
 use Rattle.std.proofs.lemmas.Nat.{mod_below}
 use Rattle.sgb_file.specs.Checksum.{checksum_prime, has_star}
-use Rattle.sgb_file.specs.Saving.{fits_on, laid_out, pieces_of, quoted, record_lines, record_number_text}
+use Rattle.sgb_file.specs.Saving.{laid_out, pieces_of, quoted, record_lines, record_number_text}
+use Rattle.sgb_file.specs.inner.SavedLines.{fits_on}
 use Rattle.sgb_file.specs.inner.Layouts.{HasLaid, checksum_from, place_of, value_from}
 use Rattle.sgb_file.specs.inner.ShortLines.{AreShort, AreShortFields, ShortText, field_texts_of, line_of, name_piece, put_after, short_stage, short_texts}
 use Rattle.sgb_file.proofs.ChecksumLemmas.{few_counted}

@@ -9,9 +9,8 @@ use Rattle.sgb_graph.specs.Graphs.{GraphData}
 use Rattle.sgb_graph.specs.Parts.{vertex_with_ints, with_vertex}
 use Rattle.sgb_file.specs.Checksum.{has_star}
 use Rattle.sgb_file.specs.FileLines.{text_of_lines}
-use Rattle.sgb_file.specs.Fields.{Counts}
+use Rattle.sgb_file.specs.inner.Heads.{Counts, Head}
 use Rattle.sgb_file.specs.inner.ReadFields.{string_at}
-use Rattle.sgb_file.specs.Files.{Head}
 use Rattle.sgb_file.specs.inner.ReadRecords.{vertex_record_at}
 use Rattle.sgb_file.specs.inner.Found.{checked_text}
 use Rattle.sgb_file.specs.inner.Layouts.{checksum_from, counted_bytes}

@@ -14,14 +14,17 @@ use Rattle.sgb_graph.specs.declared.fields.ArcRec.{ArcRec}
 use Rattle.sgb_file.specs.FileLines.{clean_lines, text_of_lines}
 use Rattle.sgb_file.specs.Checksum.{checksum_prime, weighted_sum, has_star, checksum_of_lines}
 use Rattle.sgb_file.specs.Fields.{most_number_digits}
-use Rattle.sgb_file.specs.Files.{IsFirstLine, IsComment, IsChecksumLine, IsVertexRecord, IsArcRecord, AreRecordsOf, IsFileOf, head_of}
-use Rattle.sgb_file.specs.Saving.{graph_texts, vertex_texts, arc_texts, record_lines, head_line, middle_lines, checksum_line, text_of_graph}
+use Rattle.sgb_file.specs.Files.{IsComment, IsChecksumLine, IsVertexRecord, IsArcRecord, AreRecordsOf, IsFileOf}
+use Rattle.sgb_file.specs.inner.Heads.{head_of, SaysHead}
+use Rattle.sgb_file.specs.Saving.{record_lines, middle_lines, text_of_graph}
+use Rattle.sgb_file.specs.inner.SavedLines.{graph_texts, vertex_texts, arc_texts, head_line, checksum_line}
 use Rattle.sgb_file.specs.Saved.{CanBeSaved}
 use Rattle.sgb_file.proofs.LineLemmas.{is_line, list_all-join, clean_lines_read}
 use Rattle.sgb_file.proofs.FieldReading.{number_read}
 use Rattle.sgb_file.proofs.WrittenRecords.{fields_stand, graph_written, all_written}
 use Rattle.sgb_file.proofs.SavedGraphs.{IsReady, VertexFits, ArcFits, ready}
 use Rattle.sgb_file.proofs.WrittenLines.{middle_are_lines, head_is_line, checksum_is_line}
+use Rattle.sgb_file.proofs.FieldWords.{digits_found}
 
 -- the text of the lines of several records
 text_of_all : {X : Type 0} (lines_of : X → List (List ℕ)) (xs : List X) → text_of_lines (flat_map lines_of xs) ≡ flat_map (λ x. text_of_lines (lines_of x)) xs
@@ -46,18 +49,18 @@ records_written g h = record {
   vertices = flat_map vertex_text g.vertices;
   arcs = flat_map arc_text g.records;
   graph_record = graph_written g h;
-  vertex_records = all_written vertex_text (IsVertexRecord (head_of g)) (VertexFits g) (λ v fits. fields_stand _ h.small S _ (Str v.name) (Chain v.arcs ∷ v.util) (λ z. absurd cc) fits) g.vertices h.vertices;
-  arc_records = all_written arc_text (IsArcRecord (head_of g)) (ArcFits g) (λ r fits. fields_stand _ h.small V _ (VertexField r.tip) (Chain r.next ∷ Int r.len ∷ r.a ∷ r.b ∷ []) (λ z. absurd cc) fits) g.records h.records;
+  vertex_records = all_written vertex_text (IsVertexRecord g) (VertexFits g) (λ v fits. fields_stand _ h.small S _ (Str v.name) (Chain v.arcs ∷ v.util) (λ z. absurd cc) fits) g.vertices h.vertices;
+  arc_records = all_written arc_text (IsArcRecord g) (ArcFits g) (λ r fits. fields_stand _ h.small V _ (VertexField r.tip) (Chain r.next ∷ Int r.len ∷ r.a ∷ r.b ∷ []) (λ z. absurd cc) fits) g.records h.records;
   parts = middle_text g;
 }
 
 -- the first line is one
-first_written : (g : GraphData) → length g.kinds ≡ 14 → IsReady g → IsFirstLine (head_of g) (head_line g)
+first_written : (g : GraphData) → length g.kinds ≡ 14 → IsReady g → SaysHead (head_of g) (head_line g)
 first_written g kinds h =
     let most = h.vertices_few in
     let few = h.records_few in
-    let n_says = number_read most_number_digits (length g.vertices) (omega arith) (omega (arith, most)) (omega (arith, most)) in
-    let m_says = number_read most_number_digits (length g.records) (omega arith) few (omega (arith, few)) in
+    let n_says = digits_found most_number_digits (decimal (length g.vertices)) (length g.vertices) (number_read most_number_digits (length g.vertices) (omega arith) (omega (arith, most)) (omega (arith, most))) in
+    let m_says = digits_found most_number_digits (decimal (length g.records)) (length g.records) (number_read most_number_digits (length g.records) (omega arith) few (omega (arith, few))) in
     (decimal (length g.vertices), decimal (length g.records), [], n_says, m_says, kinds, most, simp append_assoc)
 
 -- the checksum is a number of 18 digits, and its line is one
@@ -66,7 +69,7 @@ checksum_small g = let below = mod_below (weighted_sum (text_of_lines (filter (�
 
 checksum_written : (c : ℕ) → c < 10 ^ 18 → IsChecksumLine c (codes "* Checksum " ++ decimal c)
 checksum_written c below =
-    (decimal c, [], c, number_read most_number_digits c (omega arith) below (omega (arith, below)), tt, inl (refl, ap (λ x. codes "* Checksum " ++ x) (sym (append-nil (decimal c)))))
+    (decimal c, [], c, digits_found most_number_digits (decimal c) c (number_read most_number_digits c (omega arith) below (omega (arith, below))), refl, inl (refl, ap (λ x. codes "* Checksum " ++ x) (sym (append-nil (decimal c)))))
 
 -- each line of the file is a line as it is written
 all_lines : (g : GraphData) → IsReady g → list_all is_line (head_line g ∷ (middle_lines g ++ checksum_line g ∷ [])) ≡ true
@@ -86,8 +89,6 @@ written_is_file g more h =
       middle_lines g,
       following,
       (
-        head_of g,
-        middle_lines g ++ following,
         record {
           comments = [];
           first = head_line g;
@@ -96,7 +97,7 @@ written_is_file g more h =
           comments_are = All-nil IsComment;
           first_says = first_written g h.writable.kinds is;
         },
-        record { counted = refl; say = records_written g is; parts = refl },
+        records_written g is,
       ),
       (checksum_line g, clean_lines more, refl, checksum_written (checksum_of_lines (middle_lines g)) (checksum_small g)),
       h.graph.lists,

@@ -14,9 +14,9 @@ use Rattle.sgb_graph.specs.declared.fields.Kind.{Kind}
 use Rattle.sgb_graph.specs.declared.fields.Kind.TheVariants.{Z}
 use Rattle.sgb_graph.specs.declared.fields.Util.{Util}
 use Rattle.sgb_graph.specs.declared.fields.Util.TheVariants.{Nothing}
-use Rattle.sgb_file.specs.Fields.{Counts}
-use Rattle.sgb_file.specs.Files.{head_of}
-use Rattle.sgb_file.specs.Saving.{letter_of, field_texts, graph_texts, vertex_texts, arc_texts, record_lines, head_line, middle_lines}
+use Rattle.sgb_file.specs.inner.Heads.{Counts, head_of}
+use Rattle.sgb_file.specs.Saving.{letter_of, field_texts, record_lines, middle_lines}
+use Rattle.sgb_file.specs.inner.SavedLines.{graph_texts, vertex_texts, arc_texts, head_line}
 use Rattle.sgb_file.specs.Saved.{ValueCanBeSaved}
 use Rattle.sgb_file.proofs.LineLemmas.{is_line, is_one_line, is_within_line, ends_well, list_all-join}
 use Rattle.sgb_file.proofs.LaidOutText.{record_are_lines}

@@ -14,32 +14,36 @@ use Rattle.sgb_graph.specs.declared.fields.Kind.TheVariants.{Z, I, V, S, A}
 use Rattle.sgb_graph.specs.declared.fields.Util.{Util}
 use Rattle.sgb_graph.specs.declared.fields.Util.TheVariants.{Nothing, Int, Vertex as VertexField, Str, Chain}
 use Rattle.sgb_file.specs.FileLines.{text_of_lines}
-use Rattle.sgb_file.specs.Fields.{Counts, most_number_digits, number_of, integer_of, ref_of, record_number_of}
+use Rattle.sgb_file.specs.Fields.{most_number_digits}
+use Rattle.sgb_file.specs.inner.FieldValues.{number_of, integer_of, ref_of, record_number_of}
+use Rattle.sgb_file.specs.inner.Heads.{Counts, head_of}
 use Rattle.sgb_text.specs.Languages.{Each}
-use Rattle.sgb_file.specs.Files.{IsFieldText, IsComma, AreMoreFields, IsRecordOf, IsGraphRecord, head_of}
-use Rattle.sgb_file.specs.Saving.{quoted, ref_text, record_number_text, field_texts, graph_texts, pieces_of, record_lines}
+use Rattle.sgb_file.specs.Files.{IsFieldText, IsComma, AreMoreFields, IsRecordOf, IsGraphRecord}
+use Rattle.sgb_file.specs.Saving.{quoted, ref_text, record_number_text, field_texts, pieces_of, record_lines}
+use Rattle.sgb_file.specs.inner.SavedLines.{graph_texts}
 use Rattle.sgb_file.specs.Saved.{ValueCanBeSaved}
 use Rattle.sgb_file.proofs.LineLemmas.{is_line}
 use Rattle.sgb_file.proofs.LaidOutText.{with_breaks, after_field, lay_out, laid_out_text}
 use Rattle.sgb_file.proofs.FieldReading.{IsBroken, IsSaid, said_broken, number_is_said, integer_is_said, ref_is_said, record_number_is_said, string_is_said, quoted_is_line}
 use Rattle.sgb_file.proofs.SavedGraphs.{AreSmall, FieldsFit, IsReady}
+use Rattle.sgb_file.proofs.FieldWords.{digits_found, integer_found, record_number_found, ref_found}
 
 -- a field that has a text: with any breaks it says the value, and it is a line as it is written
 pub record IsField (counts : Counts) (kind : Kind) (u : Util) : Type 0 where
   pub text : List ℕ
   pub texts : field_texts u ≡ text ∷ []
-  pub says : (broken : List ℕ) → IsBroken text broken → IsFieldText counts kind broken u
+  pub says : (broken : List ℕ) → IsBroken text broken → IsFieldText counts.vertices counts.arcs kind broken u
   pub line : is_line text ≡ true
 
 plain_field : {X : Type 0} (counts : Counts) (kind : Kind) (u : Util) (says : List ℕ → Option X) (text : List ℕ) (x : X) → field_texts u ≡ text ∷ []
-    → ((broken : List ℕ) → says broken ≡ Some x → IsFieldText counts kind broken u) → IsSaid says text x → IsField counts kind u
+    → ((broken : List ℕ) → says broken ≡ Some x → IsFieldText counts.vertices counts.arcs kind broken u) → IsSaid says text x → IsField counts kind u
 plain_field counts kind u says text x texts is s = record { text = text; texts = texts; says = λ broken b. is broken (said_broken says text x s broken b); line = s.line }
 
 pub field_of : (counts : Counts) → AreSmall counts → (kind : Kind) (u : Util) → (kind ≡ Z → ⊥) → util_fits counts.vertices counts.arcs kind u ≡ true → ValueCanBeSaved u → IsField counts kind u
 field_of counts small Z u used fits h = absurd (used refl)
-field_of counts small I (Int i) used fits h = plain_field counts I (Int i) integer_of (signed_decimal i) i refl (λ text said. (i, said, refl)) (integer_is_said i h)
+field_of counts small I (Int i) used fits h = plain_field counts I (Int i) integer_of (signed_decimal i) i refl (λ text said. (i, integer_found text i said, refl)) (integer_is_said i h)
 field_of counts small V (VertexField r) used fits h =
-    plain_field counts V (VertexField r) (ref_of counts.vertices) (ref_text r) r refl (λ text said. (r, said, refl)) (ref_is_said counts.vertices r small.vertices fits)
+    plain_field counts V (VertexField r) (ref_of counts.vertices) (ref_text r) r refl (λ text said. (r, ref_found counts.vertices text r said, refl)) (ref_is_said counts.vertices r small.vertices fits)
 field_of counts small S (Str s) used fits h = record {
   text = quoted s;
   texts = refl;
@@ -47,7 +51,7 @@ field_of counts small S (Str s) used fits h = record {
   line = quoted_is_line s h.printable;
 }
 field_of counts small A (Chain first) used fits h =
-    plain_field counts A (Chain first) (record_number_of counts.arcs) (record_number_text first) first refl (λ text said. (first, said, refl)) (record_number_is_said counts.arcs first small.arcs fits)
+    plain_field counts A (Chain first) (record_number_of counts.arcs) (record_number_text first) first refl (λ text said. (first, record_number_found counts.arcs text first said, refl)) (record_number_is_said counts.arcs first small.arcs fits)
 field_of counts small _ _ used fits h = absurd cc
 
 -- a comma, and the end of the line or not
@@ -84,20 +88,20 @@ record_written text texts =
     (body, others, (laid.breaks, laid.few, refl), tail_written laid.next texts, whole)
 
 -- the texts of fields with breaks are texts of the fields
-field_more : (counts : Counts) (kind : Kind) (kinds : List Kind) (u : Util) (us : List Util) (comma broken others : List ℕ) → IsComma comma tt → IsFieldText counts kind broken u → AreMoreFields counts kinds others us
-    → AreMoreFields counts (kind ∷ kinds) (comma ++ (broken ++ others)) (u ∷ us)
+field_more : (counts : Counts) (kind : Kind) (kinds : List Kind) (u : Util) (us : List Util) (comma broken others : List ℕ) → IsComma comma tt → IsFieldText counts.vertices counts.arcs kind broken u → AreMoreFields counts.vertices counts.arcs kinds others us
+    → AreMoreFields counts.vertices counts.arcs (kind ∷ kinds) (comma ++ (broken ++ others)) (u ∷ us)
 field_more counts Z kinds u us comma broken others is says more = absurd says
 field_more counts kind kinds u us comma broken others is says more = (comma, broken ++ others, tt, refl, is, (broken, others, u, refl, says, (us, more, refl)))
 
 next_written : (counts : Counts) (kind : Kind) (kinds : List Kind) (u : Util) (us : List Util) → IsField counts kind u
-    → ((others : List ℕ) → AreLaid (flat_map field_texts us) others → AreMoreFields counts kinds others us)
-    → (tail : List ℕ) → AreLaid (flat_map field_texts (u ∷ us)) tail → AreMoreFields counts (kind ∷ kinds) tail (u ∷ us)
+    → ((others : List ℕ) → AreLaid (flat_map field_texts us) others → AreMoreFields counts.vertices counts.arcs kinds others us)
+    → (tail : List ℕ) → AreLaid (flat_map field_texts (u ∷ us)) tail → AreMoreFields counts.vertices counts.arcs (kind ∷ kinds) tail (u ∷ us)
 next_written counts kind kinds u us field more tail laid =
     let l = subst (λ texts. AreLaid (texts ++ flat_map field_texts us) tail) field.texts laid in
-    subst (λ t. AreMoreFields counts (kind ∷ kinds) t (u ∷ us)) (sym l.6) (field_more counts kind kinds u us l.0 l.1 l.2 l.3 (field.says l.1 l.4) (more l.2 l.5))
+    subst (λ t. AreMoreFields counts.vertices counts.arcs (kind ∷ kinds) t (u ∷ us)) (sym l.6) (field_more counts kind kinds u us l.0 l.1 l.2 l.3 (field.says l.1 l.4) (more l.2 l.5))
 
 more_written : (counts : Counts) → AreSmall counts → (kinds : List Kind) (us : List Util) → utils_fit counts.vertices counts.arcs kinds us ≡ true → All ValueCanBeSaved us
-    → (tail : List ℕ) → AreLaid (flat_map field_texts us) tail → AreMoreFields counts kinds tail us
+    → (tail : List ℕ) → AreLaid (flat_map field_texts us) tail → AreMoreFields counts.vertices counts.arcs kinds tail us
 more_written counts small [] [] fits h tail laid = (laid, refl)
 more_written counts small (Z ∷ kinds) (Nothing ∷ us) fits h tail laid = (us, more_written counts small kinds us fits (All-tail ValueCanBeSaved Nothing us h) tail laid, refl)
 more_written counts small (kind ∷ kinds) (u ∷ us) fits h tail laid =
@@ -108,22 +112,22 @@ more_written counts small _ _ fits h tail laid = absurd cc
 
 -- the record of fields, a vertex's or an arc's, and the graph's
 pub fields_stand : (counts : Counts) → AreSmall counts → (kind : Kind) (kinds : List Kind) (u : Util) (us : List Util) → (kind ≡ Z → ⊥) → FieldsFit counts (kind ∷ kinds) (u ∷ us)
-    → IsRecordOf counts kind kinds (text_of_lines (record_lines (flat_map field_texts (u ∷ us)))) (u ∷ us)
+    → IsRecordOf counts.vertices counts.arcs kind kinds (text_of_lines (record_lines (flat_map field_texts (u ∷ us)))) (u ∷ us)
 fields_stand counts small kind kinds u us used h =
     let parts = and_parts (util_fits counts.vertices counts.arcs kind u) (utils_fit counts.vertices counts.arcs kinds us) h.fits in
     let field = field_of counts small kind u used parts.0 (All-head ValueCanBeSaved u us h.values) in
     let w = record_written field.text (flat_map field_texts us) in
-    subst (λ texts. IsRecordOf counts kind kinds (text_of_lines (record_lines (texts ++ flat_map field_texts us))) (u ∷ us)) (sym field.texts)
+    subst (λ texts. IsRecordOf counts.vertices counts.arcs kind kinds (text_of_lines (record_lines (texts ++ flat_map field_texts us))) (u ∷ us)) (sym field.texts)
     (w.0, w.1, u, w.4, field.says w.0 w.2, (us, more_written counts small kinds us parts.1 (All-tail ValueCanBeSaved u us h.values) w.1 w.3, refl))
 
-pub graph_written : (g : GraphData) → IsReady g → IsGraphRecord (head_of g) (text_of_lines (record_lines (graph_texts g))) g
+pub graph_written : (g : GraphData) → IsReady g → IsGraphRecord g (text_of_lines (record_lines (graph_texts g)))
 graph_written g h =
     let n = length g.vertices in
     let w = record_written (quoted g.id) (decimal n ∷ decimal g.m ∷ flat_map field_texts g.util) in
     let a = w.3 in
     let b = a.5 in
-    let n_says = said_broken (number_of most_number_digits) (decimal n) n (number_is_said n (omega (arith, h.vertices_few))) a.1 a.4 in
-    let m_says = said_broken (number_of most_number_digits) (decimal g.m) g.m (number_is_said g.m h.arcs_few) b.1 b.4 in
+    let n_says = digits_found most_number_digits a.1 n (said_broken (number_of most_number_digits) (decimal n) n (number_is_said n (omega (arith, h.vertices_few))) a.1 a.4) in
+    let m_says = digits_found most_number_digits b.1 g.m (said_broken (number_of most_number_digits) (decimal g.m) g.m (number_is_said g.m h.arcs_few) b.1 b.4) in
     let fields = more_written (head_of g).counts h.small (graph_kinds g.kinds) g.util h.own.fits h.own.values b.2 b.5 in (
       w.0,
       w.1,

@@ -1,62 +1,42 @@
--- The fields of a record: how far each one's text goes, and what it says [GB_SAVE, fill_field].
-use Rattle.std.specs.Prelude.{ℕ, ◌^◌, ℤ, pos, neg_ℤ, Bool, ◌&&◌, List, [], ◌∷◌, length, codes, Option, Some, None, option_map, ◌==◌, nat_lt, nat_le, if◌then◌else◌}
+-- The fields of a record: which texts stand for their values [GB_SAVE, fill_field].
+use Rattle.std.specs.Prelude.{◌≡◌, ◌≢◌, ℕ, ◌<◌, ◌≤◌, ℤ, pos, neg_ℤ, ◌&&◌, All, FitsSigned, IsTrue, List, [], ◌∷◌, length, codes, Option, Some, None, ◌==◌, if◌then◌else◌}
+use Rattle.std.specs.Int.{w64}
 use Rattle.std.specs.List.{list_all}
-use Rattle.std.specs.Str.{bytes_eq}
-use Rattle.std.specs.Str.Parse.{digits_value}
-use Rattle.sgb_text.specs.Given.{given}
+use Rattle.std.specs.Str.Parse.{IsNumeral, digits_value}
+use Rattle.sgb_text.specs.Languages.{After, As, Fixed, Or}
 use Rattle.sgb_vec.specs.Names.{is_text_byte}
 use Rattle.sgb_graph.specs.declared.fields.Ref.{Ref}
 use Rattle.sgb_graph.specs.declared.fields.Ref.TheVariants.{Null, One, At}
+use Rattle.sgb_file.specs.Saving.{quoted}
 
 -- a number of the file's own (a vertex, an arc record, a count, a checksum) has at most this many digits
 abbrev pub most_number_digits : ℕ
 most_number_digits = 18
 
--- an integer field has at most this many digits
-abbrev pub most_integer_digits : ℕ
-most_integer_digits = 20
+-- a text of 1 to `most` decimal digits that write n; leading zeros are allowed
+abbrev pub AreDigitsOf : ℕ → List ℕ → ℕ → Type 0
+AreDigitsOf most text n = IsNumeral 10 text × (length text ≤ most) × (n ≡ digits_value 10 text)
 
--- how many vertices and arc records a file has
-pub record Counts : Type 0 where
-  pub vertices : ℕ
-  pub arcs : ℕ
-
--- a decimal digit
-abbrev pub is_decimal_digit : ℕ → Bool
-is_decimal_digit b = nat_le 48 b && nat_le b 57
-
--- the number that a text of 1 to `most` decimal digits writes; leading zeros are allowed
-abbrev pub number_of : ℕ → List ℕ → Option ℕ
-number_of most text =
-    if nat_lt 0 (length text) && nat_le (length text) most && list_all is_decimal_digit text
-    then Some (digits_value 10 text) else None
+-- the text of a number of the file's own
+abbrev pub IsNumberText : List ℕ → ℕ → Type 0
+IsNumberText = AreDigitsOf most_number_digits
 
 -- the same, where the number is below a limit
-abbrev pub number_below : ℕ → List ℕ → Option ℕ
-number_below limit text = given (number_of most_number_digits text) (λ k. if nat_lt k limit then Some k else None)
+abbrev pub IsNumberBelow : ℕ → List ℕ → ℕ → Type 0
+IsNumberBelow limit text k = IsNumberText text k × (k < limit)
 
--- the integer of 64 bits that a text writes: an optional `-` (45), and digits
-abbrev pub integer_of : List ℕ → Option ℤ
-integer_of [] = None
-integer_of (b ∷ text) =
-    if b == 45
-    then given (number_of most_integer_digits text) (λ n. if nat_le n (2 ^ 63) then Some (neg_ℤ (pos n)) else None)
-    else given (number_of most_integer_digits (b ∷ text)) (λ n. if nat_lt n (2 ^ 63) then Some (pos n) else None)
+-- the text of an integer of 64 bits: at most 20 digits, or a `-` and such digits
+abbrev pub IsIntegerText : List ℕ → ℤ → Type 0
+IsIntegerText text i =
+    Or (As pos (AreDigitsOf 20)) (After (codes "-") (As (λ n. neg_ℤ (pos n)) (AreDigitsOf 20))) text i × FitsSigned w64 i
 
--- one of n vertices: `V` (86) and its number; or `0`, or `1`
-abbrev pub ref_of : ℕ → List ℕ → Option Ref
-ref_of n [] = None
-ref_of n (b ∷ text) =
-    if b == 86 then option_map At (number_below n text)
-    else (if bytes_eq (b ∷ text) (codes "0") then Some Null
-    else (if bytes_eq (b ∷ text) (codes "1") then Some One else None))
+-- the text of one of n vertices: `V` and its number; or `0`, or `1`
+abbrev pub IsRefText : ℕ → List ℕ → Ref → Type 0
+IsRefText n = Or (Fixed Null (codes "0")) (Or (Fixed One (codes "1")) (After (codes "V") (As At (IsNumberBelow n))))
 
--- one of m arc records: `A` (65) and its number; or `0`
-abbrev pub record_number_of : ℕ → List ℕ → Option (Option ℕ)
-record_number_of m [] = None
-record_number_of m (b ∷ text) =
-    if b == 65 then option_map Some (number_below m text)
-    else (if bytes_eq (b ∷ text) (codes "0") then Some None else None)
+-- the text of one of m arc records: `A` and its number; or `0`
+abbrev pub IsRecordNumberText : ℕ → List ℕ → Option ℕ → Type 0
+IsRecordNumberText m = Or (Fixed None (codes "0")) (After (codes "A") (As Some (IsNumberBelow m)))
 
 -- bytes between quotes, where a `\` (92) and a newline (10) after it count as nothing
 unfoldable pub unbroken : List ℕ → List ℕ
@@ -64,8 +44,8 @@ unbroken [] = []
 unbroken (b ∷ []) = b ∷ []
 unbroken (b ∷ c ∷ bytes) = if b == 92 && c == 10 then unbroken bytes else b ∷ unbroken (c ∷ bytes)
 
--- the string of at most so many bytes that the bytes between quotes say
-abbrev pub string_of : ℕ → List ℕ → Option (List ℕ)
-string_of most bytes =
-    if nat_le (length (unbroken bytes)) most && list_all is_text_byte (unbroken bytes)
-    then Some (unbroken bytes) else None
+-- the text of a string of at most so many bytes: bytes that say it, between quotes, and no quote (34) among them
+abbrev pub IsStringText : ℕ → List ℕ → List ℕ → Type 0
+IsStringText most text s =
+    (inside : List ℕ) × (text ≡ quoted inside) × All (λ b. b ≢ 34) inside
+    × (unbroken inside ≡ s) × (length s ≤ most) × IsTrue (list_all is_text_byte s)

@@ -8,19 +8,15 @@ lines_among [] = []
 lines_among (last ∷ []) = if length last == 0 then [] else last ∷ []
 lines_among (part ∷ next ∷ parts) = part ∷ lines_among (next ∷ parts)
 
--- the lines of a text, without their newlines (10)
-abbrev pub lines_of_text : List ℕ → List (List ℕ)
-lines_of_text text = lines_among (slice_split (λ b. b == 10) text)
-
 -- a line without the spaces (32) at its end
 unfoldable pub without_end_spaces : List ℕ → List ℕ
 without_end_spaces [] = []
 without_end_spaces (b ∷ line) =
     if b == 32 && length (without_end_spaces line) == 0 then [] else b ∷ without_end_spaces line
 
--- the lines of a text, without the spaces at their ends
+-- the lines of a text, without their newlines (10) and the spaces at their ends
 abbrev pub clean_lines : List ℕ → List (List ℕ)
-clean_lines text = map without_end_spaces (lines_of_text text)
+clean_lines text = map without_end_spaces (lines_among (slice_split (λ b. b == 10) text))
 
 -- the text of lines, each with its newline
 abbrev pub text_of_lines : List (List ℕ) → List ℕ

@@ -4,31 +4,23 @@ use Rattle.sgb_vec.specs.declared.panics.Panic.{Panic}
 use Rattle.sgb_vec.specs.declared.panics.Panic.TheVariants.{Early, Late, Syntax}
 use Rattle.sgb_graph.specs.Graphs.{GraphData}
 use Rattle.sgb_graph.specs.Sound.{is_sound}
-use Rattle.sgb_file.specs.Files.{Head, Opens, AreRecordLines, HasRecords, IsClosed, IsFileOf}
+use Rattle.sgb_graph.specs.declared.fields.Kind.{Kind}
+use Rattle.sgb_file.specs.Files.{Opens, HasRecords, IsClosed, IsFileOf}
 
 -- 10: no lines that a text begins with are comments and a first line
 abbrev pub HasNoOpening : List ℕ → Type 0
-HasNoOpening text = (head : Head) (lines : List (List ℕ)) → Opens text head lines → ⊥
+HasNoOpening text = (kinds : List Kind) (n m : ℕ) (lines : List (List ℕ)) → Opens text kinds n m lines → ⊥
 
--- 20: comments and a first line stand there, and no records of a graph come next
-abbrev pub HasNoRecords : List ℕ → Type 0
-HasNoRecords text =
-    (head : Head) × (lines : List (List ℕ)) × Opens text head lines
-    × ((g : GraphData) (records following : List (List ℕ)) → AreRecordLines head g records following lines → ⊥)
-
--- 11: the records stand there, and no line with their checksum comes next
-abbrev pub HasNoClosing : List ℕ → Type 0
-HasNoClosing text = (g : GraphData) × (records following : List (List ℕ)) × HasRecords text g records following × (IsClosed records following → ⊥)
-
--- 20: that line stands there too, and the graph's lists are not sound
-abbrev pub HasUnsoundLists : List ℕ → Type 0
-HasUnsoundLists text =
-    (g : GraphData) × (records following : List (List ℕ)) × HasRecords text g records following × IsClosed records following × IsFalse (is_sound g)
-
--- what a text is read as: the graph that it is a file of, or the code of a text that is a file of none
+-- what a text is read as: the graph that it is a file of; or the code of a text that is a file of none. 11: the records of a graph
+-- stand there, and no line with their checksum comes next. 20: comments and a first line stand there, and no records of a graph
+-- come next; or these and that line stand there too, and the graph's lists are not sound
 abbrev pub IsRestoredAs : List ℕ → Result GraphData Panic → Type 0
 IsRestoredAs text (Ok g) = IsFileOf g text
 IsRestoredAs text (Err Early) = HasNoOpening text
-IsRestoredAs text (Err Syntax) = HasNoRecords text ⊎ HasUnsoundLists text
-IsRestoredAs text (Err Late) = HasNoClosing text
+IsRestoredAs text (Err Late) =
+    (g : GraphData) × (records following : List (List ℕ)) × HasRecords text g records following × (IsClosed records following → ⊥)
+IsRestoredAs text (Err Syntax) =
+    ((HasNoOpening text → ⊥) × ((g : GraphData) (records following : List (List ℕ)) → HasRecords text g records following → ⊥))
+    ⊎ ((g : GraphData) × (records following : List (List ℕ)) × HasRecords text g records following
+    × IsClosed records following × IsFalse (is_sound g))
 IsRestoredAs text (Err _) = ⊥

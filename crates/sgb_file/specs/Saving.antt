@@ -1,5 +1,5 @@
 -- The one text that is written for a graph [GB_SAVE, save_graph].
-use Rattle.std.specs.Prelude.{ℕ, ◌+◌, ◌-◌, ◌*◌, ◌/◌, Bool, List, [], ◌∷◌, ◌++◌, map, length, take, drop, codes, decimal, Option, Some, None, slice_index, nat_le, ◌==◌, if◌then◌else◌}
+use Rattle.std.specs.Prelude.{ℕ, ◌+◌, ◌-◌, ◌*◌, ◌/◌, List, [], ◌∷◌, ◌++◌, map, length, take, drop, codes, decimal, Option, Some, None, slice_index, nat_le, ◌==◌, if◌then◌else◌}
 use Rattle.std.specs.List.{flat_map, range_with_len}
 use Rattle.std.specs.Fmt.{signed_decimal}
 use Rattle.sgb_graph.specs.Graphs.{GraphData}
@@ -9,8 +9,6 @@ use Rattle.sgb_graph.specs.declared.fields.Ref.{Ref}
 use Rattle.sgb_graph.specs.declared.fields.Ref.TheVariants.{Null, One, At}
 use Rattle.sgb_graph.specs.declared.fields.Util.{Util}
 use Rattle.sgb_graph.specs.declared.fields.Util.TheVariants.{Nothing, Int, Vertex as VertexField, Str, Chain}
-use Rattle.sgb_graph.specs.declared.fields.Vertex.{Vertex}
-use Rattle.sgb_graph.specs.declared.fields.ArcRec.{ArcRec}
 use Rattle.sgb_file.specs.FileLines.{text_of_lines}
 use Rattle.sgb_file.specs.Checksum.{checksum_of_lines}
 
@@ -49,84 +47,47 @@ field_texts (VertexField r) = ref_text r ∷ []
 field_texts (Str s) = quoted s ∷ []
 field_texts (Chain first) = record_number_text first ∷ []
 
--- the texts of the graph's record, of a vertex's and of an arc's
-abbrev pub graph_texts : GraphData → List (List ℕ)
-graph_texts g = quoted g.id ∷ decimal (length g.vertices) ∷ decimal g.m ∷ flat_map field_texts g.util
-
-abbrev pub vertex_texts : Vertex → List (List ℕ)
-vertex_texts v = quoted v.name ∷ record_number_text v.arcs ∷ flat_map field_texts v.util
-
-abbrev pub arc_texts : ArcRec → List (List ℕ)
-arc_texts r =
-    ref_text r.tip ∷ record_number_text r.next ∷ signed_decimal r.len ∷ flat_map field_texts (r.a ∷ r.b ∷ [])
-
 -- the pieces of a record: each field's text with its comma, the last one's without
 unfoldable pub pieces_of : List (List ℕ) → List (List ℕ)
 pieces_of [] = []
 pieces_of (last ∷ []) = last ∷ []
 pieces_of (text ∷ next ∷ texts) = (text ++ codes ",") ∷ pieces_of (next ∷ texts)
 
--- a broken line takes this many bytes of its piece
-abbrev pub broken_line_bytes : ℕ
-broken_line_bytes = 78
-
 -- how often a piece is broken: the bytes past the first 79 in parts of 78, rounded up
 abbrev pub breaks_of : List ℕ → ℕ
-breaks_of piece = (length piece - most_file_line_bytes + (broken_line_bytes - 1)) / broken_line_bytes
+breaks_of piece = (length piece - most_file_line_bytes + 77) / 78
 
 -- the part of a piece from its k-th break on
 abbrev pub part_from_break : List ℕ → ℕ → List ℕ
-part_from_break piece k = drop (broken_line_bytes * k) piece
+part_from_break piece k = drop (78 * k) piece
 
--- the broken lines of a piece: 78 bytes each, and a `\` (92)
-abbrev pub broken_lines : List ℕ → List (List ℕ)
-broken_lines piece =
-    map (λ k. take broken_line_bytes (part_from_break piece k) ++ 92 ∷ []) (range_with_len 0 (breaks_of piece))
-
--- what is left of a piece after its broken lines
-abbrev pub last_part : List ℕ → List ℕ
-last_part piece = part_from_break piece (breaks_of piece)
-
--- the piece fits on a line that begins with these bytes
-abbrev pub fits_on : List ℕ → List ℕ → Bool
-fits_on line piece = nat_le (length line + length piece) most_file_line_bytes
-
--- the lines that end where a piece is laid out after a line's beginning, before the piece or within it
-abbrev pub lines_ended : List ℕ → List ℕ → List (List ℕ)
-lines_ended line piece =
-    if fits_on line piece then []
-    else ((if length line == 0 then [] else line ∷ []) ++ broken_lines piece)
-
--- the beginning of a line that then stands
-abbrev pub line_begun : List ℕ → List ℕ → List ℕ
-line_begun line piece = if fits_on line piece then line ++ piece else last_part piece
-
--- the lines of pieces that are laid out after a line's beginning
+-- the lines of pieces that are laid out after a line's beginning. A piece that fits on the line stays on it. Before another one
+-- that line ends, if it has begun; each break of the piece ends a line of 78 bytes and a `\` (92), and what is left begins the next
 unfoldable pub laid_out : List ℕ → List (List ℕ) → List (List ℕ)
 laid_out line [] = line ∷ []
-laid_out line (piece ∷ pieces) = lines_ended line piece ++ laid_out (line_begun line piece) pieces
+laid_out line (piece ∷ pieces) =
+    let fits = nat_le (length line + length piece) most_file_line_bytes in
+    let before = if length line == 0 then [] else line ∷ [] in
+    let broken = map (λ k. take 78 (part_from_break piece k) ++ 92 ∷ []) (range_with_len 0 (breaks_of piece)) in
+    let begun = if fits then line ++ piece else part_from_break piece (breaks_of piece) in
+    (if fits then [] else (before ++ broken)) ++ laid_out begun pieces
 
 -- the lines of a record with these fields
 abbrev pub record_lines : List (List ℕ) → List (List ℕ)
 record_lines texts = laid_out [] (pieces_of texts)
 
--- the first line
-abbrev pub head_line : GraphData → List ℕ
-head_line g =
-    codes "* GraphBase graph (util_types " ++ map letter_of g.kinds
-    ++ codes "," ++ decimal (length g.vertices) ++ codes "V," ++ decimal (length g.records) ++ codes "A)"
-
--- the lines between the first and the last
+-- the lines between the first and the last: the records of the graph, of its vertices and of its arcs
 abbrev pub middle_lines : GraphData → List (List ℕ)
 middle_lines g =
-    record_lines (graph_texts g)
-    ++ codes "* Vertices" ∷ flat_map (λ v. record_lines (vertex_texts v)) g.vertices
-    ++ codes "* Arcs" ∷ flat_map (λ r. record_lines (arc_texts r)) g.records
+    record_lines (quoted g.id ∷ decimal (length g.vertices) ∷ decimal g.m ∷ flat_map field_texts g.util)
+    ++ codes "* Vertices" ∷ flat_map (λ v. record_lines (quoted v.name ∷ record_number_text v.arcs ∷ flat_map field_texts v.util)) g.vertices
+    ++ codes "* Arcs" ∷ flat_map (λ r. record_lines (
+    ref_text r.tip ∷ record_number_text r.next ∷ signed_decimal r.len ∷ flat_map field_texts (r.a ∷ r.b ∷ []))) g.records
 
--- the last line
-abbrev pub checksum_line : GraphData → List ℕ
-checksum_line g = codes "* Checksum " ++ decimal (checksum_of_lines (middle_lines g))
-
--- the text of a graph
+-- the text of a graph: a line with its kinds and numbers, those of its records, and a line with their checksum
 abbrev pub text_of_graph : GraphData → List ℕ
-text_of_graph g = text_of_lines (head_line g ∷ (middle_lines g ++ checksum_line g ∷ []))
+text_of_graph g =
+    let first = codes "* GraphBase graph (util_types " ++ map letter_of g.kinds
+    ++ codes "," ++ decimal (length g.vertices) ++ codes "V," ++ decimal (length g.records) ++ codes "A)" in
+    let last = codes "* Checksum " ++ decimal (checksum_of_lines (middle_lines g)) in
+    text_of_lines (first ∷ (middle_lines g ++ last ∷ []))

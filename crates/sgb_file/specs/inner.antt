@@ -1,4 +1,8 @@
 -- What only the private contracts and the proofs of sgb_file speak of.
+-- what a first line says, and what stands after it
+pub mod Heads
+-- what the text of a field says
+pub mod FieldValues
 -- records that are read of one line
 pub mod LineRecords
 -- how an adapted reader or writer is stored
@@ -15,6 +19,8 @@ pub mod Found
 pub mod Lanes
 -- lines that are laid out, and what the sink has of them
 pub mod Layouts
+-- the lines of a graph's text, step by step
+pub mod SavedLines
 -- what is left of a file's lines while they are read
 pub mod LinesLeft
 -- parts with the records that a text begins with

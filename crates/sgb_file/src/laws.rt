@@ -4,7 +4,8 @@ ghost use Rattle.sgb_vec.specs.declared.panics.Panic.{Panic};
 ghost use Rattle.sgb_vec.specs.declared.panics.Panic.TheVariants.{Early, Late, Syntax};
 ghost use Rattle.sgb_graph.specs.Graphs.{GraphData};
 ghost use Rattle.sgb_file.specs.Checksum.{IsOrder, checksum, running_checksum};
-ghost use Rattle.sgb_file.specs.Files.{AreRecordLines, Head, IsFileOf, IsFirstLine};
+ghost use Rattle.sgb_file.specs.FileLines.{text_of_lines};
+ghost use Rattle.sgb_file.specs.Files.{AreRecordsOf, IsFileOf, IsFirstLine};
 ghost use Rattle.sgb_file.specs.inner.ReadRecords.{records_at};
 ghost use Rattle.sgb_file.specs.Refused.{IsRestoredAs};
 ghost use Rattle.sgb_file.specs.inner.ReadFiles.{graph_of_text, head_of_line};
@@ -36,9 +37,9 @@ pub fn read_once_law()
 /// What the records of a file say, after a first line, fits its kinds and is within all limits; what may be
 /// wrong with it is only that its lists are not sound (GB_SAVE, restore_graph). So what is read can be saved.
 pub fn file_parts_law()
-    ensures parts { (line : List ℕ) (head : Head) (g : GraphData)
-        (records following lines : List (List ℕ)) → IsFirstLine head line
-        → AreRecordLines head g records following lines → CanBeChecked g }
+    ensures parts { (line : List ℕ) (g : GraphData) (records : List (List ℕ))
+        → IsFirstLine g.kinds (length g.vertices) (length g.records) line
+        → AreRecordsOf g (text_of_lines records) → CanBeChecked g }
     ensures saved { (g : GraphData) (text : List ℕ) → IsFileOf g text → CanBeSaved g }
 {}
 

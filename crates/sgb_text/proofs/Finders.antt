@@ -2,9 +2,8 @@
 -- such text is found again; they leave values of any kind, as a text alone.
 use Rattle.std.specs.Prelude.{◌≡◌, ℕ, zero, suc, Bool, true, false, List, [], ◌∷◌, ◌++◌, length, Option, Some, None, option_map, if◌then◌else◌, refl}
 use Rattle.std.proofs.Common.{ap, sym, subst, ◌∙◌, append_assoc, arith}
-use Rattle.sgb_text.specs.Given.{given}
+use Rattle.sgb_text.proofs.Findings.{given, Found, found_as, after_prefix, all_at, was_given, was_mapped, prefix_is, prefix_read}
 use Rattle.sgb_text.specs.Languages.{As, Cons, Each, Fixed, Then}
-use Rattle.sgb_text.proofs.Findings.{Found, found_as, after_prefix, all_at, was_given, was_mapped, prefix_is, prefix_read}
 use Rattle.sgb_text.proofs.Readers.{Anything}
 
 -- a result of a value and of the text that is left

@@ -7,7 +7,11 @@ use Rattle.std.proofs.lemmas.Bool.{and_from}
 use Rattle.std.proofs.lemmas.Bool.Decides.{Decides-eqb}
 use Rattle.std.proofs.lemmas.List.{take-append-drop}
 use Rattle.std.proofs.lemmas.Slice.Eq.{bytes_eq-Decides}
-use Rattle.sgb_text.specs.Given.{given}
+
+-- what is found by `next`, given what was found first
+abbrev pub given : {X Y : Type 0} → Option X → (X → Option Y) → Option Y
+given None next = None
+given (Some x) next = next x
 
 -- a value that a text begins with, and the text after it
 pub record Found (X : Type 0) : Type 0 where

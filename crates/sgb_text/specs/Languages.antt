@@ -1,5 +1,5 @@
 -- Languages: which texts are words, and of which values; words one after another; where texts go wrong.
-use Rattle.std.specs.Prelude.{◌≡◌, ◌≤◌, ◌<◌, ◌⊎◌, ℕ, List, [], ◌∷◌, ◌++◌, length, take, Option, Some}
+use Rattle.std.specs.Prelude.{◌≡◌, ◌≤◌, ◌<◌, ◌⊎◌, ℕ, List, [], ◌∷◌, ◌++◌, length, take}
 
 -- a word of the first language and then one of the second, which may depend on the first's value
 abbrev pub Then : {V W : Type 0} → (List ℕ → V → Type 0) → (V → List ℕ → W → Type 0) → List ℕ → W → Type 0
@@ -25,10 +25,6 @@ Each Word text (value ∷ values) = (a b : List ℕ) × (text ≡ a ++ b) × Wor
 -- the one word of this value
 abbrev pub Fixed : {V : Type 0} → V → List ℕ → List ℕ → V → Type 0
 Fixed value bytes word v = (word ≡ bytes) × (v ≡ value)
-
--- texts that say a value by this function
-abbrev pub Says : {V : Type 0} → (List ℕ → Option V) → List ℕ → V → Type 0
-Says f text value = f text ≡ Some value
 
 -- a word of either language
 abbrev pub Or : {V : Type 0} → (List ℕ → V → Type 0) → (List ℕ → V → Type 0) → List ℕ → V → Type 0

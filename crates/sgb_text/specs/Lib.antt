@@ -1,5 +1,3 @@
 -- What contracts say of texts, whatever they name.
 -- texts that are words of values; words one after another; where a text goes wrong
 pub mod Languages
--- values that are found one after another
-pub mod Given

@@ -4,7 +4,8 @@ use Rattle.sgb_graph.specs.Made.{no_kinds}
 use Rattle.sgb_graph.specs.declared.fields.Kind.TheVariants.{V, A}
 use Rattle.sgb_graph.specs.declared.fields.Ref.TheVariants.{Null, One, At}
 use Rattle.sgb_graph.specs.declared.fields.Util.TheVariants.{Vertex as VertexField, Chain}
-use Rattle.sgb_file.specs.Fields.{unbroken, number_of, integer_of, ref_of, record_number_of, string_of}
+use Rattle.sgb_file.specs.Fields.{unbroken}
+use Rattle.sgb_file.specs.inner.FieldValues.{number_of, integer_of, ref_of, record_number_of, string_of}
 use Rattle.sgb_file.specs.inner.ReadFields.{string_at, field_at}
 use Rattle.sgb_file.specs.inner.ReadFiles.{head_of_line, checksum_in_line}
 

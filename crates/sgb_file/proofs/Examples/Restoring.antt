@@ -9,7 +9,8 @@ use Rattle.sgb_graph.specs.declared.fields.Kind.TheVariants.{Z, V, S, A}
 use Rattle.sgb_vec.specs.declared.panics.Panic.TheVariants.{Early}
 use Rattle.sgb_file.specs.Refused.{IsRestoredAs}
 use Rattle.sgb_file.proofs.RefusedTexts.{early_is, file_from_read}
-use Rattle.sgb_file.specs.FileLines.{lines_among, lines_of_text, without_end_spaces, clean_lines, text_of_lines}
+use Rattle.sgb_file.specs.FileLines.{lines_among, without_end_spaces, clean_lines, text_of_lines}
+use Rattle.sgb_file.specs.inner.LinesLeft.{lines_of_text}
 use Rattle.sgb_file.specs.Checksum.{weighted_sum}
 use Rattle.sgb_file.specs.Fields.{unbroken}
 use Rattle.sgb_file.specs.inner.ReadRecords.{more_fields_at}

@@ -2,8 +2,7 @@
 use Rattle.std.specs.Prelude.{◌≡◌, ◌≤◌, ◌==◌, ◌&&◌, ◌++◌, ◌-◌, ℕ, Bool, true, false, ℤ, pos, neg_ℤ, ◌^◌, List, [], ◌∷◌, length, option_map, Option, Some, None, Result, Ok, Err, nat_lt, nat_le, slice_index_or, if◌then◌else◌}
 use Rattle.std.specs.List.{list_any, list_all, before_first, after_first}
 use Rattle.std.specs.Str.Parse.{digits_value}
-use Rattle.sgb_text.proofs.Findings.{Found}
-use Rattle.sgb_text.specs.Given.{given}
+use Rattle.sgb_text.proofs.Findings.{Found, given}
 use Rattle.sgb_vec.specs.Limits.{most_bytes}
 use Rattle.sgb_vec.specs.declared.panics.Panic.{Panic}
 use Rattle.sgb_vec.specs.declared.panics.Panic.TheVariants.{NoRoom, Syntax}
@@ -12,7 +11,9 @@ use Rattle.sgb_graph.specs.declared.fields.Kind.TheVariants.{Z}
 use Rattle.sgb_graph.specs.declared.fields.Util.{Util}
 use Rattle.sgb_graph.specs.declared.fields.Util.TheVariants.{Nothing}
 use Rattle.sgb_vec.specs.Names.{is_text_byte}
-use Rattle.sgb_file.specs.Fields.{Counts, is_decimal_digit, unbroken}
+use Rattle.sgb_file.specs.Fields.{unbroken}
+use Rattle.sgb_file.specs.inner.FieldValues.{is_decimal_digit}
+use Rattle.sgb_file.specs.inner.Heads.{Counts}
 use Rattle.sgb_file.specs.inner.ReadFields.{field_at, string_at}
 use Rattle.sgb_file.specs.inner.ReadRecords.{after_comma}
 

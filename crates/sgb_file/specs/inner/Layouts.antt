@@ -7,7 +7,8 @@ use Rattle.std.specs.Io.KnownBytes.{Appends}
 use Rattle.sgb_file.specs.Devices.{AppendsPrefix}
 use Rattle.sgb_file.specs.FileLines.{text_of_lines}
 use Rattle.sgb_file.specs.Checksum.{value_of_byte, checksum_prime, has_star}
-use Rattle.sgb_file.specs.Saving.{broken_lines, laid_out, last_part, line_begun, lines_ended, pieces_of, record_lines}
+use Rattle.sgb_file.specs.Saving.{laid_out, pieces_of, record_lines}
+use Rattle.sgb_file.specs.inner.SavedLines.{broken_lines, last_part, line_begun, lines_ended}
 
 -- the place of a byte in the order of the checksum
 unfoldable pub place_of : ℕ → ℕ

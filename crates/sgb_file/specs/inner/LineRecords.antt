@@ -9,8 +9,7 @@ use Rattle.sgb_graph.specs.declared.fields.Kind.TheVariants.{A, I, Z}
 use Rattle.sgb_graph.specs.declared.fields.Ref.{Ref}
 use Rattle.sgb_graph.specs.declared.fields.Util.TheVariants.{Chain, Int, Nothing}
 use Rattle.sgb_file.specs.Checksum.{checksum_of_lines}
-use Rattle.sgb_file.specs.Fields.{Counts}
-use Rattle.sgb_file.specs.Files.{Head}
+use Rattle.sgb_file.specs.inner.Heads.{Counts, Head}
 use Rattle.sgb_file.specs.inner.ReadRecords.{arc_record_at, more_fields_at, vertex_record_at}
 use Rattle.sgb_file.specs.inner.Found.{checked_text}
 use Rattle.sgb_file.specs.inner.Layouts.{checksum_from, counted_bytes, value_from}

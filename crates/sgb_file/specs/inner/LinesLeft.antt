@@ -1,9 +1,13 @@
 -- What is left of the lines of a file while they are read [GB_IO].
 use Rattle.std.specs.Prelude.{◌≡◌, ℕ, suc, ◌-◌, Bool, not, List, [], ◌∷◌, ◌++◌, length, take, drop, Option, Some, None, option_map, ◌==◌, slice_get}
-use Rattle.std.specs.List.{list_all}
+use Rattle.std.specs.List.{list_all, slice_split}
 use Rattle.std.specs.Option.{option_map_or}
-use Rattle.sgb_file.specs.FileLines.{clean_lines, text_of_lines}
+use Rattle.sgb_file.specs.FileLines.{clean_lines, lines_among, text_of_lines}
 use Rattle.sgb_file.specs.Checksum.{checksum_of_lines}
+
+-- the lines of a text, without their newlines (10)
+abbrev pub lines_of_text : List ℕ → List (List ℕ)
+lines_of_text text = lines_among (slice_split (λ b. b == 10) text)
 
 -- all lines after a file's first one; what is left of the line under way, or none at the end; the lines after it
 pub record LinesLeft : Type 0 where

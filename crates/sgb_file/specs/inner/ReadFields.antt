@@ -7,7 +7,8 @@ use Rattle.sgb_graph.specs.declared.fields.Kind.{Kind}
 use Rattle.sgb_graph.specs.declared.fields.Kind.TheVariants.{Z, I, V, S, A}
 use Rattle.sgb_graph.specs.declared.fields.Util.{Util}
 use Rattle.sgb_graph.specs.declared.fields.Util.TheVariants.{Nothing, Int, Vertex as VertexField, Str, Chain}
-use Rattle.sgb_file.specs.Fields.{Counts, integer_of, record_number_of, ref_of, string_of}
+use Rattle.sgb_file.specs.inner.FieldValues.{integer_of, record_number_of, ref_of, string_of}
+use Rattle.sgb_file.specs.inner.Heads.{Counts}
 
 -- the string that a text begins with: from a `"` (34) to the next one
 abbrev pub string_at : ℕ → List ℕ → Option (Found (List ℕ))

@@ -1,8 +1,7 @@
 -- The graph that a text is a file of, or the code of a text that is a file of none, as it is read [GB_SAVE, restore_graph].
 use Rattle.std.specs.Prelude.{ℕ, ◌-◌, ℤ, pos, negsuc, neg_ℤ, Bool, true, false, List, [], ◌∷◌, length, take, drop, codes, Option, Some, None, Result, Ok, Err, option_map, filter_map, take_while, slice_index, ◌==◌, nat_le, if◌then◌else◌}
 use Rattle.std.specs.Option.{option_map_or}
-use Rattle.sgb_text.proofs.Findings.{Found, after_prefix}
-use Rattle.sgb_text.specs.Given.{given}
+use Rattle.sgb_text.proofs.Findings.{Found, after_prefix, given}
 use Rattle.sgb_vec.specs.Limits.{most_vertices}
 use Rattle.sgb_vec.specs.declared.panics.Panic.{Panic}
 use Rattle.sgb_vec.specs.declared.panics.Panic.TheVariants.{Early, Late, Syntax}
@@ -10,10 +9,12 @@ use Rattle.sgb_graph.specs.Graphs.{GraphData}
 use Rattle.sgb_graph.specs.Sound.{is_sound}
 use Rattle.sgb_graph.specs.declared.fields.Kind.{Kind}
 use Rattle.sgb_graph.specs.declared.fields.Kind.TheVariants.{Z, I, V, S, A}
-use Rattle.sgb_file.specs.FileLines.{lines_of_text, clean_lines, text_of_lines}
+use Rattle.sgb_file.specs.FileLines.{clean_lines, text_of_lines}
+use Rattle.sgb_file.specs.inner.LinesLeft.{lines_of_text}
 use Rattle.sgb_file.specs.Checksum.{has_star, checksum_of_lines}
-use Rattle.sgb_file.specs.Fields.{is_decimal_digit, number_of, most_number_digits}
-use Rattle.sgb_file.specs.Files.{Head}
+use Rattle.sgb_file.specs.Fields.{most_number_digits}
+use Rattle.sgb_file.specs.inner.FieldValues.{is_decimal_digit, number_of}
+use Rattle.sgb_file.specs.inner.Heads.{Head}
 use Rattle.sgb_file.specs.inner.ReadRecords.{records_at}
 use Rattle.sgb_file.specs.Saving.{letter_of}
 

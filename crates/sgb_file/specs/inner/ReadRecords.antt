@@ -1,7 +1,6 @@
 -- The records of a file, as they are read: the graph's, the vertices' and the arcs' [GB_SAVE, restore_graph].
 use Rattle.std.specs.Prelude.{ℕ, List, [], ◌∷◌, codes, Option, Some, None, option_map, unwrap_or, ◌==◌, if◌then◌else◌}
-use Rattle.sgb_text.proofs.Findings.{Found, found_as, after_prefix, all_at}
-use Rattle.sgb_text.specs.Given.{given}
+use Rattle.sgb_text.proofs.Findings.{Found, found_as, after_prefix, all_at, given}
 use Rattle.sgb_graph.specs.Graphs.{GraphData}
 use Rattle.sgb_graph.specs.Ids.{most_id_bytes}
 use Rattle.sgb_graph.specs.Sound.{vertex_kinds, arc_kinds, graph_kinds}
@@ -11,9 +10,10 @@ use Rattle.sgb_graph.specs.declared.fields.Util.{Util}
 use Rattle.sgb_graph.specs.declared.fields.Util.TheVariants.{Nothing, Int, Vertex as VertexField, Str, Chain}
 use Rattle.sgb_graph.specs.declared.fields.Vertex.{Vertex}
 use Rattle.sgb_graph.specs.declared.fields.ArcRec.{ArcRec}
-use Rattle.sgb_file.specs.Fields.{Counts, number_of, most_number_digits}
+use Rattle.sgb_file.specs.Fields.{most_number_digits}
+use Rattle.sgb_file.specs.inner.FieldValues.{number_of}
+use Rattle.sgb_file.specs.inner.Heads.{Counts, Head}
 use Rattle.sgb_file.specs.inner.ReadFields.{string_at, plain_at, field_at}
-use Rattle.sgb_file.specs.Files.{Head}
 
 -- what follows a comma; the line may end after it, and the record then goes on with the next line
 abbrev pub after_comma : List ℕ → Option (List ℕ)

@@ -1,7 +1,6 @@
 -- Parts with the vertices or the arc records that a text begins with.
 use Rattle.std.specs.Prelude.{◌≡◌, ◌++◌, ℕ, List, [], ◌∷◌, codes, Option, Some, option_map}
-use Rattle.sgb_text.proofs.Findings.{Found, after_prefix, found_as, all_at}
-use Rattle.sgb_text.specs.Given.{given}
+use Rattle.sgb_text.proofs.Findings.{Found, after_prefix, found_as, all_at, given}
 use Rattle.sgb_graph.specs.Graphs.{GraphData}
 use Rattle.sgb_graph.specs.Parts.{with_record, with_vertex}
 use Rattle.sgb_graph.specs.Sound.{vertex_kinds}
@@ -9,9 +8,8 @@ use Rattle.sgb_graph.specs.declared.fields.Kind.{Kind}
 use Rattle.sgb_graph.specs.declared.fields.Kind.TheVariants.{I, V, S, A}
 use Rattle.sgb_graph.specs.declared.fields.Vertex.{Vertex}
 use Rattle.sgb_graph.specs.declared.fields.ArcRec.{ArcRec}
-use Rattle.sgb_file.specs.Fields.{Counts}
+use Rattle.sgb_file.specs.inner.Heads.{Counts, Head}
 use Rattle.sgb_file.specs.inner.ReadFields.{field_at}
-use Rattle.sgb_file.specs.Files.{Head}
 use Rattle.sgb_file.specs.inner.ReadRecords.{arc_of_fields, arc_record_at, more_fields_at, vertex_of_fields, vertex_record_at}
 use Rattle.sgb_file.specs.inner.Found.{next_field_at}
 

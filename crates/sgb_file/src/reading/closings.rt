@@ -2,7 +2,7 @@
 ghost use Rattle.std.specs.Prelude.{◌≡◌, ◌∷◌, [], ℕ, List};
 ghost use Rattle.sgb_file.specs.Checksum.{checksum_of_lines};
 ghost use Rattle.sgb_file.specs.inner.LinesLeft.{text_left};
-ghost use Rattle.sgb_file.specs.Files.{Head as FileHead};
+ghost use Rattle.sgb_file.specs.inner.Heads.{Head as FileHead};
 ghost use Rattle.sgb_file.specs.inner.ReadFiles.{checksum_agrees, checksum_in_line, closes, line_closes};
 
 use super::lines::Lines;

@@ -2,7 +2,8 @@
 ghost use Rattle.std.specs.Prelude.{◌≡◌, ◌==◌, ◌<◌, ◌^◌, drop, length, IfOk};
 ghost use Rattle.std.specs.List.{before_first, position};
 ghost use Rattle.sgb_file.specs.inner.ReadFields.{field_at, plain_at, plain_text};
-ghost use Rattle.sgb_file.specs.Fields.{integer_of, most_number_digits, number_of, record_number_of, ref_of};
+ghost use Rattle.sgb_file.specs.Fields.{most_number_digits};
+ghost use Rattle.sgb_file.specs.inner.FieldValues.{integer_of, number_of, record_number_of, ref_of};
 ghost use Rattle.sgb_file.specs.inner.Found.{IsFoundBy, is_used, next_at, next_field_at};
 ghost use Rattle.sgb_file.specs.inner.LinesLeft.{text_left};
 

@@ -12,7 +12,7 @@ pub(super) struct Counts {
 impl Model for Counts {
     ghost use Rattle.std.specs.Prelude.{◌≤◌, ◌<◌, ◌^◌};
     ghost use Rattle.sgb_vec.specs.Limits.{most_vertices};
-    ghost use Rattle.sgb_file.specs.Fields.{Counts as FileCounts};
+    ghost use Rattle.sgb_file.specs.inner.Heads.{Counts as FileCounts};
 
     ghost Value = { FileCounts };
 
@@ -30,7 +30,7 @@ pub(super) struct Head {
 
 impl Model for Head {
     ghost use Rattle.std.specs.Prelude.{◌≡◌, length};
-    ghost use Rattle.sgb_file.specs.Files.{Head as FileHead};
+    ghost use Rattle.sgb_file.specs.inner.Heads.{Head as FileHead};
 
     ghost Value = { FileHead };
 

@@ -1,9 +1,9 @@
 //! What is left of the lines of a file while they are read (GB_IO).
 ghost use Rattle.std.specs.Prelude.{◌≡◌, ◌≢◌, ◌≤◌, [], ◌∷◌, List, ℕ, Some, None, IfSome, length, IsTrue, option_map};
 ghost use Rattle.sgb_file.specs.Checksum.{checksum_of_lines};
-ghost use Rattle.sgb_file.specs.FileLines.{clean_lines, lines_of_text, without_end_spaces};
+ghost use Rattle.sgb_file.specs.FileLines.{clean_lines, without_end_spaces};
+ghost use Rattle.sgb_file.specs.inner.LinesLeft.{lines_of_text, HasPassed, IsWhole, has_no_newline, lines_left, lines_passed, lines_still, next_begun, none_begun, skipped, text_left};
 ghost use Rattle.sgb_file.specs.inner.Layouts.{checksum_from, counted_bytes};
-ghost use Rattle.sgb_file.specs.inner.LinesLeft.{HasPassed, IsWhole, has_no_newline, lines_left, lines_passed, lines_still, next_begun, none_begun, skipped, text_left};
 
 use crate::checksums::checksum_after_line;
 use crate::scans::bytes_before;

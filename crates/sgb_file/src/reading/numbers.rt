@@ -2,7 +2,8 @@
 ghost use Rattle.std.specs.Prelude.{◌≡◌, ◌≤◌, ◌<◌, ◌^◌, length, IfSome, IsTrue};
 ghost use Rattle.std.specs.List.{list_all};
 ghost use Rattle.std.specs.Str.Parse.{digits_value};
-ghost use Rattle.sgb_file.specs.Fields.{integer_of, is_decimal_digit, most_integer_digits, most_number_digits, number_below, number_of, record_number_of, ref_of};
+ghost use Rattle.sgb_file.specs.Fields.{most_number_digits};
+ghost use Rattle.sgb_file.specs.inner.FieldValues.{integer_of, is_decimal_digit, most_integer_digits, number_below, number_of, record_number_of, ref_of};
 ghost use Rattle.sgb_file.specs.inner.Found.{negative_of, positive_of, value_if_digits};
 
 use super::heads::Counts;

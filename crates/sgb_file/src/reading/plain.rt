@@ -2,7 +2,8 @@
 ghost use Rattle.std.specs.Prelude.{◌≡◌, ◌≤◌, ◌<◌, ◌==◌, ◌^◌, ◌+◌, ◌∷◌, drop, length, nat_le, true, IfSome, neg_ℤ, option_map, pos};
 ghost use Rattle.std.specs.List.{before_first, position, take_while};
 ghost use Rattle.std.specs.Str.Parse.{digits_value};
-ghost use Rattle.sgb_file.specs.Fields.{integer_of, is_decimal_digit, most_number_digits, number_below, number_of, record_number_of, ref_of};
+ghost use Rattle.sgb_file.specs.Fields.{most_number_digits};
+ghost use Rattle.sgb_file.specs.inner.FieldValues.{integer_of, is_decimal_digit, number_below, number_of, record_number_of, ref_of};
 ghost use Rattle.sgb_file.specs.inner.Found.{is_at_end};
 ghost use Rattle.sgb_file.specs.inner.Layouts.{value_from};
 ghost use Rattle.sgb_file.specs.inner.LineRecords.{IsCountedField};

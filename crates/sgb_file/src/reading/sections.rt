@@ -1,7 +1,6 @@
 //! The records of a file, section by section: the graph's, the vertices', the arcs' (GB_SAVE, restore_graph).
 ghost use Rattle.std.specs.Prelude.{◌≡◌, ◌++◌, ◌∷◌, [], codes, IsTrue};
-ghost use Rattle.sgb_text.proofs.Findings.{after_prefix};
-ghost use Rattle.sgb_text.specs.Given.{given};
+ghost use Rattle.sgb_text.proofs.Findings.{after_prefix, given};
 ghost use Rattle.sgb_file.specs.inner.Found.{IsFoundBy, IsPassedBy};
 ghost use Rattle.sgb_file.specs.inner.LinesLeft.{has_no_newline, text_left};
 ghost use Rattle.sgb_file.specs.inner.Reading.{arcs_at, vertices_at};

@@ -2,7 +2,7 @@
 ghost use Rattle.std.specs.Prelude.{◌≡◌, ◌<◌, ◌^◌, drop, IfSome, length, option_map};
 ghost use Rattle.std.specs.List.{take_while};
 ghost use Rattle.sgb_text.proofs.Findings.{after_prefix};
-ghost use Rattle.sgb_file.specs.Fields.{is_decimal_digit};
+ghost use Rattle.sgb_file.specs.inner.FieldValues.{is_decimal_digit};
 ghost use Rattle.sgb_file.specs.inner.ReadFiles.{leading_number};
 
 use super::numbers::number_of;

@@ -2,7 +2,8 @@
 ghost use Rattle.std.specs.Prelude.{◌≡◌, ◌+◌, ◌<◌, ◌≤◌, ◌^◌, ◌++◌, ◌∷◌, [], OnOk, false, length};
 ghost use Rattle.sgb_file.specs.Devices.{IsPut, change};
 ghost use Rattle.sgb_file.specs.inner.Layouts.{IsFilled, IsLaid, IsPlaced, lines_before, stage};
-ghost use Rattle.sgb_file.specs.Saving.{fits_on, most_file_line_bytes};
+ghost use Rattle.sgb_file.specs.Saving.{most_file_line_bytes};
+ghost use Rattle.sgb_file.specs.inner.SavedLines.{fits_on};
 
 use super::lines::{LineSoFar, MOST_LINE_BYTES};
 use super::short_lines::ShortLines;

@@ -2,7 +2,8 @@
 ghost use Rattle.std.specs.Prelude.{◌≡◌, ◌+◌, ◌≤◌, ◌++◌, ◌∷◌, [], length, take, drop, OnOk};
 ghost use Rattle.sgb_file.specs.Devices.{change, IsPut};
 ghost use Rattle.sgb_file.specs.inner.Layouts.{checksum_from, counted_bytes};
-ghost use Rattle.sgb_file.specs.Saving.{broken_line_bytes, most_file_line_bytes};
+ghost use Rattle.sgb_file.specs.Saving.{most_file_line_bytes};
+ghost use Rattle.sgb_file.specs.inner.SavedLines.{broken_line_bytes};
 
 use crate::checksums::checksum_after_line;
 use crate::devices::{Failed, Sink, put_all};

@@ -2,7 +2,7 @@
 ghost use Rattle.std.specs.Prelude.{◌≡◌, length, map};
 ghost use Rattle.sgb_graph.specs.Columns.{arc_seen, util_seen, vertex_seen};
 ghost use Rattle.sgb_file.specs.inner.Layouts.{AreLaidOut, stage};
-ghost use Rattle.sgb_file.specs.Saving.{arc_texts, graph_texts, vertex_texts};
+ghost use Rattle.sgb_file.specs.inner.SavedLines.{arc_texts, graph_texts, vertex_texts};
 
 use super::fields::{
     any_used, put_fields, put_integer, put_number, put_record_number, put_ref, put_string,

@@ -3,7 +3,7 @@ ghost use Rattle.std.specs.Prelude.{◌≡◌, ◌<◌, codes, decimal, drop, le
 ghost use Rattle.std.specs.Fmt.{signed_decimal};
 ghost use Rattle.sgb_graph.specs.Columns.{arc_seen};
 ghost use Rattle.sgb_graph.specs.declared.fields.Ref.TheVariants.{At};
-ghost use Rattle.sgb_file.specs.Saving.{arc_texts};
+ghost use Rattle.sgb_file.specs.inner.SavedLines.{arc_texts};
 ghost use Rattle.sgb_file.specs.inner.Layouts.{lines_of, no_lines};
 ghost use Rattle.sgb_file.specs.inner.ShortLines.{AreShort, short_texts};
 

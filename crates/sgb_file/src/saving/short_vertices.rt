@@ -1,7 +1,8 @@
 //! The records of vertices, and those whose lines are short.
 ghost use Rattle.std.specs.Prelude.{◌≡◌, ◌<◌, [], ◌∷◌, codes, decimal, drop, length, IfSome};
 ghost use Rattle.sgb_graph.specs.Columns.{util_seen, vertex_seen};
-ghost use Rattle.sgb_file.specs.Saving.{field_texts, quoted, vertex_texts};
+ghost use Rattle.sgb_file.specs.Saving.{field_texts, quoted};
+ghost use Rattle.sgb_file.specs.inner.SavedLines.{vertex_texts};
 ghost use Rattle.sgb_file.specs.inner.Layouts.{lines_of, no_lines};
 ghost use Rattle.sgb_file.specs.inner.ShortLines.{AreShortFields, field_texts_of};
 

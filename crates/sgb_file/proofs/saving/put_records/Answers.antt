@@ -1,6 +1,6 @@
 use Rattle.std.proofs.Common.{refl}
 use Rattle.std.proofs.lemmas.Result.{err_from_is_err_and}
-use Rattle.sgb_file.specs.Saving.{graph_texts}
+use Rattle.sgb_file.specs.inner.SavedLines.{graph_texts}
 use Rattle.sgb_file.proofs.LaidLines.{laid-after, laid-append, stopped-first, stopped-after}
 use Rattle.sgb_file.proofs.RecordLines.{record-cut, record-laid}
 use Rattle.sgb_file.proofs.saving.put_records.Goals as goal

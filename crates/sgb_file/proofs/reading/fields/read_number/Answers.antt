@@ -1,5 +1,6 @@
 use Rattle.std.proofs.Common.{sym}
-use Rattle.sgb_file.specs.Fields.{most_number_digits, number_of}
+use Rattle.sgb_file.specs.Fields.{most_number_digits}
+use Rattle.sgb_file.specs.inner.FieldValues.{number_of}
 use Rattle.sgb_file.proofs.PlainFields.{field_found, field_missing}
 use Rattle.sgb_file.proofs.reading.fields.read_number.Goals as goal
 

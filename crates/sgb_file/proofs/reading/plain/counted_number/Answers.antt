@@ -2,7 +2,7 @@ use Rattle.std.proofs.Common.{arith, ap, sym, ◌∙◌, ℕ, Some, drop, length
 use Rattle.std.specs.List.{take_while}
 use Rattle.std.specs.Str.Parse.{digits_value}
 use Rattle.std.proofs.lemmas.List.{take_min, take_rest}
-use Rattle.sgb_file.specs.Fields.{is_decimal_digit}
+use Rattle.sgb_file.specs.inner.FieldValues.{is_decimal_digit}
 use Rattle.sgb_file.specs.inner.Found.{is_at_end}
 use Rattle.sgb_file.specs.inner.Layouts.{value_from}
 use Rattle.sgb_file.proofs.NumberReading.{number_is_small}

@@ -1,5 +1,6 @@
 use Rattle.std.proofs.Common.{rules, subst, sym, Some, ◌+◌, ◌∙◌}
-use Rattle.sgb_file.specs.Fields.{Counts, record_number_of}
+use Rattle.sgb_file.specs.inner.FieldValues.{record_number_of}
+use Rattle.sgb_file.specs.inner.Heads.{Counts}
 use Rattle.sgb_file.specs.inner.LineRecords.{IsCountedField}
 use Rattle.sgb_file.proofs.CountedFields.{no_record_counted, record_number_counted}
 use Rattle.sgb_file.proofs.reading.plain.counted_record_number.Goals as goal

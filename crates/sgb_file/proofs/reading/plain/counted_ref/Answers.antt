@@ -1,6 +1,7 @@
 use Rattle.std.proofs.Common.{rules, subst, ◌+◌}
 use Rattle.sgb_graph.specs.declared.fields.Ref.TheVariants.{At}
-use Rattle.sgb_file.specs.Fields.{Counts, ref_of}
+use Rattle.sgb_file.specs.inner.FieldValues.{ref_of}
+use Rattle.sgb_file.specs.inner.Heads.{Counts}
 use Rattle.sgb_file.specs.inner.LineRecords.{IsCountedField}
 use Rattle.sgb_file.proofs.CountedFields.{ref_counted}
 use Rattle.sgb_file.proofs.reading.plain.counted_ref.Goals as goal

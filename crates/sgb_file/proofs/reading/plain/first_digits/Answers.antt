@@ -1,6 +1,6 @@
 use Rattle.std.proofs.Common.{arith, refl, get_or, ap, sym, ◌∙◌, ◌≡◌, length, take}
 use Rattle.std.specs.List.{list_all}
-use Rattle.sgb_file.specs.Fields.{is_decimal_digit}
+use Rattle.sgb_file.specs.inner.FieldValues.{is_decimal_digit}
 use Rattle.std.specs.Str.Parse.{digits_value}
 use Rattle.std.proofs.lemmas.Grind.{common_steps}
 use Rattle.std.proofs.lemmas.List.{length-take, take_all}

@@ -1,7 +1,7 @@
 use Rattle.std.proofs.Common.{rules, ap, subst, IfSome, ◌∙◌, [], ◌∷◌}
 use Rattle.sgb_file.specs.inner.Layouts.{checksum_from, counted_bytes}
 use Rattle.sgb_file.specs.inner.LineRecords.{IsVertexLine}
-use Rattle.sgb_file.specs.Files.{Head}
+use Rattle.sgb_file.specs.inner.Heads.{Head}
 use Rattle.sgb_file.proofs.VertexLines.{if_some_both}
 use Rattle.sgb_file.proofs.reading.records.plain_vertex.Goals as goal
 

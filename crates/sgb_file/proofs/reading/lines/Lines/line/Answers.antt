@@ -1,6 +1,5 @@
 use Rattle.std.proofs.Common.{option_map, subst, ◌≡◌}
-use Rattle.sgb_file.specs.FileLines.{lines_of_text}
-use Rattle.sgb_file.specs.inner.LinesLeft.{text_left, lines_still}
+use Rattle.sgb_file.specs.inner.LinesLeft.{lines_of_text, text_left, lines_still}
 use Rattle.sgb_file.proofs.LinesLeftLemmas.{left_in_line, left_lines}
 use Rattle.sgb_file.proofs.reading.lines.Lines.line.Goals as goal
 

@@ -1,4 +1,4 @@
-use Rattle.sgb_file.specs.Saving.{arc_texts}
+use Rattle.sgb_file.specs.inner.SavedLines.{arc_texts}
 use Rattle.sgb_file.proofs.RecordLines.{next-laid_out}
 use Rattle.sgb_file.proofs.saving.short_arcs.ArcsRecordKind.put.Goals as goal
 

@@ -1,5 +1,5 @@
 use Rattle.std.proofs.Common.{sym}
-use Rattle.sgb_file.specs.Saving.{arc_texts}
+use Rattle.sgb_file.specs.inner.SavedLines.{arc_texts}
 use Rattle.sgb_file.proofs.RecordLines.{next-laid}
 use Rattle.sgb_file.proofs.ShortRecords.{texts-laid}
 use Rattle.sgb_file.proofs.saving.short_arcs.ArcsRecordKind.put_short.Goals as goal

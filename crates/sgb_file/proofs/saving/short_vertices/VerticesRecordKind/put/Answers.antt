@@ -1,4 +1,4 @@
-use Rattle.sgb_file.specs.Saving.{vertex_texts}
+use Rattle.sgb_file.specs.inner.SavedLines.{vertex_texts}
 use Rattle.sgb_file.proofs.RecordLines.{next-laid_out}
 use Rattle.sgb_file.proofs.saving.short_vertices.VerticesRecordKind.put.Goals as goal
 

@@ -1,5 +1,6 @@
 use Rattle.std.proofs.Common.{◌∷◌, ◌∙◌, ap, sym}
-use Rattle.sgb_file.specs.Saving.{quoted, vertex_texts}
+use Rattle.sgb_file.specs.Saving.{quoted}
+use Rattle.sgb_file.specs.inner.SavedLines.{vertex_texts}
 use Rattle.sgb_file.specs.inner.ShortLines.{field_texts_of}
 use Rattle.sgb_file.proofs.RecordLines.{next-laid}
 use Rattle.sgb_file.proofs.ShortRecords.{bare_texts, texts-laid}
