@@ -1,8 +1,8 @@
 -- A walk over the vectors of a family, from the first to the last.
-use Rattle.std.proofs.Common.{◌≡◌, ℕ, zero, suc, ◌+◌, ◌≤◌, List, [], ◌∷◌, ◌++◌, length, map, take, drop, get_or, Some, refl, sym, ap, ◌∙◌, arith, append-nil}
+use Rattle.std.proofs.Common.{◌≡◌, ℕ, zero, suc, ◌+◌, ◌≤◌, List, [], ◌∷◌, ◌++◌, length, map, take, drop, Some, refl, sym, ap, ◌∙◌, arith, append-nil}
 use Rattle.std.specs.List.{slice_get, flat_map}
-use Rattle.std.proofs.lemmas.List.{at_drop_more, drop-drop, get_or-drop, length-drop, map-append, take_more}
-use Rattle.std.proofs.lemmas.Option.{slice_get_within, slice_get_read, get_or_from_slice_get}
+use Rattle.std.proofs.lemmas.List.{at_drop_more, drop-drop, length-drop, map-append, take_more}
+use Rattle.std.proofs.lemmas.Option.{slice_get_within, get_or_from_slice_get}
 
 -- what stands first after others is at their number
 pub first_in_drop : (k : ℕ) (xs : List (List ℕ)) → slice_get (drop k xs) 0 ≡ slice_get xs k

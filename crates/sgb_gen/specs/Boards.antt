@@ -1,5 +1,5 @@
 -- The graphs of boards [GB_BASIC, board].
-use Rattle.std.specs.Prelude.{◌==◌, ℕ, zero, suc, ℤ, pos, negsuc, nat_abs, nat_lt, Bool, List, [], ◌∷◌, ◌++◌, length, Result, Ok, Err, codes, if◌then◌else◌}
+use Rattle.std.specs.Prelude.{◌==◌, ℕ, ℤ, pos, nat_abs, nat_lt, Bool, List, [], ◌∷◌, ◌++◌, length, Result, Ok, Err, codes, if◌then◌else◌}
 use Rattle.sgb_vec.specs.Boxes.{box, box_of}
 use Rattle.sgb_vec.specs.Results.{and_then}
 use Rattle.sgb_vec.specs.Sizes.{board_of}

@@ -92,6 +92,7 @@ pub wheel_refused :
     (wheel_of (pos 3) (negsuc 0) false ≡ Err Bad)
     × (wheel_of (pos 1_000_000_001) (pos 1) false ≡ Err VeryBad)
     × (wheel_of (pos 3) (pos 1_000_000_001) false ≡ Err VeryBad)
+unfolding repeated
 wheel_refused = (refl, refl, refl)
 
 -- a rim of one vertex: its loop is dropped
