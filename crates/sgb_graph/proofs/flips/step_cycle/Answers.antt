@@ -1,4 +1,4 @@
-use Rattle.std.proofs.Common.{◌≡◌, arith}
+use Rattle.std.proofs.Common.{rules, arith}
 use Rattle.sgb_graph.proofs.Cycles.{cycling_none, cycling_more, cycling_all}
 use Rattle.sgb_graph.proofs.flips.step_cycle.Goals as goal
 
@@ -13,6 +13,4 @@ loop-i-preserved c =
     rw c.difference.ensures (cycling_more c.args.numbers.now c.loop-i.numbers c.loop-i.i c.loop-i-test.true c.loop-i.invariant)
 
 pub returns : goal.returns
-returns c =
-    let all : c.loop-i.i ≡ 55 = omega arith in
-    cycling_all c.args.numbers.now c.loop-i.numbers (rw all at c.loop-i.invariant)
+returns c = search (rules, cycling_all)

@@ -28,8 +28,4 @@ loop-k-preserved c =
     below all here given c.own_number.ensures c.loop-k.invariant
 
 pub returns : goal.returns
-returns c =
-    let old = c.args.plain.now in
-    let new = c.loop-k.plain in
-    let count : length old ≡ length new = omega (arith, length-map old bare_vertex, length-map new bare_vertex, ap length c.loop-k.invariant.bare) in
-    taken_all c.args.place c.loop-k.k old new (values (length old) c.args.column.now) (omega arith) (omega (arith, count, c.requires.whole)) c.loop-k.invariant
+returns c = search (rules, length-map, bare_vertex, taken_all, values)

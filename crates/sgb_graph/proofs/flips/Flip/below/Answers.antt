@@ -1,4 +1,4 @@
-use Rattle.std.proofs.Common.{sym, subst}
+use Rattle.std.proofs.Common.{rules}
 use Rattle.sgb_graph.specs.Draws.{IsAtDraw, bound_below}
 use Rattle.sgb_graph.specs.Flips.{FlipData}
 use Rattle.sgb_graph.proofs.Standing.{thrown_none, thrown_more, uniform_taken}
@@ -6,11 +6,7 @@ use Rattle.sgb_graph.proofs.Waiting.{bound_above, waiting_falls}
 use Rattle.sgb_graph.proofs.flips.Flip.below.Goals as goal
 
 pub loop-self-init : goal.loop-self-init
-loop-self-init c = record {
-  flip = c.self.invariant;
-  thrown = λ start k stands.
-      thrown_none start c.args.m k _ _ (subst (λ (d : FlipData). IsAtDraw start k d.numbers d.left) (sym c.self.view_is) stands);
-}
+loop-self-init c = search (rules, thrown_none, FlipData, IsAtDraw)
 
 pub loop-self-preserved : goal.loop-self-preserved
 loop-self-preserved c = record {

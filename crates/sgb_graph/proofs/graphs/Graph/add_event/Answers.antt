@@ -1,4 +1,4 @@
-use Rattle.std.proofs.Common.{◌≡◌, ◌<◌, ℕ, ℤ, Bool, [], ◌∷◌, length, sym, subst}
+use Rattle.std.proofs.Common.{rules, ◌≡◌, ◌<◌, ℕ, ℤ, Bool, [], ◌∷◌, length}
 use Rattle.std.proofs.lemmas.Int.{to_z-of_z}
 use Rattle.std.proofs.lemmas.Result.{on_ok_weaker}
 use mir.Syntax.{w64}
@@ -12,9 +12,7 @@ use Rattle.sgb_graph.proofs.graphs.Graph.add_event.Goals as goal
 -- the graph with one event more adds that event, whether it is known to be directed or told so
 added : (directed told : Bool) (old new : GraphData) (u v : ℕ) (len : ℤ) → directed ≡ told → u < length old.vertices → v < length old.vertices → new ≡ with_event told old (record { from = u; to = v; len = len })
     → AddsEvents directed old new (record { from = u; to = v; len = len } ∷ [])
-added directed told old new u v len same u_in v_in is =
-    let e : Event = record { from = u; to = v; len = len } in
-    rw (same, is) (adds-event told old e (u_in, v_in))
+added directed told old new u v len same u_in v_in is = search (rules, Event, adds-event)
 
 pub returns-then-directed-clause-ok : goal.returns-then-directed-clause-ok
 returns-then-directed-clause-ok c =

@@ -1,4 +1,4 @@
-use Rattle.std.proofs.Common.{◌<◌, length, sym, arith}
+use Rattle.std.proofs.Common.{rules, sym}
 use Rattle.sgb_graph.specs.inner.Kept.{kept_graph}
 use Rattle.sgb_graph.proofs.Chains.{length-links}
 use Rattle.sgb_graph.proofs.Tips.{tips_below}
@@ -19,13 +19,7 @@ returns-clause-chain c =
     (sym (chain_of_vertex kept c.args.v (lists_end kept (parts_of kept c.self.invariant.graph)) (rw (← c.self.view_is) at c.requires)).chain)
 
 pub returns-clause-short : goal.returns-clause-short
-returns-clause-short c =
-    rw (← c.self.view_is) (length-links (length c.self.inside.records.items) c.self.inside.records.items c.first.result)
+returns-clause-short c = search (rules, length-links)
 
 pub returns-clause-tips : goal.returns-clause-tips
-returns-clause-tips c =
-    let some : 0 < length c.self.inside.vertices.items = omega (arith, rw (← c.self.view_is) at c.requires) in
-    let records = c.self.inside.records.items in
-    let kept = kept_graph c.self.inside.id c.self.inside.m c.self.inside.util c.self.inside.vertices c.self.inside.records in
-    rw (← c.self.view_is)
-    (tips_below (length records) (length c.self.inside.vertices.items) (length records) kept.kinds records c.first.result some (parts_of _ c.self.invariant.graph).records)
+returns-clause-tips c = search (rules, kept_graph, tips_below, parts_of)

@@ -1,4 +1,4 @@
-use Rattle.std.proofs.Common.{refl}
+use Rattle.std.proofs.Common.{rules}
 use Rattle.std.proofs.lemmas.Int.{to_z-of_z}
 use mir.Syntax.{w64}
 use mir.Val.{SFits}
@@ -12,6 +12,4 @@ invariant_of-self c =
     rw (to_z-of_z w64 c.args.value fits, uu_kinds_of c.args.value c.self.inside.util) (uu_kept c.args.value _ c.self.invariant)
 
 pub returns-clause-data : goal.returns-clause-data
-returns-clause-data c =
-    let fits : SFits w64 c.args.value = c.ranges.value in
-    rw (to_z-of_z w64 c.args.value fits, uu_kinds_of c.args.value c.self.inside.util, ← c.self.view_is) refl
+returns-clause-data c = search (rules, SFits, w64, to_z-of_z, uu_kinds_of)

@@ -1,4 +1,4 @@
-use Rattle.std.proofs.Common.{ap, refl}
+use Rattle.std.proofs.Common.{rules}
 use Rattle.std.proofs.lemmas.Int.{to_z-of_z}
 use mir.Syntax.{w64}
 use mir.Val.{SFits}
@@ -15,25 +15,13 @@ invariant_of-self c =
     rw put (ints_kept _ c.args.v c.args.x c.args.y c.args.z c.self.invariant)
 
 pub returns-clause-data : goal.returns-clause-data
-returns-clause-data c =
-    let x_fits : SFits w64 c.args.x = c.ranges.x in
-    let y_fits : SFits w64 c.args.y = c.ranges.y in
-    let z_fits : SFits w64 c.args.z = c.ranges.z in
-    let put = simp to_z-of_z at c.put_numbers.ensures in
-    rw (put, ← c.self.view_is) refl
+returns-clause-data c = search (rules, SFits, w64, to_z-of_z)
 
 pub returns-clause-chains : goal.returns-clause-chains
-returns-clause-chains c = λ w.
-    rw (c.put_numbers.ensures, ap (λ (g : GraphData). g.vertices) c.self.view_is, ap (λ (g : GraphData). g.records) c.self.view_is) (ints_chains c.args.self.now c.args.v _ _ _ w)
+returns-clause-chains c = search (rules, GraphData, ints_chains)
 
 pub returns-clause-names : goal.returns-clause-names
-returns-clause-names c =
-    rw (c.put_numbers.ensures, ap (λ (g : GraphData). g.vertices) c.self.view_is) (ints_names c.args.self.now c.args.v _ _ _)
+returns-clause-names c = search (rules, GraphData, ints_names)
 
 pub returns-clause-fields : goal.returns-clause-fields
-returns-clause-fields c =
-    let x_fits : SFits w64 c.args.x = c.ranges.x in
-    let y_fits : SFits w64 c.args.y = c.ranges.y in
-    let z_fits : SFits w64 c.args.z = c.ranges.z in
-    let put = simp to_z-of_z at c.put_numbers.ensures in
-    rw (put, ap (λ (g : GraphData). g.vertices) c.self.view_is) (ints_fields c.args.self.now c.args.v c.args.x c.args.y c.args.z)
+returns-clause-fields c = search (rules, SFits, w64, to_z-of_z, GraphData, ints_fields)

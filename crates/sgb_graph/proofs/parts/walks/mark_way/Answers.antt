@@ -1,4 +1,4 @@
-use Rattle.std.proofs.Common.{◌≡◌, ◌⊎◌, ◌<◌, length, Some, None, true, refl, inl, inr, rules, arith}
+use Rattle.std.proofs.Common.{◌≡◌, ◌⊎◌, ◌<◌, length, Some, None, true, refl, inr, rules, arith}
 use Rattle.std.specs.Prelude.{IsTrue}
 use Rattle.sgb_graph.specs.Columns.{arc_seen}
 use Rattle.sgb_graph.specs.Graphs.{ends_of}
@@ -7,14 +7,10 @@ use Rattle.sgb_graph.proofs.MarkedWays.{way_inside, way_shorter, way_goes_on, le
 use Rattle.sgb_graph.proofs.parts.walks.mark_way.Goals as goal
 
 pub bounds-marks-k : goal.bounds-marks-k
-bounds-marks-k c =
-    let ends = rw c.in-Some.is at c.loop-next.invariant.ends in
-    omega (arith, c.loop-next.invariant.long, way_inside c.args.records.now.items c.in-Some.k ends)
+bounds-marks-k c = search (rules, way_inside)
 
 pub bounds-marks-k-in-Some : goal.bounds-marks-k-in-Some
-bounds-marks-k-in-Some c =
-    let ends = rw c.in-Some.is at c.loop-next.invariant.ends in
-    omega (arith, c.loop-next.invariant.long, way_inside c.args.records.now.items c.in-Some.k ends)
+bounds-marks-k-in-Some c = search (rules, way_inside)
 
 pub get-next-requires : goal.get-next-requires
 get-next-requires c = way_inside c.args.records.now.items c.in-Some.k (rw c.in-Some.is at c.loop-next.invariant.ends)
@@ -45,27 +41,16 @@ loop-next-preserved c =
     }
 
 pub loop-next-init : goal.loop-next-init
-loop-next-init c = record {
-  long = search rules;
-  ends = search rules;
-  leads = λ all. all;
-  marks_end = λ before. before;
-  marks_lead = λ before all. before;
-  first = inl refl;
-  reach = λ before k r is marked. inr (before k r is marked);
-}
+loop-next-init c = search rules
 
 pub returns-then-marks-k-clause-first : goal.returns-then-marks-k-clause-first
-returns-then-marks-k-clause-first c =
-    reached_all c.loop-next.marks (Some c.in-Some.k) c.args.first (search rules) (rw c.in-Some.is at c.loop-next.invariant.first)
+returns-then-marks-k-clause-first c = search (rules, reached_all)
 
 pub returns-then-marks-k-clause-on : goal.returns-then-marks-k-clause-on
-returns-then-marks-k-clause-on c = λ before.
-    reach_all c.args.records.now.items c.loop-next.marks (Some c.in-Some.k) (search rules) (rw c.in-Some.is at (c.loop-next.invariant.reach before))
+returns-then-marks-k-clause-on c = search (rules, reach_all)
 
 pub returns-clause-first : goal.returns-clause-first
 returns-clause-first c = reached_all c.loop-next.marks None c.args.first refl (rw c.in_default.is at c.loop-next.invariant.first)
 
 pub returns-clause-on : goal.returns-clause-on
-returns-clause-on c = λ before.
-    reach_all c.args.records.now.items c.loop-next.marks None refl (rw c.in_default.is at (c.loop-next.invariant.reach before))
+returns-clause-on c = search (rules, reach_all)

@@ -1,4 +1,4 @@
-use Rattle.std.proofs.Common.{◌≡◌, ◌&&◌, Some, false, true, ap, sym, ◌∙◌, arith}
+use Rattle.std.proofs.Common.{rules, ◌≡◌, ◌&&◌, Some, false, true, ap, sym, ◌∙◌}
 use Rattle.sgb_graph.specs.Columns.{arc_seen}
 use Rattle.sgb_graph.specs.Graphs.{ends_of}
 use Rattle.sgb_graph.specs.Sound.{is_vertex}
@@ -10,8 +10,7 @@ pub get-arc-requires : goal.get-arc-requires
 get-arc-requires c = way_inside c.args.records.now.items c.in-Some.k (rw c.in-Some.is at c.loop-next.invariant.0)
 
 pub bounds-marks-k : goal.bounds-marks-k
-bounds-marks-k c =
-    omega (arith, c.requires.long, way_inside c.args.records.now.items c.in-Some.k (rw c.in-Some.is at c.loop-next.invariant.0))
+bounds-marks-k c = search (rules, way_inside)
 
 pub returns-then-not-is_vertex : goal.returns-then-not-is_vertex
 returns-then-not-is_vertex c =
@@ -41,5 +40,4 @@ loop-next-preserved c =
     (way_goes_on records k r ends c.get-arc.ensures, sym (ap (λ b. b && leads_of records r.next) tip) ∙ (sym all ∙ same))
 
 pub returns : goal.returns
-returns c =
-    sym (leads_none c.args.records.now.items) ∙ rw c.in_default.is at c.loop-next.invariant.1
+returns c = search (rules, leads_none)

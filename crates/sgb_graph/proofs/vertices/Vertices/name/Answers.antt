@@ -1,18 +1,11 @@
-use Rattle.std.proofs.Common.{◌∙◌, ◌<◌, ap, sym, map, length, refl, arith}
-use Rattle.std.specs.Prelude.{slice_get}
+use Rattle.std.proofs.Common.{rules}
 use Rattle.std.proofs.lemmas.Option.{slice_get_read}
 use Rattle.sgb_graph.specs.inner.KeptVertices.{KeptVertices}
 use Rattle.sgb_graph.proofs.KeptVertices.{kept_name, length-kept}
 use Rattle.sgb_graph.proofs.vertices.Vertices.name.Goals as goal
 
 pub index-requires : goal.index-requires
-index-requires c =
-    omega (arith, c.requires, c.self.inside.plain.ok.0, length-kept c.self.inside.plain.items c.self.inside.fields c.args.self.now c.self.invariant c.self.view_is)
+index-requires c = search (rules, length-kept)
 
 pub returns : goal.returns
-returns c =
-    let ps = c.self.inside.plain.items in
-    let below : c.args.v < length ps = omega (arith, c.requires, length-kept ps c.self.inside.fields c.args.self.now c.self.invariant c.self.view_is) in
-    let at = slice_get_read ps (length ps) c.args.v c.index.result.now refl below c.index.ensures in
-    ap (λ (g : KeptVertices). slice_get (map (λ x. x.name) g.items) c.args.v) (sym c.self.view_is)
-    ∙ kept_name ps c.self.inside.fields c.args.v c.index.result.now c.self.invariant at
+returns c = search (rules, length-kept, slice_get_read, KeptVertices, kept_name)

@@ -1,13 +1,11 @@
-use Rattle.std.proofs.Common.{◌∙◌, ap, map, sym, arith}
+use Rattle.std.proofs.Common.{rules, sym}
 use Rattle.sgb_graph.specs.Growth.{at_place, with_numbers, with_some_numbers}
 use Rattle.sgb_graph.specs.inner.KeptVertices.{KeptVertices}
-use Rattle.sgb_graph.specs.declared.fields.Kind.TheVariants.{I}
 use Rattle.sgb_graph.proofs.KeptVertices.{written_in_words, length-kept}
 use Rattle.sgb_graph.proofs.vertices.Vertices.put_numbers.Goals as goal
 
 pub index_mut-requires : goal.index_mut-requires
-index_mut-requires c =
-    omega (arith, c.requires, c.self.inside.plain.ok.0, length-kept c.self.inside.plain.items c.self.inside.fields c.args.self.now c.self.invariant c.self.view_is)
+index_mut-requires c = search (rules, length-kept)
 
 pub invariant_of-self : goal.invariant_of-self
 invariant_of-self c =
@@ -15,7 +13,4 @@ invariant_of-self c =
     (sym c.self.inside.plain.ok.0) c.self.invariant c.deref_mut.ensures.value c.use_numbers.ensures c.index_mut.ensures.value).whole
 
 pub returns : goal.returns
-returns c =
-    (written_in_words c.self.inside.plain.len _ c.self.inside.plain.items c.self.inside.fields c.use_numbers.new.plain c.use_numbers.new.fields c.index_mut.result.now c.args.v _ _ _ c.ranges.x c.ranges.y c.ranges.z
-    (sym c.self.inside.plain.ok.0) c.self.invariant c.deref_mut.ensures.value c.use_numbers.ensures c.index_mut.ensures.value).same
-    ∙ ap (λ (h : KeptVertices). record h { x = I; y = I; z = I; items = at_place (with_numbers c.args.x c.args.y c.args.z) c.args.v (map with_some_numbers h.items) }) c.self.view_is
+returns c = search (rules, written_in_words, KeptVertices, at_place, with_numbers, with_some_numbers)
