@@ -49,9 +49,9 @@ graph_described d = record {
   kinds = d.kinds;
   util = d.util;
   vertices =
-    map (λ p. record { name = p.1.0; arcs = first_number (list_of d.directed d.events p.0); util = p.1.1 })
-    (enumerate_from 0 (zip d.names d.fields));
+      map (λ p. record { name = p.1.0; arcs = first_number (list_of d.directed d.events p.0); util = p.1.1 })
+      (enumerate_from 0 (zip d.names d.fields));
   records =
-    map (λ p. arc_record p.1.tip (number_after p.0 (list_of d.directed d.events p.1.start)) p.1.len)
-    (enumerate_from 0 (all_records d.directed d.events));
+      map (λ p. arc_record p.1.tip (number_after p.0 (list_of d.directed d.events p.1.start)) p.1.len)
+      (enumerate_from 0 (all_records d.directed d.events));
 }
