@@ -56,7 +56,7 @@ ring_head = codes "  The graph whose official name is\nboard(2,2,0,0,1,0,0)\n  h
 -- ---- answers
 
 pub ring_listed : answer_of (request.List ring resume.Whole) (Err Early) ≡ Ok (ring_head ++ (first_blocks ++ last_blocks))
-unfolding box digits name_of_vector displacements vectors_of_norm board_moves board_id family_graph list_from numbers_from blocks block arc_line head_text
+unfolding box repeated digits name_of_vector displacements vectors_of_norm board_moves board_id family_graph list_from numbers_from blocks block arc_line head_text
 ring_listed = refl
 
 -- resumed after a name or a number of vertices: the blocks from there, without the head
@@ -64,7 +64,7 @@ pub ring_resumed :
     (answer_of (request.List ring (resume.After (codes "0.1"))) (Err Early) ≡ Ok last_blocks)
     × (answer_of (request.List ring (resume.Skip 2)) (Err Early) ≡ Ok last_blocks)
     × (answer_of (request.List ring (resume.Skip 5)) (Err Early) ≡ Ok [])
-unfolding box digits name_of_vector displacements vectors_of_norm board_moves board_id family_graph list_from numbers_from blocks block arc_line head_text
+unfolding box repeated digits name_of_vector displacements vectors_of_norm board_moves board_id family_graph list_from numbers_from blocks block arc_line head_text
 ring_resumed = (refl, refl, refl)
 
 -- names, from the first one and after one; a name that no vertex has
@@ -72,7 +72,7 @@ pub ring_names :
     (answer_of (request.Names ring resume.Whole) (Err Early) ≡ Ok (codes "0.0\n0.1\n1.0\n1.1\n"))
     × (answer_of (request.Names ring (resume.After (codes "1.0"))) (Err Early) ≡ Ok (codes "1.1\n"))
     × (answer_of (request.Names ring (resume.After (codes "01.0"))) (Err Early) ≡ Err fault.NoVertex)
-unfolding box digits name_of_vector displacements vectors_of_norm board_moves board_id family_graph list_from name_lines
+unfolding box repeated digits name_of_vector displacements vectors_of_norm board_moves board_id family_graph list_from name_lines
 ring_names = (refl, refl, refl)
 
 -- simplex(1,1,1,0,0,0,1): one arc, to the vector that has the unit at the first place
@@ -83,6 +83,7 @@ unit_listed = refl
 
 -- a graph that is refused
 pub great_piece : answer_of (request.Save (expr.Generator (squares (pos 2) (pos 2) (pos 1_000_000_000_000)))) (Err Early) ≡ Err (fault.Panic VeryBad)
+unfolding repeated
 great_piece = refl
 
 -- ---- standard input
@@ -115,6 +116,7 @@ too_great = Generated (squares (pos 2) (pos 2) (pos 1_000_000_000_000))
 pub refused_first :
     (value_of (Err Early) (Gunion negative too_great false false) ≡ Err Bad)
     × (value_of (Err Early) (Gunion too_great negative false false) ≡ Err VeryBad)
+unfolding repeated
 refused_first = (refl, refl)
 
 -- entries: each is a number or a graph; the first refusal among them
@@ -137,5 +139,5 @@ pub ring_of_family :
     (start_after (vectors_of local_ring) (Some (0 ∷ 1 ∷ [])) ∷ start_after (vectors_of local_ring) None ∷ [] ≡ 2 ∷ 0 ∷ [])
     × (family_text (graph_described (described local_ring)) false 2 ≡ last_blocks)
     × (family_text (graph_described (described local_ring)) true 2 ≡ ring_head ++ last_blocks)
-unfolding box digits name_of_vector displacements vectors_of_norm board_moves board_id family_graph list_from numbers_from blocks block arc_line head_text
+unfolding box repeated digits name_of_vector displacements vectors_of_norm board_moves board_id family_graph list_from numbers_from blocks block arc_line head_text
 ring_of_family = (refl, refl, refl)

@@ -26,6 +26,11 @@ value_then {T} {U} operand x make r e is = subst (λ (v : Result T Panic). IsVal
 pub value_both : {T U : Type 0} (first : Result T Panic) (second : Result U Panic) (x : T) (y : U) → first ≡ Ok x → second ≡ Ok y → both first second ≡ Ok (x, y)
 value_both first second x y e f = rw (e, f) refl
 
+-- the first one's refusal
+pub first_refused : {T U V : Type 0} (first : Result T Panic) (second : Result U Panic) (make : T × U → Result V Panic) (p : Panic) → IsValue first (Err p) → IsValue (and_then (both first second) make) (Err p)
+first_refused first second make p (inl e) = inl (rw e refl)
+first_refused first second make p (inr e) = inr e
+
 -- the second one's refusal
 pub both_refused : {T U : Type 0} (first : Result T Panic) (second : Result U Panic) (x : T) (p : Panic) → first ≡ Ok x → IsValue second (Err p) → IsValue (both first second) (Err p)
 both_refused first second x p e (inl f) = inl (rw (e, f) refl)

@@ -1,16 +1,25 @@
-use Rattle.std.proofs.Common.{◌≡◌, Ok, subst, neg_ℤ, pos, false}
+use Rattle.std.proofs.Common.{◌≡◌, Result, Ok, Err, subst, neg_ℤ, pos, false}
+use Rattle.std.proofs.lemmas.Result.{err_from_is_err_and}
+use Rattle.sgb_vec.specs.Results.{IsValue}
+use Rattle.sgb_vec.specs.declared.panics.Panic.{Panic}
 use Rattle.sgb_graph.specs.Descriptions.{IsAnswerOf}
 use Rattle.sgb_graph.specs.Graphs.{GraphData}
 use Rattle.sgb_expr.specs.declared.expressions.Generator.{Generator}
 use Rattle.sgb_ops.specs.Gunion.{gunion_of}
 use Rattle.sgb.specs.Outcomes.{moves_of, queen_moves}
 use Rattle.sgb.specs.Values.{both, generator_value, made}
-use Rattle.sgb.proofs.Values.{value_both, value_made, value_then}
+use Rattle.sgb.proofs.Values.{first_refused, value_both, value_made, value_then}
 use Rattle.sgb.proofs.evaluation.queen_moves.Goals as goal
 
--- the graph of a generator that is known
-moves_made : (e f : Generator) (g : GraphData) → e ≡ f → IsAnswerOf (generator_value e) (Ok g) → made (generator_value f) ≡ Ok g
-moves_made e f g same is = value_made (generator_value f) (Ok g) (subst (λ (x : Generator). IsAnswerOf (generator_value x) (Ok g)) same is)
+-- the graph of a generator that is known, or its refusal
+moves_made : (e f : Generator) (r : Result GraphData Panic) → e ≡ f → IsAnswerOf (generator_value e) r → IsValue (made (generator_value f)) r
+moves_made e f r same is = value_made (generator_value f) r (subst (λ (x : Generator). IsAnswerOf (generator_value x) r) same is)
+
+pub returns-in_err-rooks : goal.returns-in_err-rooks
+unfolding queen_moves
+returns-in_err-rooks c =
+    let returned = err_from_is_err_and c.from_residual.result c.from_residual.ensures.1 in
+    rw (returned.1, returned.2) (first_refused (made (generator_value (moves_of (neg_ℤ (pos 1))))) _ _ _ (moves_made _ _ _ c.moves_of.ensures c.in_err-rooks.ensures.answer))
 
 pub returns : goal.returns
 unfolding queen_moves
