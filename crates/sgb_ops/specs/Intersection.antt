@@ -36,7 +36,7 @@ abbrev pub common_length : Bool → List Link → List Link → Link → ℤ
 common_length true gs hs l = int_max (least_to l.tip gs) l.len
 common_length false gs hs l = int_max (least_to l.tip gs) (least_to l.tip hs)
 
--- the events from v: in the order of hs, one for each arc before which hs has not yet enough to its tip
+-- the events from v, in the order of hs: for each arc one, unless those before it are enough to its tip already
 abbrev pub common_events : Bool → ℕ → List Link → List Link → List Event
 common_events multi v gs hs = flat_map (λ p.
     if nat_lt (count_to p.1.tip (take p.0 hs)) (common_count multi p.1.tip gs hs)
