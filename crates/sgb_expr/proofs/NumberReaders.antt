@@ -2,10 +2,10 @@
 use Rattle.std.proofs.Common.{◌≡◌, ℕ, ℤ, pos, neg_ℤ, ◌<◌, ◌≤◌, List, [], ◌∷◌, ◌++◌, length, Some, Result, Ok, Err, codes, refl, sym, ◌∙◌, ap, subst, inl, inr, append_assoc, arith, length-append, lit<, lit≤, drop}
 use Rattle.std.specs.Char.{digit_value}
 use Rattle.std.specs.Str.Parse.{IsNumeral}
-use Rattle.sgb_expr.specs.Numbers.{IsNumber, IsInteger, IsBits, most_digits, most_hex_digits}
+use Rattle.sgb_expr.specs.Numbers.{IsNumber, IsInteger, IsBits, most_digits}
 use Rattle.sgb_text.specs.Languages.{As}
 use Rattle.sgb_text.proofs.Readings.{◌>>=◌, fixed_at}
-use Rattle.sgb_expr.specs.inner.Readings.{number_at, signed_at, integer_at, bits_after, bits_at}
+use Rattle.sgb_expr.specs.inner.Readings.{most_hex_digits, number_at, signed_at, integer_at, bits_after, bits_at}
 use Rattle.sgb_text.proofs.Readers.{next, next_after, IsFound, Wrong, Reads, bind_stops, cut_after, cut_in, reads_as, reads_or, reads_before}
 use Rattle.sgb_text.proofs.Words.{Parts, fixed_again, fixed_cases, fixed_stops, reads_after}
 use Rattle.sgb_expr.proofs.Digits.{NoDigit, none_again, none_there, reads_number, no_digit_same, zero_is_number}

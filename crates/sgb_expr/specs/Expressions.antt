@@ -12,14 +12,6 @@ use Rattle.sgb_expr.specs.declared.names.GeneratorName.{GeneratorName}
 use Rattle.sgb_expr.specs.declared.names.FormName.{FormName}
 use Rattle.sgb_expr.specs.declared.names.FormName.TheVariants as form
 
--- a text that is read has at most this many bytes
-abbrev pub most_expression_bytes : ℕ
-most_expression_bytes = 65_536
-
--- parentheses are nested at most this deep
-abbrev pub most_depth : ℕ
-most_depth = 64
-
 -- the text is this expression, in which operations stand one in another at most so deep: a name, with a `(` where its form has
 -- arguments, and these with `)`
 abbrev pub IsNested : ℕ → List ℕ → Expression → Type 0
@@ -30,15 +22,11 @@ IsNested (suc depth) text e = (name : FormName) × After (name_opening name) (Is
 abbrev pub IsExpression : List ℕ → Expression → Type 0
 IsExpression text e = (depth : ℕ) × IsNested depth text e
 
--- some prefix of the text has over 64 more `(` (40) than `)` (41)
-abbrev pub IsDeep : List ℕ → Type 0
-IsDeep text =
-    (k : ℕ) × (k ≤ length text)
-    × (count_by (λ byte. byte == 41) (take k text) + most_depth < count_by (λ byte. byte == 40) (take k text))
-
--- the text is too large, whatever it says
+-- the text is too large, whatever it says: over 65,536 bytes, or over 64 more `(` (40) than `)` (41) in some prefix
 abbrev pub IsTooLarge : List ℕ → Type 0
-IsTooLarge text = (most_expression_bytes < length text) ⊎ IsDeep text
+IsTooLarge text =
+    (65_536 < length text)
+    ⊎ ((k : ℕ) × (k ≤ length text) × (count_by (λ byte. byte == 41) (take k text) + 64 < count_by (λ byte. byte == 40) (take k text)))
 
 -- the text is read as this, the word of which it stands for, or not read for this cause: too large before all else, then no
 -- word, with the length of the longest prefix that begins one; or out of memory, where reading takes some

@@ -7,10 +7,6 @@ use Rattle.sgb_text.specs.Languages.{After, As, Or}
 abbrev pub most_digits : ℕ
 most_digits = 18
 
--- and at most this many hexadecimal digits
-abbrev pub most_hex_digits : ℕ
-most_hex_digits = 32
-
 -- digits in the radix, one or more and at most so many, leading zeros allowed, that write the number
 pub record IsNumber (radix most : ℕ) (text : List ℕ) (number : ℕ) : Type 0 where
   pub numeral : IsNumeral radix text
@@ -23,4 +19,4 @@ IsInteger = Or (After (codes "-") (As (λ n. neg_ℤ (pos n)) (IsNumber 10 most_
 
 -- bits: 1 to 18 decimal digits, or `0x` and 1 to 32 hexadecimal digits of either case
 abbrev pub IsBits : List ℕ → ℕ → Type 0
-IsBits = Or (After (codes "0x") (IsNumber 16 most_hex_digits)) (IsNumber 10 most_digits)
+IsBits = Or (After (codes "0x") (IsNumber 16 32)) (IsNumber 10 most_digits)

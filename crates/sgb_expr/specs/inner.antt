@@ -5,6 +5,8 @@ pub mod CodeEntries
 pub mod FlipTexts
 -- what a reader of the code returns
 pub mod Gives
+-- how large a text may be that is read
+pub mod Measure
 -- all names, and what each begins with
 pub mod Names
 -- what the steps of reading an operation speak of

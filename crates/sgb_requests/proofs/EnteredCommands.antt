@@ -11,8 +11,8 @@ use Rattle.clap.specs.Walk.{answers_to, nothing_held, stop_after, walk_from}
 use Rattle.clap.specs.Words.{App, FailsBy, HasKind, HasMatchesOf, Row, Rule, Shape, Text, built, fault_of, first_of, is_simple_and_free, subcommand_name_of, subcommand_of, subcommand_rows_of}
 use Rattle.clap.specs.declared.error.Error.{Error}
 use Rattle.clap.specs.declared.parser.matches.ArgMatches.{ArgMatches}
-use Rattle.sgb_requests.specs.CommandLine.{Enters, alone_shape, command_line, output_shape}
-use Rattle.sgb_requests.specs.inner.CommandLine.{HasNoCommand, IsTaken}
+use Rattle.sgb_requests.specs.CommandLine.{Enters, command_line}
+use Rattle.sgb_requests.specs.inner.CommandLine.{HasNoCommand, IsTaken, alone_shape, output_shape}
 use Rattle.sgb_requests.proofs.ClapValues.{name_by_rows, or_false, pair_is}
 use Rattle.sgb_requests.proofs.ClapHelp.{IsNotHelp, walk_stops}
 use Rattle.sgb_requests.proofs.ClapRequired.{each_valued, is_valued, none_first, none_second, required_first}

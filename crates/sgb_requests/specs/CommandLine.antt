@@ -1,5 +1,5 @@
 -- The command line by clap's meaning of it, and what its words ask for.
-use Rattle.std.specs.Prelude.{◌≡◌, true, List, [], ◌∷◌, fold, Some, codes}
+use Rattle.std.specs.Prelude.{◌≡◌, true, List, [], ◌∷◌, map, fold, Some, codes}
 use Rattle.clap.specs.Simple.{new_shape}
 use Rattle.clap.specs.Words.{App, Row, Rule, Shape, Text, fault_of, first_of, new_app, new_rule, subcommand_of, with_subcommand}
 use Rattle.clap.specs.declared.builder.action.ArgAction.TheVariants.{Set}
@@ -12,22 +12,16 @@ expression_rule = record (new_rule (codes "EXPR")) { action = Some Set; required
 abbrev pub option_rule : Text → Rule
 option_rule name = record (new_rule name) { long = Some name; action = Some Set }
 
--- the command of this name, with `EXPR [--after NAME|--skip K]`: that not both options stand is no rule of clap's here
-abbrev pub output_shape : Text → Shape
-output_shape name = record (new_shape name) {
-  rules = expression_rule ∷ option_rule (codes "after") ∷ option_rule (codes "skip") ∷ [];
-}
-
--- the command of this name, with `EXPR` alone
-abbrev pub alone_shape : Text → Shape
-alone_shape name = record (new_shape name) { rules = expression_rule ∷ [] }
+-- the command of this name, with `EXPR` and these options; that not both `--after` and `--skip` stand is no rule of clap's here
+abbrev pub command_shape : Text → List Text → Shape
+command_shape name options = record (new_shape name) { rules = expression_rule ∷ map option_rule options }
 
 -- `sgb` and its commands
 abbrev pub command_line : App
 command_line =
     fold with_subcommand (new_app (codes "sgb"))
-    (output_shape (codes "names") ∷ output_shape (codes "list") ∷ alone_shape (codes "save") ∷ new_shape (codes "queen")
-    ∷ alone_shape (codes "flip") ∷ [])
+    (command_shape (codes "names") (codes "after" ∷ codes "skip" ∷ []) ∷ command_shape (codes "list") (codes "after" ∷ codes "skip" ∷ [])
+    ∷ command_shape (codes "save") [] ∷ new_shape (codes "queen") ∷ command_shape (codes "flip") [] ∷ [])
 
 -- clap takes the words, which enter the command of this name, and these are its matches
 pub record Enters (words : List Text) (command : Text) (rows : List Row) : Type 0 where

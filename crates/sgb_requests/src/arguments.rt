@@ -4,8 +4,8 @@ ghost use Rattle.std.specs.String.{string_bytes};
 ghost use Rattle.clap.specs.Words.{HasKind, app_of, fault_of, first_of, found_of, rows_of, rule_of, shape_of};
 ghost use Rattle.clap.specs.declared.builder.command.Command.TheViews.{out-Command};
 ghost use Rattle.sgb_requests.specs.CommandLine.{command_line};
-ghost use Rattle.sgb_requests.specs.inner.CommandLine.{Gives, EntersSubcommand, IsRefusedAtOnce, IsTaken, output_command_line};
-ghost use Rattle.sgb_requests.specs.CommandLine.{alone_shape, expression_rule, option_rule, output_shape};
+ghost use Rattle.sgb_requests.specs.inner.CommandLine.{Gives, EntersSubcommand, IsRefusedAtOnce, IsTaken, alone_shape, output_command_line, output_shape};
+ghost use Rattle.sgb_requests.specs.CommandLine.{expression_rule, option_rule};
 
 use crate::faults::Fault;
 use clap::error::ErrorKind;

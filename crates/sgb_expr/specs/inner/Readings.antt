@@ -3,7 +3,11 @@ use Rattle.std.specs.Prelude.{ℕ, zero, suc, ℤ, pos, neg_ℤ, codes, List, []
 use Rattle.std.specs.Str.Parse.{digits_value}
 use Rattle.sgb_vec.specs.Digits.{leading_digits}
 use Rattle.sgb_text.proofs.Readings.{◌>>=◌, either, fixed_at}
-use Rattle.sgb_expr.specs.Numbers.{most_digits, most_hex_digits}
+use Rattle.sgb_expr.specs.Numbers.{most_digits}
+
+-- bits have at most this many hexadecimal digits
+abbrev pub most_hex_digits : ℕ
+most_hex_digits = 32
 
 -- the number that these digits write, with which the text begins
 abbrev pub number_of_digits : ℕ → List ℕ → List ℕ → Result (ℕ × List ℕ) ℕ

@@ -1,7 +1,7 @@
 -- What the steps of reading a command line give.
-use Rattle.std.specs.Prelude.{◌≡◌, ◌≢◌, ◌⊎◌, List, [], Option, Some, None, codes, option_map}
+use Rattle.std.specs.Prelude.{◌≡◌, ◌≢◌, ◌⊎◌, List, [], ◌∷◌, Option, Some, None, codes, option_map}
 use Rattle.std.specs.Borrow.{Bor}
-use Rattle.clap.specs.Words.{App, Row, Text, fault_of, first_of, new_app, subcommand_of, subcommand_rows_of, with_subcommand}
+use Rattle.clap.specs.Words.{App, Row, Shape, Text, fault_of, first_of, new_app, subcommand_of, subcommand_rows_of, with_subcommand}
 use Rattle.clap.specs.declared.parser.matches.ArgMatches.{ArgMatches}
 use Rattle.sgb_vec.specs.declared.panics.Panic.TheVariants.{NoRoom}
 use Rattle.sgb_requests.specs.declared.arguments.Subcommand.{Subcommand}
@@ -9,7 +9,15 @@ use Rattle.sgb_requests.specs.declared.arguments.Subcommand.TheVariants as subco
 use Rattle.sgb_requests.specs.declared.arguments.Arguments.{Arguments}
 use Rattle.sgb_requests.specs.declared.faults.Fault.{Fault}
 use Rattle.sgb_requests.specs.declared.faults.Fault.TheVariants as fault
-use Rattle.sgb_requests.specs.CommandLine.{Asks, Enters, command_line, output_shape}
+use Rattle.sgb_requests.specs.CommandLine.{Asks, Enters, command_line, command_shape}
+
+-- the command of this name, with `EXPR [--after NAME|--skip K]`
+abbrev pub output_shape : Text → Shape
+output_shape name = command_shape name (codes "after" ∷ codes "skip" ∷ [])
+
+-- the command of this name, with `EXPR` alone
+abbrev pub alone_shape : Text → Shape
+alone_shape name = command_shape name []
 
 -- `sgb` with the commands that begin where the options say
 abbrev pub output_command_line : App
