@@ -1,4 +1,4 @@
-use Rattle.std.proofs.Common.{arith, refl, ap, ◌∙◌}
+use Rattle.std.proofs.Common.{rules, refl}
 use Rattle.std.proofs.lemmas.List.{take_all}
 use Rattle.sgb_file.specs.inner.Layouts.{value_from}
 use Rattle.sgb_file.proofs.ChecksumLemmas.{byte_valued}
@@ -9,9 +9,7 @@ unfolding value_from
 loop-byte-init c = refl
 
 pub loop-byte-preserved : goal.loop-byte-preserved
-loop-byte-preserved c =
-    byte_valued _ _ _ _ c.args.bytes.now c.loop-byte.byte-index c.loop-byte-test.true refl c.loop-byte.invariant c.value_after_byte-after.ensures
+loop-byte-preserved c = search (rules, byte_valued)
 
 pub returns : goal.returns
-returns c =
-    c.loop-byte.invariant ∙ ap (value_from c.args.value) (take_all c.loop-byte.byte-index c.args.bytes.now (omega (arith, c.loop-byte-test.false)))
+returns c = search (rules, take_all, value_from)

@@ -1,10 +1,7 @@
-use Rattle.std.specs.Prelude.{[], refl}
+use Rattle.std.proofs.Common.{rules}
 use Rattle.sgb_file.specs.Saving.{pieces_of, record_lines}
 use Rattle.sgb_file.proofs.LayoutLemmas.{laid_out_are_short, short_lines, broken_further}
 use Rattle.sgb_file.proofs.laws.line_bytes_law.Goals as goal
 
 pub returns : goal.returns
-returns c = record {
-  lines = λ texts. short_lines (record_lines texts) (laid_out_are_short [] (pieces_of texts) refl);
-  broken = broken_further;
-}
+returns c = search (rules, broken_further, laid_out_are_short, pieces_of, record_lines, short_lines)

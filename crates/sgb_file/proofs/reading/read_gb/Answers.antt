@@ -1,4 +1,4 @@
-use Rattle.std.proofs.Common.{Err, ap, inl, sym, ◌∙◌, true, false}
+use Rattle.std.proofs.Common.{rules, Err, ap, inl, sym, ◌∙◌, true, false}
 use Rattle.sgb_vec.specs.declared.panics.Panic.TheVariants.{Early}
 use Rattle.sgb_file.specs.inner.ReadFiles.{graph_of_opening}
 use Rattle.sgb_file.proofs.Endings.{graph_ended, graph_checked, graph_unread}
@@ -9,9 +9,7 @@ pub returns-in_default-clause-read : goal.returns-in_default-clause-read
 returns-in_default-clause-read c = restored_value c.args.bytes.now (Err Early) (inl (ap graph_of_opening (sym c.in_default.ensures.head)))
 
 pub returns-in_err-parts-clause-read : goal.returns-in_err-parts-clause-read
-returns-in_err-parts-clause-read c =
-    restored_value c.args.bytes.now _ (graph_unread c.args.bytes.now c.in-Some.head c.in-Some.lines c.in_err-parts.field-0.0 _ c.from_residual.result c.in-Some.ensures.head c.in-Some.ensures.begun
-    c.in_err-parts.ensures.found c.from_residual.ensures.1)
+returns-in_err-parts-clause-read c = search (rules, graph_unread, restored_value)
 
 pub returns-then-not-closes-clause-read : goal.returns-then-not-closes-clause-read
 returns-then-not-closes-clause-read c =

@@ -1,4 +1,4 @@
-use Rattle.std.proofs.Common.{◌∙◌, refl, sym, ap, map, length}
+use Rattle.std.proofs.Common.{rules, ◌∙◌, refl, sym, ap, map}
 use Rattle.std.proofs.lemmas.Result.{err_from_is_err_and}
 use Rattle.sgb_file.specs.Checksum.{checksum_of_lines}
 use Rattle.sgb_file.specs.inner.Layouts.{checksum_from, counted_bytes}
@@ -18,8 +18,7 @@ returns-in_err-put_head-clause-put g c =
     rw (p.1, whole, sym letters) (prefix_more _ _ _ _ err.0, err.1)
 
 pub put_records-requires-clause-fields : goal.put_records-requires-clause-fields
-put_records-requires-clause-fields g c =
-    six_fields c.args.graph.now c.n-n.ensures.kept.graph (ap length (sym c.kinds-kinds.ensures) ∙ c.in_ok-put_head.ensures.kinds)
+put_records-requires-clause-fields g c = search (rules, six_fields)
 
 pub returns-in_err-put_records-clause-put : goal.returns-in_err-put_records-clause-put
 returns-in_err-put_records-clause-put g c =

@@ -1,4 +1,4 @@
-use Rattle.std.proofs.Common.{◌+◌, ◌==◌, ◌∙◌, ℕ, length, sym, ap, arith, unwrap_or}
+use Rattle.std.proofs.Common.{rules, ◌==◌, arith, unwrap_or}
 use Rattle.std.proofs.lemmas.List.{take_rest, length-drop}
 use Rattle.sgb_file.proofs.FirstPlaces.{found_here, found_later}
 use Rattle.sgb_file.proofs.LinesLeftLemmas.{position-unwrapped}
@@ -8,10 +8,7 @@ pub loop-rest-init : goal.loop-rest-init
 loop-rest-init c = (omega arith, omega arith)
 
 pub returns-then-few-lt-LANES : goal.returns-then-few-lt-LANES
-returns-then-few-lt-LANES c =
-    let rest = c.loop-rest.rest.now in
-    ap (λ (n : ℕ). c.loop-rest.passed + n) (sym (found_here (λ b. b == c.args.byte) rest c.lanes_before-few.result (omega (arith, c.loop-rest-test.true)) c.lanes_before-few.ensures c.if-few-lt-LANES.true))
-    ∙ c.loop-rest.invariant.0
+returns-then-few-lt-LANES c = search (rules, found_here)
 
 pub loop-rest-preserved : goal.loop-rest-preserved
 loop-rest-preserved c =
@@ -20,7 +17,4 @@ loop-rest-preserved c =
     rw (take_rest rest 16) (omega (arith, later, c.loop-rest.invariant.0), omega (arith, length-drop 16 rest, c.loop-rest-test.true, c.loop-rest.invariant.1))
 
 pub returns : goal.returns
-returns c =
-    let rest = c.loop-rest.rest.now in
-    ap (λ (n : ℕ). c.loop-rest.passed + n) (c.unwrap_or.ensures ∙ (ap (λ found. unwrap_or found (length rest)) c.place_of.ensures ∙ position-unwrapped (λ b. b == c.args.byte) rest))
-    ∙ c.loop-rest.invariant.0
+returns c = search (rules, position-unwrapped, unwrap_or)

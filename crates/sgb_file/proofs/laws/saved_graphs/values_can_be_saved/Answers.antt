@@ -1,4 +1,4 @@
-use Rattle.std.proofs.Common.{◌<◌, length, arith}
+use Rattle.std.proofs.Common.{rules, arith}
 use Rattle.std.proofs.lemmas.Option.{slice_get-get_or}
 use Rattle.std.proofs.lemmas.List.Elements.{All-map}
 use Rattle.sgb_graph.specs.Columns.{util_seen}
@@ -15,11 +15,7 @@ pub loop-value-init : goal.loop-value-init
 loop-value-init c = none_hold SeenCanBeSaved c.args.values.now
 
 pub loop-value-preserved : goal.loop-value-preserved
-loop-value-preserved c =
-    let values = c.args.values.now in
-    let place = c.loop-value.value-index in
-    let below : place < length values = omega (arith, c.type_inv.values, c.loop-value-test.true) in
-    more_hold SeenCanBeSaved values place _ c.loop-value.invariant (slice_get-get_or values place c.value-item.result below) c.value_can_be_saved.ensures
+loop-value-preserved c = search (rules, more_hold, slice_get-get_or)
 
 pub returns : goal.returns
 returns c =

@@ -1,18 +1,14 @@
-use Rattle.std.proofs.Common.{rules, arith, w64, ◌-◌, length}
+use Rattle.std.proofs.Common.{rules, w64}
 use Rattle.std.proofs.lemmas.Int.{to_z-of_z}
 use Rattle.std.proofs.lemmas.List.{length-take}
 use Rattle.sgb_file.proofs.VertexLines.{named_parts, rest_is_line, vertex_counted, vertex_line}
 use Rattle.sgb_file.proofs.reading.line_records.vertex_of_line.Goals as goal
 
 pub slice_bounds-checksum_after-count : goal.slice_bounds-checksum_after-count
-slice_bounds-checksum_after-count c =
-    omega (arith, (named_parts c.args.line.now c.in_ok-name.name.now c.in_ok-name.rest.now c.in_ok-name.ensures).0)
+slice_bounds-checksum_after-count c = search (rules, named_parts)
 
 pub checksum_after-before-requires : goal.checksum_after-before-requires
-checksum_after-before-requires c =
-    let line = c.args.line.now in
-    let rest = c.in_ok-name.rest.now in
-    omega (arith, (named_parts line c.in_ok-name.name.now rest c.in_ok-name.ensures).0, length-take (length line - length rest) line)
+checksum_after-before-requires c = search (rules, length-take, named_parts)
 
 pub fields_of_line-requires : goal.fields_of_line-requires
 fields_of_line-requires c = rest_is_line c.args.line.now c.in_ok-name.name.now c.in_ok-name.rest.now c.requires c.in_ok-name.ensures
@@ -25,5 +21,4 @@ returns-clause-vertex c =
     rw (x, y, z) (vertex_line c.args.counts.now c.args.line.now _ _ _ _ _ _ c.requires c.in_ok-name.ensures c.in_ok-first.ensures.fields)
 
 pub returns-clause-sum : goal.returns-clause-sum
-returns-clause-sum c =
-    vertex_counted c.args.line.now _ _ c.args.sum _ _ c.in_ok-name.ensures c.checksum_after-before.ensures c.in_ok-first.ensures.sum
+returns-clause-sum c = search (rules, vertex_counted)

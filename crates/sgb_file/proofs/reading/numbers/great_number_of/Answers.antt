@@ -1,7 +1,6 @@
-use Rattle.std.proofs.Common.{arith, sym, ◌∙◌}
+use Rattle.std.proofs.Common.{rules}
 use Rattle.sgb_file.proofs.NumberReading.{value_below}
 use Rattle.sgb_file.proofs.reading.numbers.great_number_of.Goals as goal
 
 pub returns-clause-bound : goal.returns-clause-bound
-returns-clause-bound c =
-    rw c.value_of.ensures (value_below c.args.text.now 20 (sym c.are_digits.ensures ∙ c.if-not-are_digits.false) (omega (arith, c.if-text-gt-MOST_INTEGER_DIGITS.false)))
+returns-clause-bound c = search (rules, value_below)

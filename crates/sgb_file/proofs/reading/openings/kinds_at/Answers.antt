@@ -1,4 +1,4 @@
-use Rattle.std.proofs.Common.{◌≡◌, ◌-◌, ◌∙◌, ℕ, None, Some, drop, length, take, filter_map, rules, arith, sym, ap, subst, length-set, length-drop}
+use Rattle.std.proofs.Common.{◌≡◌, ◌-◌, ◌∙◌, ℕ, Some, drop, length, take, filter_map, rules, arith, sym, ap, subst, length-set, length-drop}
 use Rattle.std.proofs.lemmas.List.{take_all}
 use Rattle.sgb_file.specs.inner.ReadFiles.{kind_of_letter}
 use Rattle.sgb_file.proofs.Endings.{short_kinds, kinds_missed, kinds_more, kinds_read}
@@ -8,19 +8,10 @@ pub returns-then-text-lt14 : goal.returns-then-text-lt14
 returns-then-text-lt14 c = short_kinds c.args.text.now c.if-text-lt14.true
 
 pub returns-in_err-kinds : goal.returns-in_err-kinds
-returns-in_err-kinds c =
-    let none : c.from_residual.result ≡ None = search rules in
-    let low = c.loop-place-test.true in
-    rw none (sym (kinds_missed c.args.text.now c.loop-place.place low (omega (arith, low, c.if-text-lt14.false)) (sym c.in_err-kinds.ensures)))
+returns-in_err-kinds c = search (rules, kinds_missed)
 
 pub loop-place-preserved : goal.loop-place-preserved
-loop-place-preserved c =
-    let low = c.loop-place-test.true in
-    let size = c.loop-place.invariant.1 in (
-      kinds_more _ _ _ _ (omega (arith, low, c.if-text-lt14.false)) (omega (arith, low, size)) (sym c.in_ok-kinds.ensures) c.loop-place.invariant.0,
-      length-set _ _ _ ∙ size,
-      omega (arith, low),
-    )
+loop-place-preserved c = search (rules, kinds_more, length-set)
 
 pub returns : goal.returns
 returns c =

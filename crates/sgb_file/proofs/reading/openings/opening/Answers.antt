@@ -1,4 +1,4 @@
-use Rattle.std.proofs.Common.{sym, ap, ◌∙◌, Some}
+use Rattle.std.proofs.Common.{rules, sym, ap, ◌∙◌, Some}
 use Rattle.sgb_file.proofs.LineLemmas.{no_bytes}
 use Rattle.sgb_file.proofs.Endings.{opens_here, opens_later, opens_not, opens_nothing}
 use Rattle.sgb_file.proofs.reading.openings.opening.Goals as goal
@@ -9,13 +9,10 @@ returns-in-Some-clause-head c =
     ∙ sym (opens_here c.loop-rest.rest.now _ _ _ c.first_line.ensures (sym c.head_of_line.ensures.head ∙ c.in-Some.is)) ∙ c.loop-rest.invariant
 
 pub returns-then-not-has_star-clause-head : goal.returns-then-not-has_star-clause-head
-returns-then-not-has_star-clause-head c =
-    sym (opens_not c.loop-rest.rest.now _ _ c.first_line.ensures (sym c.head_of_line.ensures.head ∙ c.in_default.is) (sym c.has_star.ensures ∙ c.if-not-has_star.true)) ∙ c.loop-rest.invariant
+returns-then-not-has_star-clause-head c = search (rules, opens_not)
 
 pub loop-rest-preserved : goal.loop-rest-preserved
-loop-rest-preserved c =
-    sym (opens_later c.loop-rest.rest.now _ _ c.first_line.ensures (sym c.head_of_line.ensures.head ∙ c.in_default.is) (sym c.has_star.ensures ∙ c.if-not-has_star.false)) ∙ c.loop-rest.invariant
+loop-rest-preserved c = search (rules, opens_later)
 
 pub returns-clause-head : goal.returns-clause-head
-returns-clause-head c =
-    sym (opens_nothing c.loop-rest.rest.now (no_bytes c.loop-rest.rest.now (sym c.is_empty.ensures ∙ c.loop-rest-test.false))) ∙ c.loop-rest.invariant
+returns-clause-head c = search (rules, no_bytes, opens_nothing)

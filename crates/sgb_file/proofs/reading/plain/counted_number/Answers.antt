@@ -1,4 +1,4 @@
-use Rattle.std.proofs.Common.{arith, ap, sym, ◌∙◌, ℕ, Some, drop, length, take}
+use Rattle.std.proofs.Common.{rules, arith, ap, sym, ◌∙◌, ℕ, Some, drop, length, take}
 use Rattle.std.specs.List.{take_while}
 use Rattle.std.specs.Str.Parse.{digits_value}
 use Rattle.std.proofs.lemmas.List.{take_min, take_rest}
@@ -10,19 +10,10 @@ use Rattle.sgb_file.proofs.PlainFields.{comma_free, ends_with_digits, no_number,
 use Rattle.sgb_file.proofs.reading.plain.counted_number.Goals as goal
 
 pub returns-then-len-eq0-clause-value : goal.returns-then-len-eq0-clause-value
-returns-then-len-eq0-clause-value c =
-    let text = c.args.text.now in
-    let same = ap (λ (k : ℕ). take k text) c.min.ensures ∙ take_min 18 text in
-    let len = c.first_digits-number.ensures.count ∙ ap (λ t. length (take_while is_decimal_digit t)) same in
-    sym (no_number 18 text (omega (arith, len, c.if-len-eq0.true)))
+returns-then-len-eq0-clause-value c = search (rules, is_decimal_digit, no_number, take_min)
 
 pub returns-then-not-is_at_end-clause-value : goal.returns-then-not-is_at_end-clause-value
-returns-then-not-is_at_end-clause-value c =
-    let text = c.args.text.now in
-    let same = ap (λ (k : ℕ). take k text) c.min.ensures ∙ take_min 18 text in
-    let len = c.first_digits-number.ensures.count ∙ ap (λ t. length (take_while is_decimal_digit t)) same in
-    let rest = ap is_at_end (take_rest text c.first_digits-number.result.1) ∙ ap (λ (k : ℕ). is_at_end (drop k text)) len in
-    sym (number_goes_on 18 text (sym rest ∙ (sym c.is_at_end.ensures ∙ c.if-not-is_at_end.true)))
+returns-then-not-is_at_end-clause-value c = search (rules, is_at_end, is_decimal_digit, number_goes_on, take_min, take_rest)
 
 pub returns : goal.returns
 returns c =

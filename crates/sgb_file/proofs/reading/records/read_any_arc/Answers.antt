@@ -1,4 +1,4 @@
-use Rattle.std.proofs.Common.{◌∙◌, Option, Err, subst, sym, rules}
+use Rattle.std.proofs.Common.{Option, Err, subst, sym, rules}
 use Rattle.std.proofs.lemmas.Result.{err_from_is_err_and}
 use Rattle.sgb_text.proofs.Findings.{Found}
 use Rattle.sgb_graph.specs.declared.fields.Kind.TheVariants.{Z}
@@ -15,5 +15,4 @@ returns-in_err-arc-clause-err c =
     rw (p.1, p.2) (subst (λ (o : Option (Found ArcRec)). IsFoundBy {X = ArcRec} o (Err c.in_err-arc.field-0.0) (text_left c.read_arc_fields.new.lines)) (sym steps) c.in_err-arc.ensures.found)
 
 pub returns-clause-ok : goal.returns-clause-ok
-returns-clause-ok c =
-    (c.in_ok-arc.arc, arc_steps c.args.head.now _ _ (text_left c.args.lines.now) (two_kinds c.args.head.now.kinds Z c.in_ok-arc.ensures.kinds) ∙ c.in_ok-arc.ensures.found, search rules)
+returns-clause-ok c = search (rules, arc_steps, text_left, two_kinds)

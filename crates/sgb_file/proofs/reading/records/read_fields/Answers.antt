@@ -1,9 +1,6 @@
-use Rattle.std.proofs.Common.{refl, sym, subst, ◌∙◌, Option, length-set, Err, rules, w64}
+use Rattle.std.proofs.Common.{refl, ◌∙◌, length-set, rules, w64}
 use Rattle.std.proofs.lemmas.Int.{to_z-of_z}
 use Rattle.std.proofs.lemmas.Result.{err_from_is_err_and}
-use Rattle.sgb_text.proofs.Findings.{Found}
-use Rattle.sgb_graph.specs.declared.fields.Util.{Util}
-use Rattle.sgb_file.specs.inner.Found.{IsFoundBy}
 use Rattle.sgb_file.specs.inner.LinesLeft.{text_left}
 use Rattle.sgb_file.proofs.FoundSteps.{end_read, end_stops, int_read, int_stops, none_read, one_read, one_stops, one_unused, used_at}
 use Rattle.sgb_file.proofs.reading.records.read_fields.Goals as goal
@@ -12,12 +9,7 @@ pub loop-place-init : goal.loop-place-init
 loop-place-init c = record { count = refl; read = none_read _ _ _; all = refl }
 
 pub loop-place-preserved-then-not-is_used : goal.loop-place-preserved-then-not-is_used
-loop-place-preserved-then-not-is_used c =
-    let so_far = c.loop-place.invariant in record {
-      count = so_far.count;
-      read = one_unused _ _ _ _ _ _ _ _ so_far.read c.requires so_far.count c.loop-place-test.true refl (sym c.is_used.ensures ∙ c.if-not-is_used.true);
-      all = so_far.all;
-    }
+loop-place-preserved-then-not-is_used c = search (rules, one_unused)
 
 pub returns-in_err-read_integer_after_comma-clause-found : goal.returns-in_err-read_integer_after_comma-clause-found
 returns-in_err-read_integer_after_comma-clause-found c =
@@ -38,31 +30,13 @@ loop-place-preserved-in-I c =
     }
 
 pub returns-in_err-fields-clause-found : goal.returns-in_err-fields-clause-found
-returns-in_err-fields-clause-found c =
-    let p = err_from_is_err_and c.from_residual-in_err-fields.result c.from_residual-in_err-fields.ensures.1 in
-    let e = c.in_err-fields.field-0.0 in
-    let after = text_left c.read_field_after_comma.new.lines in
-    let used = used_at c.args.counts.now _ (text_left c.loop-place.lines) (sym c.is_used.ensures ∙ c.if-not-is_used.false) in
-    rw (p.1, p.2) (one_stops _ _ _ _ _ _ after after _ _ e c.loop-place.invariant.read c.requires c.loop-place-test.true refl
-    (subst (λ (o : Option (Found Util)). IsFoundBy {X = Util} o (Err e) after) used c.in_err-fields.ensures.found))
+returns-in_err-fields-clause-found c = search (rules, err_from_is_err_and, one_stops, text_left, used_at)
 
 pub loop-place-preserved : goal.loop-place-preserved
-loop-place-preserved c =
-    let so_far = c.loop-place.invariant in
-    let used = used_at c.args.counts.now _ (text_left c.loop-place.lines) (sym c.is_used.ensures ∙ c.if-not-is_used.false) in record {
-      count = length-set _ _ _ ∙ so_far.count;
-      read = one_read _ _ _ _ _ _ _ _ _ _ so_far.read c.requires so_far.count c.loop-place-test.true refl (sym used ∙ c.in_ok-fields.ensures.found);
-      all = c.in_ok-fields.ensures.all ∙ so_far.all;
-    }
+loop-place-preserved c = search (rules, length-set, one_read, text_left, used_at)
 
 pub returns-in_err-end_record-clause-found : goal.returns-in_err-end_record-clause-found
-returns-in_err-end_record-clause-found c =
-    let p = err_from_is_err_and c.from_residual-in_err-end_record.result c.from_residual-in_err-end_record.ensures.1 in
-    let so_far = c.loop-place.invariant in
-    let after = text_left c.end_record.new.lines in
-    rw (p.1, p.2) (end_stops _ _ _ _ _ _ after after c.in_err-end_record.field-0.0 so_far.read c.requires so_far.count c.loop-place-test.false c.in_err-end_record.ensures.passed)
+returns-in_err-end_record-clause-found c = search (rules, end_stops, err_from_is_err_and, text_left)
 
 pub returns-clause-found : goal.returns-clause-found
-returns-clause-found c =
-    let so_far = c.loop-place.invariant in
-    end_read _ _ _ _ _ _ _ so_far.read c.requires so_far.count c.loop-place-test.false c.in_ok-end_record.ensures.passed
+returns-clause-found c = search (rules, end_read)

@@ -1,16 +1,11 @@
-use Rattle.std.proofs.Common.{rules, ap, ◌∙◌, ◌∷◌, [], w64}
+use Rattle.std.proofs.Common.{rules, w64}
 use Rattle.std.proofs.lemmas.Int.{to_z-of_z}
 use Rattle.sgb_file.specs.inner.Layouts.{checksum_from, counted_bytes}
 use Rattle.sgb_file.proofs.LineRecords.{plain_arc_read}
 use Rattle.sgb_file.proofs.reading.records.read_plain_arc.Goals as goal
 
 pub next_line_with-requires : goal.next_line_with-requires
-next_line_with-requires c =
-    let line = c.in_ok-line.line.now in (
-      line,
-      c.in_ok-line.ensures.whole,
-      c.in_ok-tip.ensures.sum ∙ ap (λ s. checksum_from s (counted_bytes (line ∷ []))) c.checksum.ensures,
-    )
+next_line_with-requires c = search (rules, checksum_from, counted_bytes)
 
 pub returns-clause-found : goal.returns-clause-found
 returns-clause-found c =

@@ -1,4 +1,4 @@
-use Rattle.std.proofs.Common.{sym, ap, subst, ◌∙◌, ◌<◌, Option, Err, arith}
+use Rattle.std.proofs.Common.{rules, sym, ap, subst, ◌∙◌, Option, Err, arith}
 use Rattle.std.proofs.lemmas.Result.{err_from_is_err_and}
 use Rattle.sgb_text.proofs.Findings.{Found}
 use Rattle.sgb_graph.specs.declared.fields.Vertex.{Vertex}
@@ -17,17 +17,7 @@ returns-in_err-read_vertex-clause-found c =
     (subst (λ (o : Option (Found Vertex)). IsFoundBy {X = Vertex} o (Err c.in_err-read_vertex.field-0.0) (text_left c.read_vertex.new.lines)) (sym (vertex_steps c.args.head.now (text_left c.loop-v.lines))) c.in_err-read_vertex.ensures.err))
 
 pub loop-v-preserved : goal.loop-v-preserved
-loop-v-preserved c =
-    let count = ap (λ h. h.counts.vertices) c.head-inside.view_is ∙ ap (λ h. h.counts.vertices) c.head.view_is in
-    let within : c.loop-v._v < c.args.head.now.counts.vertices = omega (arith, count, c.loop-v-test.true) in (
-      next_vertex c.args.head.now _ _ _ _ _ _ _
-          within c.in_ok-read_vertex.ensures.ok.1 c.in_ok-read_vertex.ensures.ok.2 ∙ c.loop-v.invariant.0,
-      c.in_ok-read_vertex.ensures.all ∙ c.loop-v.invariant.1,
-      omega (arith, within),
-    )
+loop-v-preserved c = search (rules, next_vertex)
 
 pub returns-clause-found : goal.returns-clause-found
-returns-clause-found c =
-    let count = ap (λ h. h.counts.vertices) c.head-inside.view_is ∙ ap (λ h. h.counts.vertices) c.head.view_is in
-    sym c.loop-v.invariant.0
-    ∙ vertices_read c.args.head.now _ _ _ (omega (arith, count, c.loop-v.invariant.2, c.loop-v-test.false))
+returns-clause-found c = search (rules, vertices_read)

@@ -1,4 +1,4 @@
-use Rattle.std.proofs.Common.{[], ◌∙◌, refl}
+use Rattle.std.proofs.Common.{rules, [], ◌∙◌}
 use Rattle.std.proofs.lemmas.Result.{err_from_is_err_and, IfErr-weaker, IfOk-weaker}
 use Rattle.sgb_file.specs.inner.LinesLeft.{text_left}
 use Rattle.sgb_file.proofs.FoundSteps.{passing_stopped}
@@ -6,10 +6,7 @@ use Rattle.sgb_file.proofs.StringReading.{opened, not_opened}
 use Rattle.sgb_file.proofs.reading.strings.first_part.Goals as goal
 
 pub returns-in_err-pass_byte-clause-none : goal.returns-in_err-pass_byte-clause-none
-returns-in_err-pass_byte-clause-none c =
-    let p = err_from_is_err_and c.from_residual.result c.from_residual.ensures.1 in
-    let stopped = passing_stopped _ _ _ c.in_err-pass_byte.ensures.passed in
-    rw (p.1, p.2, stopped.0) (refl, λ most h. not_opened most (text_left c.args.lines.now) stopped.1)
+returns-in_err-pass_byte-clause-none c = search (rules, err_from_is_err_and, not_opened, passing_stopped, text_left)
 
 pub returns-clause-part : goal.returns-clause-part
 returns-clause-part c =

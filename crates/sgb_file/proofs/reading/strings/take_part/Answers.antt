@@ -1,4 +1,4 @@
-use Rattle.std.proofs.Common.{sym, ◌∙◌, ◌+◌, arith, refl}
+use Rattle.std.proofs.Common.{rules, sym, ◌∙◌, ◌+◌, arith}
 use Rattle.sgb_file.specs.FileLines.{text_of_lines}
 use Rattle.sgb_file.proofs.LeftTexts.{under_way, skipped_left, begun_text}
 use Rattle.sgb_file.proofs.StringReading.{has_quote, no_quote, last_part, broken_part, ended_line}
@@ -13,11 +13,7 @@ returns-in-Some-place_of_quote-clause-part c =
     rw (c.skip.ensures, left, under_way s line c.in-Some.ensures.left) (last_part line _ c.in-Some-place_of_quote.end c.in-Some.ensures.one quote)
 
 pub returns-then-not-is_broken-clause-none : goal.returns-then-not-is_broken-clause-none
-returns-then-not-is_broken-clause-none c =
-    let s = c.args.lines.now in
-    let line = c.in-Some.line.now in
-    rw (under_way s line c.in-Some.ensures.left)
-    (refl, ended_line line (text_of_lines s.others) c.in-Some.ensures.one (no_quote line (sym c.in_default-place_of_quote.is ∙ c.place_of_quote.ensures)) (sym c.is_broken.ensures ∙ c.if-not-is_broken.true))
+returns-then-not-is_broken-clause-none c = search (rules, ended_line, no_quote, text_of_lines, under_way)
 
 pub returns-clause-part : goal.returns-clause-part
 returns-clause-part c =

@@ -1,4 +1,4 @@
-use Rattle.std.proofs.Common.{◌∙◌, ◌+◌, sym, ap, refl, drop, arith}
+use Rattle.std.proofs.Common.{rules, ◌∙◌, ◌+◌, sym, ap, refl, drop}
 use Rattle.std.proofs.lemmas.List.{drop_all}
 use Rattle.sgb_graph.specs.Columns.{util_seen}
 use Rattle.sgb_file.specs.inner.Layouts.{has_any}
@@ -24,5 +24,4 @@ loop-field-preserved c =
     c.loop-field.invariant ∙ (ap has_any (texts-from c.args.fields.now i field c.loop-field-test.true c.field-item.is) ∙ later)
 
 pub returns : goal.returns
-returns c =
-    sym (c.loop-field.invariant ∙ ap (λ fields. has_any (texts_of fields)) (drop_all c.loop-field.field-index c.args.fields.now (omega (arith, c.loop-field-test.false))))
+returns c = search (rules, drop_all, has_any, texts_of)

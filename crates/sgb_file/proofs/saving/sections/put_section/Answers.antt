@@ -1,4 +1,4 @@
-use Rattle.std.proofs.Common.{arith, ◌≤◌, refl}
+use Rattle.std.proofs.Common.{rules, refl}
 use Rattle.std.proofs.lemmas.Result.{err_from_is_err_and}
 use Rattle.sgb_file.proofs.LaidLines.{lines-all, lines-further, stopped-after}
 use Rattle.sgb_file.proofs.RecordLines.{title-cut, title-laid}
@@ -25,6 +25,4 @@ loop-k-preserved g c =
     (lines-further _ _ _ _ _ _ c.loop-k.invariant.0 c.in_ok-k.ensures.laid.0, c.in_ok-k.ensures.laid.1)
 
 pub returns : goal.returns
-returns g c =
-    let past : g.K.RecordKind.count c.args.graph.now ≤ c.loop-k.k = omega (arith, c.len.ensures, c.loop-k-test.false) in
-    (lines-all _ _ _ _ (g.met.K.RecordKind.end c.args.graph.now c.loop-k.k past) c.loop-k.invariant.0, c.loop-k.invariant.1)
+returns g c = search (rules, lines-all)

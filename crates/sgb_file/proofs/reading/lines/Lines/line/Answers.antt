@@ -1,4 +1,4 @@
-use Rattle.std.proofs.Common.{option_map, subst, ◌≡◌}
+use Rattle.std.proofs.Common.{rules, option_map}
 use Rattle.sgb_file.specs.inner.LinesLeft.{lines_of_text, text_left, lines_still}
 use Rattle.sgb_file.proofs.LinesLeftLemmas.{left_in_line, left_lines}
 use Rattle.sgb_file.proofs.reading.lines.Lines.line.Goals as goal
@@ -7,7 +7,4 @@ pub returns-clause-one : goal.returns-clause-one
 returns-clause-one c = left_in_line c.self.inside.all.now c.self.inside.line c.self.inside.begun.now c.self.inside.rest.now c.self.inside.sum c.self.invariant
 
 pub returns-clause-lines : goal.returns-clause-lines
-returns-clause-lines c =
-    let s = c.self.inside in
-    subst (λ left. lines_of_text (text_left left) ≡ lines_still left) c.self.view_is
-    (left_lines s.all.now (option_map (λ line. line.now) s.line) s.begun.now s.rest.now s.sum c.self.invariant)
+returns-clause-lines c = search (rules, left_lines, lines_of_text, lines_still, option_map, text_left)

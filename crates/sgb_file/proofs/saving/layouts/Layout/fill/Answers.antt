@@ -1,11 +1,10 @@
-use Rattle.std.proofs.Common.{◌+◌, ◌∙◌, ◌++◌, ap, arith, length, refl}
+use Rattle.std.proofs.Common.{rules, ◌+◌, ◌∙◌, ◌++◌, ap, arith, refl}
 use Rattle.std.proofs.lemmas.Result.{err_from_is_err_and}
 use Rattle.sgb_file.proofs.PlacedPieces.{filling-none, filling-more, filling-cut, filling-last}
 use Rattle.sgb_file.proofs.saving.layouts.Layout.fill.Goals as goal
 
 pub loop-rest-init : goal.loop-rest-init
-loop-rest-init g c =
-    filling-none _ _ (omega (arith, c.len.ensures.short, ap (λ l. length l.line) c.self.view_is))
+loop-rest-init g c = search (rules, filling-none)
 
 pub returns-in_err-fill_up : goal.returns-in_err-fill_up
 returns-in_err-fill_up g c =
