@@ -22,8 +22,8 @@ use Rattle.sgb_file.specs.inner.LinesLeft.{lines_of_text}
 use Rattle.sgb_file.specs.Checksum.{has_star, checksum_of_lines}
 use Rattle.sgb_file.specs.Fields.{most_number_digits}
 use Rattle.sgb_file.specs.inner.FieldValues.{is_decimal_digit, number_of}
-use Rattle.sgb_file.specs.inner.Heads.{Counts, Head, AreRecordLines, head_of, SaysHead, OpensWith}
-use Rattle.sgb_file.specs.Files.{IsComment, IsChecksumLine, AreMoreFields, IsRecordOf, IsArcRecord, AreRecordsOf, IsClosed}
+use Rattle.sgb_file.specs.inner.Heads.{Counts, Head, AreRecordLines, head_of, SaysHead, OpensWith, IsRecordAmong}
+use Rattle.sgb_file.specs.Files.{IsComment, IsChecksumLine, AreMoreFields, IsArcRecord, AreRecordsOf, IsClosed}
 use Rattle.sgb_file.specs.inner.ReadRecords.{records_at}
 use Rattle.sgb_file.specs.inner.ReadFiles.{Opening, leading_number, head_of_line, opening_of, checksum_in_line, checksum_agrees, line_closes, closes}
 use Rattle.sgb_file.proofs.LineLemmas.{is_one_line, is_within_line, lines_again, lines_read, clean_are_one_line}
@@ -151,7 +151,7 @@ more_end counts (kind ∷ kinds) us whole h =
     let c = h.5 in
     subst EndsLine (sym (h.3 ∙ ap (λ x. h.0 ++ x) c.3)) (ends_too h.0 (c.0 ++ c.1) (ends_too c.0 c.1 (more_end counts kinds c.5.0 c.1 c.5.1)))
 
-record_ends : (counts : Counts) (kind : Kind) (kinds : List Kind) (us : List Util) (whole : List ℕ) → IsRecordOf counts.vertices counts.arcs kind kinds whole us → EndsLine whole
+record_ends : (counts : Counts) (kind : Kind) (kinds : List Kind) (us : List Util) (whole : List ℕ) → IsRecordAmong counts kind kinds whole us → EndsLine whole
 record_ends counts kind kinds us whole h = subst EndsLine (sym h.3) (ends_too h.0 h.1 (more_end counts kinds h.5.0 h.1 h.5.1))
 
 records_end : {X : Type 0} (IsOne : List ℕ → X → Type 0) → ((x : X) (whole : List ℕ) → IsOne whole x → EndsLine whole)

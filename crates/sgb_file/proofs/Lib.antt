@@ -6,8 +6,9 @@ pub mod ChecksumLemmas
 pub mod FirstLines
 -- what a file's records say fits its kinds, and can be saved
 pub mod ReadParts
--- a field is read exactly of a text that says its value
+-- a text stands for a value exactly where it says it
 pub mod FieldWords
+-- a field is read exactly of a text that says its value
 pub mod FieldsAndTexts
 -- a record is read exactly of the texts of its fields
 pub mod RecordsAndTexts

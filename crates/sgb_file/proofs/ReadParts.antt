@@ -19,8 +19,8 @@ use Rattle.sgb_graph.specs.declared.fields.Util.{Util}
 use Rattle.sgb_graph.specs.declared.fields.Util.TheVariants.{Nothing}
 use Rattle.sgb_file.specs.FileLines.{text_of_lines}
 use Rattle.sgb_file.specs.Fields.{most_number_digits}
-use Rattle.sgb_file.specs.inner.Heads.{Counts, Head, head_of, SaysHead, IsGraphAfter}
-use Rattle.sgb_file.specs.Files.{IsFieldText, AreMoreFields, IsRecordOf, IsVertexRecord, IsArcRecord, AreRecordsOf}
+use Rattle.sgb_file.specs.inner.Heads.{Counts, Head, head_of, SaysHead, IsGraphAfter, IsRecordAmong}
+use Rattle.sgb_file.specs.Files.{IsFieldText, AreMoreFields, IsVertexRecord, IsArcRecord, AreRecordsOf}
 use Rattle.sgb_text.specs.Languages.{Each}
 use Rattle.sgb_file.specs.inner.ReadRecords.{records_at}
 use Rattle.sgb_file.specs.inner.ReadFiles.{Opening, opening_of, graph_of_records, graph_of_text}
@@ -60,7 +60,7 @@ fields_fit counts (kind ∷ kinds) us whole h =
     let c = h.5 in
     subst (FieldsFit counts (kind ∷ kinds)) (sym c.5.2) (one_more_fits counts kind kinds c.2 c.5.0 (field_fits counts kind c.2 c.0 c.4) (fields_fit counts kinds c.5.0 c.1 c.5.1))
 
-record_fits_kinds : (counts : Counts) (kind : Kind) (kinds : List Kind) (us : List Util) (whole : List ℕ) → IsRecordOf counts.vertices counts.arcs kind kinds whole us → FieldsFit counts (kind ∷ kinds) us
+record_fits_kinds : (counts : Counts) (kind : Kind) (kinds : List Kind) (us : List Util) (whole : List ℕ) → IsRecordAmong counts kind kinds whole us → FieldsFit counts (kind ∷ kinds) us
 record_fits_kinds counts kind kinds us whole h =
     subst (FieldsFit counts (kind ∷ kinds)) (sym h.5.2) (one_more_fits counts kind kinds h.2 h.5.0 (field_fits counts kind h.2 h.0 h.4) (fields_fit counts kinds h.5.0 h.1 h.5.1))
 

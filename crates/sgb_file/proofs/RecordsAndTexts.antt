@@ -18,9 +18,9 @@ use Rattle.sgb_graph.specs.declared.fields.Vertex.{Vertex}
 use Rattle.sgb_graph.specs.declared.fields.ArcRec.{ArcRec}
 use Rattle.sgb_file.specs.Fields.{most_number_digits, IsStringText, IsNumberText}
 use Rattle.sgb_file.specs.inner.FieldValues.{number_of}
-use Rattle.sgb_file.specs.inner.Heads.{Counts, Head, head_of, IsVertexAfter, IsArcAfter, IsGraphAfter}
+use Rattle.sgb_file.specs.inner.Heads.{Counts, Head, head_of, IsVertexAfter, IsArcAfter, IsGraphAfter, IsRecordAmong}
 use Rattle.sgb_file.specs.inner.ReadFields.{plain_at}
-use Rattle.sgb_file.specs.Files.{IsComma, AreMoreFields, IsRecordOf, IsGraphRecord, AreRecordsOf}
+use Rattle.sgb_file.specs.Files.{IsComma, AreMoreFields, IsGraphRecord, AreRecordsOf}
 use Rattle.sgb_file.specs.inner.ReadRecords.{after_comma, more_fields_at, record_at, graph_record_at, vertex_of_fields, vertex_record_at, arc_of_fields, arc_record_at, records_at}
 use Rattle.sgb_file.proofs.FieldReading.{Ends}
 use Rattle.sgb_file.proofs.SavedGraphs.{fields_of_vertex, fields_of_arc}
@@ -60,9 +60,9 @@ finds_more counts (kind ∷ kinds) = finds_then _ finds_comma (λ none. finds_co
 -- a record of fields is read, and what is made of them
 finds_record : {X : Type 0} (counts : Counts) (kind : Kind) (kinds : List Kind) → (kind ≡ Z → ⊥) → (make : List Util → Option X) (fields_of : X → List Util)
     → ((us : List Util) (x : X) → make us ≡ Some x → us ≡ fields_of x) → ((x : X) → make (fields_of x) ≡ Some x)
-    → Finds found_with Anything Anything (λ whole x. IsRecordOf counts.vertices counts.arcs kind kinds whole (fields_of x)) (λ text. given (record_at counts kind kinds text) (λ fields. option_map (λ x. record { value = x; rest = fields.rest }) (make fields.value)))
+    → Finds found_with Anything Anything (λ whole x. IsRecordAmong counts kind kinds whole (fields_of x)) (λ text. given (record_at counts kind kinds text) (λ fields. option_map (λ x. record { value = x; rest = fields.rest }) (make fields.value)))
 finds_record counts kind kinds used make fields_of are made =
-    finds_is (λ text h. tt) (λ whole x h. subst (λ us. IsRecordOf counts.vertices counts.arcs kind kinds whole us) (are h.0 x h.2) h.1) (λ whole x h. (fields_of x, h, made x))
+    finds_is (λ text h. tt) (λ whole x h. subst (λ us. IsRecordAmong counts kind kinds whole us) (are h.0 x h.2) h.1) (λ whole x h. (fields_of x, h, made x))
     (finds_from make found_with _ (λ us rest. refl) (finds_cons (finds_field counts kind used) (finds_more counts kinds)))
 
 -- vertices

@@ -16,9 +16,9 @@ use Rattle.sgb_graph.specs.declared.fields.Util.TheVariants.{Nothing, Int, Verte
 use Rattle.sgb_file.specs.FileLines.{text_of_lines}
 use Rattle.sgb_file.specs.Fields.{most_number_digits}
 use Rattle.sgb_file.specs.inner.FieldValues.{number_of, integer_of, ref_of, record_number_of}
-use Rattle.sgb_file.specs.inner.Heads.{Counts, head_of}
+use Rattle.sgb_file.specs.inner.Heads.{Counts, head_of, IsRecordAmong}
 use Rattle.sgb_text.specs.Languages.{Each}
-use Rattle.sgb_file.specs.Files.{IsFieldText, IsComma, AreMoreFields, IsRecordOf, IsGraphRecord}
+use Rattle.sgb_file.specs.Files.{IsFieldText, IsComma, AreMoreFields, IsGraphRecord}
 use Rattle.sgb_file.specs.Saving.{quoted, ref_text, record_number_text, field_texts, pieces_of, record_lines}
 use Rattle.sgb_file.specs.inner.SavedLines.{graph_texts}
 use Rattle.sgb_file.specs.Saved.{ValueCanBeSaved}
@@ -112,12 +112,12 @@ more_written counts small _ _ fits h tail laid = absurd cc
 
 -- the record of fields, a vertex's or an arc's, and the graph's
 pub fields_stand : (counts : Counts) → AreSmall counts → (kind : Kind) (kinds : List Kind) (u : Util) (us : List Util) → (kind ≡ Z → ⊥) → FieldsFit counts (kind ∷ kinds) (u ∷ us)
-    → IsRecordOf counts.vertices counts.arcs kind kinds (text_of_lines (record_lines (flat_map field_texts (u ∷ us)))) (u ∷ us)
+    → IsRecordAmong counts kind kinds (text_of_lines (record_lines (flat_map field_texts (u ∷ us)))) (u ∷ us)
 fields_stand counts small kind kinds u us used h =
     let parts = and_parts (util_fits counts.vertices counts.arcs kind u) (utils_fit counts.vertices counts.arcs kinds us) h.fits in
     let field = field_of counts small kind u used parts.0 (All-head ValueCanBeSaved u us h.values) in
     let w = record_written field.text (flat_map field_texts us) in
-    subst (λ texts. IsRecordOf counts.vertices counts.arcs kind kinds (text_of_lines (record_lines (texts ++ flat_map field_texts us))) (u ∷ us)) (sym field.texts)
+    subst (λ texts. IsRecordAmong counts kind kinds (text_of_lines (record_lines (texts ++ flat_map field_texts us))) (u ∷ us)) (sym field.texts)
     (w.0, w.1, u, w.4, field.says w.0 w.2, (us, more_written counts small kinds us parts.1 (All-tail ValueCanBeSaved u us h.values) w.1 w.3, refl))
 
 pub graph_written : (g : GraphData) → IsReady g → IsGraphRecord g (text_of_lines (record_lines (graph_texts g)))

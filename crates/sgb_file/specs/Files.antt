@@ -35,20 +35,18 @@ AreMoreFields n m [] = Fixed [] (codes "\n")
 AreMoreFields n m (Z ∷ kinds) = As (λ values. Nothing ∷ values) (AreMoreFields n m kinds)
 AreMoreFields n m (kind ∷ kinds) = Then IsComma (λ none. Cons (IsFieldText n m kind) (AreMoreFields n m kinds))
 
--- a record: the texts of a field of this kind and of more fields
-abbrev pub IsRecordOf : ℕ → ℕ → Kind → List Kind → List ℕ → List Util → Type 0
-IsRecordOf n m kind kinds = Cons (IsFieldText n m kind) (AreMoreFields n m kinds)
+-- a record in the file of a graph: the texts of a field of this kind and of more fields
+abbrev pub IsRecordOf : GraphData → Kind → List Kind → List ℕ → List Util → Type 0
+IsRecordOf g kind kinds =
+    Cons (IsFieldText (length g.vertices) (length g.records) kind) (AreMoreFields (length g.vertices) (length g.records) kinds)
 
--- the record of a graph's vertex: its name, its first arc record, its utility fields
+-- the record of a vertex: its name, its first arc record, its utility fields
 abbrev pub IsVertexRecord : GraphData → List ℕ → Vertex → Type 0
-IsVertexRecord g text v =
-    IsRecordOf (length g.vertices) (length g.records) S (A ∷ vertex_kinds g.kinds) text (Str v.name ∷ Chain v.arcs ∷ v.util)
+IsVertexRecord g text v = IsRecordOf g S (A ∷ vertex_kinds g.kinds) text (Str v.name ∷ Chain v.arcs ∷ v.util)
 
 -- the record of an arc: its tip, the next arc record, its length, its utility fields
 abbrev pub IsArcRecord : GraphData → List ℕ → ArcRec → Type 0
-IsArcRecord g text r =
-    IsRecordOf (length g.vertices) (length g.records) V (A ∷ I ∷ arc_kinds g.kinds) text
-    (VertexField r.tip ∷ Chain r.next ∷ Int r.len ∷ r.a ∷ r.b ∷ [])
+IsArcRecord g text r = IsRecordOf g V (A ∷ I ∷ arc_kinds g.kinds) text (VertexField r.tip ∷ Chain r.next ∷ Int r.len ∷ r.a ∷ r.b ∷ [])
 
 -- the record of a graph: its id, the numbers of its vertices and of its arcs, its utility fields
 abbrev pub IsGraphRecord : GraphData → List ℕ → Type 0

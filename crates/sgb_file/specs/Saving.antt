@@ -81,8 +81,8 @@ abbrev pub middle_lines : GraphData → List (List ℕ)
 middle_lines g =
     record_lines (quoted g.id ∷ decimal (length g.vertices) ∷ decimal g.m ∷ flat_map field_texts g.util)
     ++ codes "* Vertices" ∷ flat_map (λ v. record_lines (quoted v.name ∷ record_number_text v.arcs ∷ flat_map field_texts v.util)) g.vertices
-    ++ codes "* Arcs" ∷ flat_map (λ r. record_lines (
-    ref_text r.tip ∷ record_number_text r.next ∷ signed_decimal r.len ∷ flat_map field_texts (r.a ∷ r.b ∷ []))) g.records
+    ++ codes "* Arcs" ∷ flat_map (λ r. record_lines (ref_text r.tip ∷ record_number_text r.next ∷ signed_decimal r.len
+    ∷ flat_map field_texts (r.a ∷ r.b ∷ []))) g.records
 
 -- the text of a graph: a line with its kinds and numbers, those of its records, and a line with their checksum
 abbrev pub text_of_graph : GraphData → List ℕ

@@ -1,7 +1,7 @@
 -- What a file's first line says, and what stands after one with what it says [GB_SAVE, restore_graph].
 use Rattle.std.specs.Prelude.{◌≡◌, ℕ, List, [], ◌∷◌, ◌++◌, length, slice_index, IsFalse}
 use Rattle.std.specs.Char.{is_ascii_digit}
-use Rattle.sgb_text.specs.Languages.{As, Then}
+use Rattle.sgb_text.specs.Languages.{As, Cons, Then}
 use Rattle.sgb_graph.specs.Graphs.{GraphData}
 use Rattle.sgb_graph.specs.Ids.{most_id_bytes}
 use Rattle.sgb_graph.specs.Sound.{vertex_kinds, arc_kinds, graph_kinds}
@@ -13,7 +13,7 @@ use Rattle.sgb_graph.specs.declared.fields.Vertex.{Vertex}
 use Rattle.sgb_graph.specs.declared.fields.ArcRec.{ArcRec}
 use Rattle.sgb_file.specs.FileLines.{text_of_lines}
 use Rattle.sgb_file.specs.Fields.{IsNumberText, IsStringText}
-use Rattle.sgb_file.specs.Files.{AreMoreFields, AreRecordsOf, IsComma, IsFirstLine, IsRecordOf, Opens}
+use Rattle.sgb_file.specs.Files.{AreMoreFields, AreRecordsOf, IsComma, IsFieldText, IsFirstLine, Opens}
 
 -- how many vertices and arc records a file has
 pub record Counts : Type 0 where
@@ -37,14 +37,17 @@ SaysHead head line = IsFirstLine head.kinds head.counts.vertices head.counts.arc
 abbrev pub OpensWith : List ℕ → Head → List (List ℕ) → Type 0
 OpensWith text head lines = Opens text head.kinds head.counts.vertices head.counts.arcs lines
 
+-- a record in a file with so many vertices and arc records
+abbrev pub IsRecordAmong : Counts → Kind → List Kind → List ℕ → List Util → Type 0
+IsRecordAmong counts kind kinds = Cons (IsFieldText counts.vertices counts.arcs kind) (AreMoreFields counts.vertices counts.arcs kinds)
+
 -- the records of vertices, of arcs and of a graph after a first line that says this
 abbrev pub IsVertexAfter : Head → List ℕ → Vertex → Type 0
-IsVertexAfter head text v =
-    IsRecordOf head.counts.vertices head.counts.arcs S (A ∷ vertex_kinds head.kinds) text (Str v.name ∷ Chain v.arcs ∷ v.util)
+IsVertexAfter head text v = IsRecordAmong head.counts S (A ∷ vertex_kinds head.kinds) text (Str v.name ∷ Chain v.arcs ∷ v.util)
 
 abbrev pub IsArcAfter : Head → List ℕ → ArcRec → Type 0
 IsArcAfter head text r =
-    IsRecordOf head.counts.vertices head.counts.arcs V (A ∷ I ∷ arc_kinds head.kinds) text
+    IsRecordAmong head.counts V (A ∷ I ∷ arc_kinds head.kinds) text
     (VertexField r.tip ∷ Chain r.next ∷ Int r.len ∷ r.a ∷ r.b ∷ [])
 
 abbrev pub IsGraphAfter : Head → List ℕ → GraphData → Type 0

@@ -5,4 +5,4 @@ use Rattle.sgb_file.proofs.ChecksumLemmas.{few_counted}
 use Rattle.sgb_file.proofs.checksums.checksum_after.Goals as goal
 
 pub returns : goal.returns
-returns c = search (rules, few_counted, checksum_prime, value_from)
+returns c = search (rules, checksum_prime, few_counted, value_from)

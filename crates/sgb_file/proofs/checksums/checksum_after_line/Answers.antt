@@ -6,4 +6,4 @@ pub returns-then-has_star : goal.returns-then-has_star
 returns-then-has_star c = sym (checksum-starred c.args.sum c.args.line.now (sym c.has_star.ensures ∙ c.if-has_star.true))
 
 pub returns : goal.returns
-returns c = search (rules, checksum_from-append, checksum-counted)
+returns c = search (rules, checksum-counted, checksum_from-append)

@@ -14,4 +14,4 @@ pub loop-rest-init : goal.loop-rest-init
 loop-rest-init c = (refl, c.ranges.sum.fits, λ some. some)
 
 pub loop-rest-preserved : goal.loop-rest-preserved
-loop-rest-preserved c = search (rules, length-take, checksum_prime, value_from, few_counted, mod_below, checksum_from-append, checksum_from, take-append-drop, length-drop)
+loop-rest-preserved c = search (rules, checksum_from, checksum_from-append, checksum_prime, few_counted, length-drop, length-take, mod_below, take-append-drop, value_from)

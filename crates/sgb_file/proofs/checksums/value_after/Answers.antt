@@ -12,4 +12,4 @@ pub loop-byte-preserved : goal.loop-byte-preserved
 loop-byte-preserved c = search (rules, byte_valued)
 
 pub returns : goal.returns
-returns c = search (rules, value_from, take_all)
+returns c = search (rules, take_all, value_from)

@@ -5,4 +5,4 @@ use Rattle.sgb_file.proofs.checksums.value_with_newline.Goals as goal
 
 pub returns : goal.returns
 unfolding value_from
-returns c = search (rules, value_after, value_from, fold-append)
+returns c = search (rules, fold-append, value_after, value_from)

@@ -4,4 +4,4 @@ use Rattle.sgb_file.proofs.LayoutLemmas.{laid_out_are_short, short_lines, broken
 use Rattle.sgb_file.proofs.laws.line_bytes_law.Goals as goal
 
 pub returns : goal.returns
-returns c = search (rules, short_lines, record_lines, laid_out_are_short, pieces_of, broken_further)
+returns c = search (rules, broken_further, laid_out_are_short, pieces_of, record_lines, short_lines)

@@ -9,7 +9,7 @@ pub returns-in_default-clause-read : goal.returns-in_default-clause-read
 returns-in_default-clause-read c = restored_value c.args.bytes.now (Err Early) (inl (ap graph_of_opening (sym c.in_default.ensures.head)))
 
 pub returns-in_err-parts-clause-read : goal.returns-in_err-parts-clause-read
-returns-in_err-parts-clause-read c = search (rules, restored_value, graph_unread)
+returns-in_err-parts-clause-read c = search (rules, graph_unread, restored_value)
 
 pub returns-then-not-closes-clause-read : goal.returns-then-not-closes-clause-read
 returns-then-not-closes-clause-read c =

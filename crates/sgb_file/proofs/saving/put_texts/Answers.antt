@@ -1,4 +1,4 @@
-use Rattle.std.proofs.Common.{ℕ, List, Bor, ap, arith, ◌∙◌, refl}
+use Rattle.std.proofs.Common.{rules, ℕ, List, Bor, ◌∙◌, refl}
 use Rattle.std.proofs.lemmas.List.{at_drop_more, drop_all}
 use Rattle.std.proofs.lemmas.Result.{err_from_is_err_and}
 use Rattle.std.specs.List.{flat_map}
@@ -20,9 +20,7 @@ loop-text-preserved g c =
     (so_far-more _ _ _ _ _ _ _ first c.loop-text.invariant.0 c.in_ok-put_all.ensures.put, c.in_ok-put_all.ensures.sound ∙ c.loop-text.invariant.1)
 
 pub returns-clause-put : goal.returns-clause-put
-returns-clause-put g c =
-    let none = ap (flat_map (λ (text : Bor (List ℕ)). text.now)) (drop_all c.loop-text.text-index c.args.texts.now (omega (arith, c.loop-text-test.false))) in
-    so_far-all _ _ _ _ none c.loop-text.invariant.0
+returns-clause-put g c = search (rules, drop_all, so_far-all)
 
 pub returns-clause-sound : goal.returns-clause-sound
 returns-clause-sound g c = c.loop-text.invariant.1

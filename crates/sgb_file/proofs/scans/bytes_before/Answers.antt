@@ -17,4 +17,4 @@ loop-rest-preserved c =
     rw (take_rest rest 16) (omega (arith, later, c.loop-rest.invariant.0), omega (arith, length-drop 16 rest, c.loop-rest-test.true, c.loop-rest.invariant.1))
 
 pub returns : goal.returns
-returns c = search (rules, unwrap_or, position-unwrapped)
+returns c = search (rules, position-unwrapped, unwrap_or)

@@ -1,5 +1,4 @@
 use Rattle.std.proofs.Common.{rules}
-use Rattle.sgb_file.specs.Saved.{ValueCanBeSaved}
 use Rattle.sgb_file.proofs.SavedGraphs.{six_fields}
 use Rattle.sgb_file.proofs.laws.saved_graphs.graphs_can_be_saved.Goals as goal
 
@@ -7,4 +6,4 @@ pub graph_fields-requires : goal.graph_fields-requires
 graph_fields-requires c = search (rules, six_fields)
 
 pub returns : goal.returns
-returns c = search (rules, ValueCanBeSaved)
+returns c = search rules

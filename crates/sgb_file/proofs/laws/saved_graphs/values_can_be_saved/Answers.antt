@@ -15,7 +15,7 @@ pub loop-value-init : goal.loop-value-init
 loop-value-init c = none_hold SeenCanBeSaved c.args.values.now
 
 pub loop-value-preserved : goal.loop-value-preserved
-loop-value-preserved c = search (rules, more_hold, SeenCanBeSaved, slice_get-get_or)
+loop-value-preserved c = search (rules, more_hold, slice_get-get_or)
 
 pub returns : goal.returns
 returns c =

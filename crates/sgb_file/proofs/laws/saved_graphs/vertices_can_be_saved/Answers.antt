@@ -1,4 +1,4 @@
-use Rattle.std.proofs.Common.{arith}
+use Rattle.std.proofs.Common.{rules, arith}
 use Rattle.sgb_graph.specs.Columns.{vertex_seen}
 use Rattle.sgb_file.specs.Saved.{VertexCanBeSaved}
 use Rattle.sgb_file.proofs.SavedGraphs.{none_hold, more_hold, all_hold}
@@ -8,8 +8,7 @@ pub loop-v-init : goal.loop-v-init
 loop-v-init c = none_hold VertexCanBeSaved c.args.graph.now.vertices
 
 pub loop-v-preserved : goal.loop-v-preserved
-loop-v-preserved c =
-    more_hold VertexCanBeSaved c.args.graph.now.vertices c.loop-v.v (vertex_seen c.vertex.result) c.loop-v.invariant c.vertex.ensures c.vertex_can_be_saved.ensures
+loop-v-preserved c = search (rules, more_hold, vertex_seen)
 
 pub returns : goal.returns
 returns c = all_hold VertexCanBeSaved c.args.graph.now.vertices _ (omega arith) c.loop-v.invariant

@@ -7,4 +7,4 @@ pub returns-in_default : goal.returns-in_default
 returns-in_default c = closes_none c.args.lines.now c.line.ensures.lines (sym c.line.ensures.left ∙ ap (λ line. option_map (λ l. l.now) line) c.in_default.is)
 
 pub returns : goal.returns
-returns c = search (rules, closes_by, option_map, lines_passed)
+returns c = search (rules, closes_by, lines_passed, option_map)

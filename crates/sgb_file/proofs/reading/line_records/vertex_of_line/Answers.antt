@@ -8,7 +8,7 @@ pub slice_bounds-checksum_after-count : goal.slice_bounds-checksum_after-count
 slice_bounds-checksum_after-count c = search (rules, named_parts)
 
 pub checksum_after-before-requires : goal.checksum_after-before-requires
-checksum_after-before-requires c = search (rules, named_parts, length-take)
+checksum_after-before-requires c = search (rules, length-take, named_parts)
 
 pub fields_of_line-requires : goal.fields_of_line-requires
 fields_of_line-requires c = rest_is_line c.args.line.now c.in_ok-name.name.now c.in_ok-name.rest.now c.requires c.in_ok-name.ensures

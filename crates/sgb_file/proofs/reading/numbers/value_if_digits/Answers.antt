@@ -4,10 +4,10 @@ use Rattle.sgb_file.proofs.NumberReading.{goes_on, ends_as_digits}
 use Rattle.sgb_file.proofs.reading.numbers.value_if_digits.Goals as goal
 
 pub overflow_mul-value : goal.overflow_mul-value
-overflow_mul-value c = search (rules, goes_on, common_steps)
+overflow_mul-value c = search (rules, common_steps, goes_on)
 
 pub overflow_add-value : goal.overflow_add-value
-overflow_add-value c = search (rules, goes_on, common_steps)
+overflow_add-value c = search (rules, common_steps, goes_on)
 
 pub loop-byte-preserved : goal.loop-byte-preserved
 loop-byte-preserved c = search (rules, goes_on)

@@ -9,7 +9,7 @@ overflow_mul-value c =
     grind (arith, common_steps, n.more, n.fits)
 
 pub overflow_add-value : goal.overflow_add-value
-overflow_add-value c = search (rules, next_digit, common_steps)
+overflow_add-value c = search (rules, common_steps, next_digit)
 
 pub loop-digit-preserved : goal.loop-digit-preserved
-loop-digit-preserved c = search (rules, next_digit, common_steps)
+loop-digit-preserved c = search (rules, common_steps, next_digit)

@@ -15,4 +15,4 @@ pub loop-rest-preserved : goal.loop-rest-preserved
 loop-rest-preserved c = search (rules, opens_later)
 
 pub returns-clause-head : goal.returns-clause-head
-returns-clause-head c = search (rules, opens_nothing, no_bytes)
+returns-clause-head c = search (rules, no_bytes, opens_nothing)

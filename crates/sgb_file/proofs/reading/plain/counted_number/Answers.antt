@@ -10,10 +10,10 @@ use Rattle.sgb_file.proofs.PlainFields.{comma_free, ends_with_digits, no_number,
 use Rattle.sgb_file.proofs.reading.plain.counted_number.Goals as goal
 
 pub returns-then-len-eq0-clause-value : goal.returns-then-len-eq0-clause-value
-returns-then-len-eq0-clause-value c = search (rules, take_min, take_while, is_decimal_digit, no_number)
+returns-then-len-eq0-clause-value c = search (rules, is_decimal_digit, no_number, take_min)
 
 pub returns-then-not-is_at_end-clause-value : goal.returns-then-not-is_at_end-clause-value
-returns-then-not-is_at_end-clause-value c = search (rules, take_min, take_while, is_decimal_digit, is_at_end, take_rest, number_goes_on)
+returns-then-not-is_at_end-clause-value c = search (rules, is_at_end, is_decimal_digit, number_goes_on, take_min, take_rest)
 
 pub returns : goal.returns
 returns c =

@@ -1,7 +1,5 @@
 use Rattle.std.proofs.Common.{rules, refl}
-use Rattle.std.specs.List.{list_all}
 use Rattle.sgb_file.specs.inner.FieldValues.{is_decimal_digit}
-use Rattle.std.specs.Str.Parse.{digits_value}
 use Rattle.std.proofs.lemmas.Grind.{common_steps}
 use Rattle.std.proofs.lemmas.List.{length-take, take_all}
 use Rattle.sgb_file.specs.inner.Layouts.{value_from}
@@ -11,19 +9,19 @@ use Rattle.sgb_file.proofs.PlainFields.{digits_all, digits_until, no_digit_count
 use Rattle.sgb_file.proofs.reading.plain.first_digits.Goals as goal
 
 pub returns-then-digit-gt9 : goal.returns-then-digit-gt9
-returns-then-digit-gt9 c = search (rules, no_digit_counts, digits_until, digits_value, length-take, value_from)
+returns-then-digit-gt9 c = search (rules, digits_until, length-take, no_digit_counts, value_from)
 
 pub overflow_mul-number : goal.overflow_mul-number
-overflow_mul-number c = search (rules, counts_on, common_steps)
+overflow_mul-number c = search (rules, common_steps, counts_on)
 
 pub overflow_add-number : goal.overflow_add-number
-overflow_add-number c = search (rules, counts_on, common_steps)
+overflow_add-number c = search (rules, common_steps, counts_on)
 
 pub loop-place-preserved : goal.loop-place-preserved
 loop-place-preserved c = search (rules, counts_on, digit_valued)
 
 pub returns : goal.returns
-returns c = search (rules, take_all, digits_all, list_all, is_decimal_digit, digits_value, value_from)
+returns c = search (rules, digits_all, is_decimal_digit, take_all, value_from)
 
 pub loop-place-init : goal.loop-place-init
 unfolding value_from

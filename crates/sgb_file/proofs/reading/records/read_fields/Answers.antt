@@ -1,8 +1,6 @@
-use Rattle.std.proofs.Common.{refl, ◌∙◌, Option, length-set, rules, w64}
+use Rattle.std.proofs.Common.{refl, ◌∙◌, length-set, rules, w64}
 use Rattle.std.proofs.lemmas.Int.{to_z-of_z}
 use Rattle.std.proofs.lemmas.Result.{err_from_is_err_and}
-use Rattle.sgb_text.proofs.Findings.{Found}
-use Rattle.sgb_file.specs.inner.Found.{IsFoundBy}
 use Rattle.sgb_file.specs.inner.LinesLeft.{text_left}
 use Rattle.sgb_file.proofs.FoundSteps.{end_read, end_stops, int_read, int_stops, none_read, one_read, one_stops, one_unused, used_at}
 use Rattle.sgb_file.proofs.reading.records.read_fields.Goals as goal
@@ -32,13 +30,13 @@ loop-place-preserved-in-I c =
     }
 
 pub returns-in_err-fields-clause-found : goal.returns-in_err-fields-clause-found
-returns-in_err-fields-clause-found c = search (rules, err_from_is_err_and, text_left, used_at, one_stops, Option, Found, IsFoundBy)
+returns-in_err-fields-clause-found c = search (rules, err_from_is_err_and, one_stops, text_left, used_at)
 
 pub loop-place-preserved : goal.loop-place-preserved
-loop-place-preserved c = search (rules, used_at, text_left, length-set, one_read)
+loop-place-preserved c = search (rules, length-set, one_read, text_left, used_at)
 
 pub returns-in_err-end_record-clause-found : goal.returns-in_err-end_record-clause-found
-returns-in_err-end_record-clause-found c = search (rules, err_from_is_err_and, text_left, end_stops)
+returns-in_err-end_record-clause-found c = search (rules, end_stops, err_from_is_err_and, text_left)
 
 pub returns-clause-found : goal.returns-clause-found
 returns-clause-found c = search (rules, end_read)

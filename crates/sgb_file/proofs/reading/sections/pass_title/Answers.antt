@@ -8,4 +8,4 @@ pub returns-then-ne-clause-passed : goal.returns-then-ne-clause-passed
 returns-then-ne-clause-passed c = search (rules, option_map, title_missed)
 
 pub returns-clause-passed : goal.returns-clause-passed
-returns-clause-passed c = search (rules, option_map, text_left, next_begun, next_left, title_passed)
+returns-clause-passed c = search (rules, next_begun, next_left, option_map, text_left, title_passed)

@@ -6,7 +6,7 @@ use Rattle.sgb_file.proofs.StringReading.{opened, not_opened}
 use Rattle.sgb_file.proofs.reading.strings.first_part.Goals as goal
 
 pub returns-in_err-pass_byte-clause-none : goal.returns-in_err-pass_byte-clause-none
-returns-in_err-pass_byte-clause-none c = search (rules, err_from_is_err_and, passing_stopped, not_opened, text_left)
+returns-in_err-pass_byte-clause-none c = search (rules, err_from_is_err_and, not_opened, passing_stopped, text_left)
 
 pub returns-clause-part : goal.returns-clause-part
 returns-clause-part c =

@@ -5,4 +5,4 @@ use Rattle.sgb_file.proofs.StringReading.{id_found}
 use Rattle.sgb_file.proofs.reading.strings.read_id.Goals as goal
 
 pub returns-then-first-clause-found : goal.returns-then-first-clause-found
-returns-then-first-clause-found c = search (rules, most_id_bytes, id_found, text_left)
+returns-then-first-clause-found c = search (rules, id_found, most_id_bytes, text_left)

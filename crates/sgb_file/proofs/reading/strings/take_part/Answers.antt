@@ -13,7 +13,7 @@ returns-in-Some-place_of_quote-clause-part c =
     rw (c.skip.ensures, left, under_way s line c.in-Some.ensures.left) (last_part line _ c.in-Some-place_of_quote.end c.in-Some.ensures.one quote)
 
 pub returns-then-not-is_broken-clause-none : goal.returns-then-not-is_broken-clause-none
-returns-then-not-is_broken-clause-none c = search (rules, under_way, ended_line, text_of_lines, no_quote)
+returns-then-not-is_broken-clause-none c = search (rules, ended_line, no_quote, text_of_lines, under_way)
 
 pub returns-clause-part : goal.returns-clause-part
 returns-clause-part c =

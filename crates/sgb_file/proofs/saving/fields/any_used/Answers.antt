@@ -24,4 +24,4 @@ loop-field-preserved c =
     c.loop-field.invariant ∙ (ap has_any (texts-from c.args.fields.now i field c.loop-field-test.true c.field-item.is) ∙ later)
 
 pub returns : goal.returns
-returns c = search (rules, has_any, texts_of, drop_all)
+returns c = search (rules, drop_all, has_any, texts_of)

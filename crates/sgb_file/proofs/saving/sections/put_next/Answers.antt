@@ -1,6 +1,5 @@
 use Rattle.std.proofs.Common.{rules, [], ◌∙◌, ap}
 use Rattle.std.proofs.lemmas.Result.{err_from_is_err_and}
-use Rattle.sgb_file.specs.inner.Layouts.{LayoutState}
 use Rattle.sgb_file.proofs.ShortLines.{kept_text}
 use Rattle.sgb_file.proofs.ShortRecords.{together-laid, together-cut}
 use Rattle.sgb_file.proofs.saving.sections.put_next.Goals as goal
@@ -16,4 +15,4 @@ returns-in_err-put_lines-clause-laid g c =
     rw p.1 (together-cut _ _ c.begin.new.self c.put_short_records-to.new.lines _ _ begun c.put_short_records-to.ensures.laid put.0 put.1)
 
 pub returns-clause-laid : goal.returns-clause-laid
-returns-clause-laid g c = search (rules, kept_text, together-laid, LayoutState)
+returns-clause-laid g c = search (rules, kept_text, together-laid)

@@ -7,4 +7,4 @@ pub returns-clause-one : goal.returns-clause-one
 returns-clause-one c = left_in_line c.self.inside.all.now c.self.inside.line c.self.inside.begun.now c.self.inside.rest.now c.self.inside.sum c.self.invariant
 
 pub returns-clause-lines : goal.returns-clause-lines
-returns-clause-lines c = search (rules, lines_of_text, text_left, lines_still, left_lines, option_map)
+returns-clause-lines c = search (rules, left_lines, lines_of_text, lines_still, option_map, text_left)

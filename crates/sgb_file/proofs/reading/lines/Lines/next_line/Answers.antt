@@ -4,4 +4,4 @@ use Rattle.sgb_file.proofs.LinesLeftLemmas.{passes_line, passed_line}
 use Rattle.sgb_file.proofs.reading.lines.Lines.next_line.Goals as goal
 
 pub begin-requires : goal.begin-requires
-begin-requires c = search (rules, passed_line, option_map, passes_line, clean_lines)
+begin-requires c = search (rules, clean_lines, option_map, passed_line, passes_line)
