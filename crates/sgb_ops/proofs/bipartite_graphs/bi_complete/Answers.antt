@@ -1,4 +1,4 @@
-use Rattle.std.proofs.Common.{◌≡◌, ◌∙◌, ℤ, SFits, Err, w64, to_z, of_z, ap, subst}
+use Rattle.std.proofs.Common.{rules, ◌≡◌, ◌∙◌, ℤ, SFits, w64, to_z, of_z, ap}
 use Rattle.std.proofs.lemmas.Int.{to_z-of_z}
 use Rattle.std.proofs.lemmas.Result.{err_from_is_err_and}
 use Rattle.sgb_graph.specs.Descriptions.{IsAnswerOf}
@@ -15,14 +15,10 @@ pub bi_complete_by-requires : goal.bi_complete_by-requires
 bi_complete_by-requires c = c.in_ok-parts.ensures.ok
 
 pub returns-clause-answer : goal.returns-clause-answer
-returns-clause-answer c =
-    subst (λ k. IsAnswerOf (bi_complete_of k c.args.n2 c.args.directed) c.bi_complete_by.result) (to_z-of_z w64 c.args.n1 c.ranges.n1)
-    (subst (λ k. IsAnswerOf (bi_complete_of (to_z w64 (of_z w64 c.args.n1)) k c.args.directed) c.bi_complete_by.result) (to_z-of_z w64 c.args.n2 c.ranges.n2) c.bi_complete_by.ensures)
+returns-clause-answer c = search (rules, IsAnswerOf, bi_complete_of, to_z-of_z, to_z, of_z)
 
 pub returns-clause-refused : goal.returns-clause-refused
 returns-clause-refused c = λ e is. absurd (not_refused _ _ e c.in_ok-parts.ensures.ok (read c.args.n1 c.args.n2 c.ranges.n1 c.ranges.n2 ∙ is))
 
 pub returns-in_err-parts-clause-refused : goal.returns-in_err-parts-clause-refused
-returns-in_err-parts-clause-refused c =
-    let p = err_from_is_err_and c.from_residual.result c.from_residual.ensures.1 in
-    λ e is. same_refusal _ _ e _ c.in_err-parts.ensures.refused (p.1 ∙ ap (λ x. Err x) p.2) (read c.args.n1 c.args.n2 c.ranges.n1 c.ranges.n2 ∙ is)
+returns-in_err-parts-clause-refused c = search (rules, err_from_is_err_and, same_refusal, read)

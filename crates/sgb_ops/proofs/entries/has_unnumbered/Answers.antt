@@ -1,4 +1,4 @@
-use Rattle.std.proofs.Common.{◌≡◌, ◌∙◌, ◌+◌, drop, true, false, sym, ap, arith}
+use Rattle.std.proofs.Common.{rules, ◌≡◌, ◌∙◌, ◌+◌, drop, true, false, sym, ap, arith}
 use Rattle.std.specs.Prelude.{◌||◌}
 use Rattle.std.specs.List.{list_any}
 use Rattle.std.proofs.lemmas.List.{drop_all}
@@ -23,6 +23,4 @@ loop-entry-preserved c =
     sym (unnumbered_left entries i c.entry-item.result (omega arith) c.entry-item.is ∙ ap (λ b. b || rest) here) ∙ c.loop-entry.invariant
 
 pub returns : goal.returns
-returns c =
-    let entries = c.args.entries.now in
-    sym (sym c.loop-entry.invariant ∙ ap (list_any is_unnumbered) (drop_all c.loop-entry.entry-index entries (omega arith)))
+returns c = search (rules, list_any, is_unnumbered, drop_all)

@@ -1,4 +1,4 @@
-use Rattle.std.proofs.Common.{◌∙◌, ap, length, refl, subst, sym}
+use Rattle.std.proofs.Common.{rules, refl}
 use Rattle.std.proofs.lemmas.List.{length-map}
 use Rattle.sgb_graph.specs.Graphs.{GraphData}
 use Rattle.sgb_graph.specs.Growth.{new_vertex}
@@ -12,6 +12,4 @@ returns-clause-ok c =
     refl c.in_ok-built.ensures.ok c.in_ok-add_events.ensures.ok refl c.set_id.ensures
 
 pub add_events-requires-clause-within : goal.add_events-requires-clause-within
-add_events-requires-clause-within c =
-    let long = ap (λ (g : GraphData). length g.vertices) c.in_ok-built.ensures.ok ∙ length-map c.args.names new_vertex in
-    subst (λ n. AllWithin n c.args.events.now) (sym long) c.requires.within
+add_events-requires-clause-within c = search (rules, GraphData, length-map, new_vertex, AllWithin)

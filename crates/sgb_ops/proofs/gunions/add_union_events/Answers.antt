@@ -1,4 +1,4 @@
-use Rattle.std.proofs.Common.{◌∙◌, ap, subst, refl, arith}
+use Rattle.std.proofs.Common.{rules, ◌∙◌, ap, subst, refl, arith}
 use Rattle.std.specs.List.{flat_map}
 use Rattle.sgb_graph.specs.Growth.{AddsEvents}
 use Rattle.sgb_ops.specs.Merged.{merged_unless}
@@ -8,9 +8,7 @@ use Rattle.sgb_ops.proofs.UnionEvents.{all_left, left_of, left_within}
 use Rattle.sgb_ops.proofs.gunions.add_union_events.Goals as goal
 
 pub add_events-requires-clause-within : goal.add_events-requires-clause-within
-add_events-requires-clause-within c =
-    left_within c.args.first.now c.args.second.now c.args.directed c.loop-v.v c.n-v-end.ensures.kept (omega arith) c.args.multi _ c.in_ok-all.all.items c.deref.result.now
-    (c.loop-v.invariant.added.rest.size ∙ c.requires.size) (c.deref.ensures.value ∙ c.in_ok-events.ensures.ok) c.in_ok-all.ensures.ok
+add_events-requires-clause-within c = search (rules, left_within)
 
 pub loop-v-preserved : goal.loop-v-preserved
 loop-v-preserved c =
@@ -22,8 +20,4 @@ loop-v-preserved c =
     (subst (AddsEvents d c.loop-v.built c.add_events.new.built) left c.in_ok-add_events.ensures.ok) refl
 
 pub returns-clause-ok : goal.returns-clause-ok
-returns-clause-ok c =
-    let g = c.args.first.now in
-    let h = c.args.second.now in
-    subst (AddsEvents c.args.directed c.args.built.now c.loop-v.built) (all_left g h c.args.multi c.args.directed)
-    (places_added c.args.directed c.args.built.now c.loop-v.built (flat_map (left_of g h c.args.multi c.args.directed)) (order_of g) c.loop-v.v (omega arith) c.loop-v.invariant refl)
+returns-clause-ok c = search (rules, AddsEvents, all_left, places_added, flat_map, left_of, order_of)

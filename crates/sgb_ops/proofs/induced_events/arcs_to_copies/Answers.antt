@@ -1,4 +1,4 @@
-use Rattle.std.proofs.Common.{◌≡◌, ◌++◌, ◌∷◌, [], ◌∙◌, filter, length, sym, ap, subst}
+use Rattle.std.proofs.Common.{rules, ◌≡◌, ◌∷◌, [], ◌∙◌, filter, length, sym, ap, subst}
 use Rattle.std.specs.List.{All}
 use Rattle.std.proofs.lemmas.List.Elements.{All-tail, All-filter, filter-append}
 use Rattle.sgb_ops.specs.inner.Copies.{leads_to_copies}
@@ -9,12 +9,7 @@ use Rattle.sgb_vec.proofs.Lists.{steps_to}
 use Rattle.sgb_ops.proofs.induced_events.arcs_to_copies.Goals as goal
 
 pub loop-arc-init : goal.loop-arc-init
-loop-arc-init c =
-    let p = leads_to_copies c.args.copies.now in
-    let is = c.into_iter-arc-iterator.ensures.into_iter_gives in (
-      subst (All (TipBelow (length c.args.graph.now.vertices))) (sym is) c.taken-arc-items.ensures.tips,
-      ap (λ ls. ls ++ filter p c.into_iter-arc-iterator.result) c.new-arcs.ensures.items ∙ ap (filter p) (is ∙ c.taken-arc-items.ensures.taken),
-    )
+loop-arc-init c = search (rules, leads_to_copies, All, TipBelow, taken)
 
 pub loop-arc-preserved : goal.loop-arc-preserved
 loop-arc-preserved c =

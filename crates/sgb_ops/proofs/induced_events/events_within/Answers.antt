@@ -1,4 +1,4 @@
-use Rattle.std.proofs.Common.{◌≡◌, ◌∙◌, ◌<◌, ◌+◌, ◌++◌, ◌∷◌, ℕ, Bool, List, drop, length, get_or, sym, ap, append_assoc, arith}
+use Rattle.std.proofs.Common.{rules, ◌≡◌, ◌∙◌, ◌<◌, ◌+◌, ◌++◌, ℕ, Bool, List, drop, length, get_or, sym, ap, append_assoc, arith}
 use Rattle.std.proofs.lemmas.List.{drop_more}
 use Rattle.std.proofs.lemmas.List.Elements.{filter-append}
 use Rattle.sgb_graph.specs.Events.{Event}
@@ -14,16 +14,10 @@ use Rattle.sgb_ops.proofs.induced_events.events_within.Goals as goal
 step : (entries : List Entry) (d self : Bool) (v : ℕ) (e : Entry) → v < length entries → e ≡ get_or entries v e
     → wanted self (events_within_from entries d v (drop v entries))
     ≡ wanted self (inner_events d (first_copy entries v) e) ++ wanted self (events_within_from entries d (v + 1) (drop (v + 1) entries))
-step entries d self v e below is =
-    ap (λ es. wanted self (events_within_from entries d v es)) (drop_more entries v e below ∙ ap (λ x. x ∷ drop (v + 1) entries) (sym is))
-    ∙ filter-append (is_wanted self) (inner_events d (first_copy entries v) e) (events_within_from entries d (v + 1) (drop (v + 1) entries))
+step entries d self v e below is = search (rules, wanted, events_within_from, drop_more, filter-append, is_wanted, inner_events, first_copy)
 
 pub push_inner_events-requires : goal.push_inner_events-requires
-push_inner_events-requires c =
-    let entries = c.args.entries.now in
-    let v = c.loop-v.v in
-    let first = first_read entries c.args.copies.now v c.first.result c.requires.copies c.first.ensures.value in
-    omega (arith, first, place_fits entries v c.index-entries-v.result (omega (arith, c.requires.count)) c.index-entries-v.is, c.requires.few)
+push_inner_events-requires c = search (rules, first_read, place_fits)
 
 pub loop-v-preserved : goal.loop-v-preserved
 loop-v-preserved c =

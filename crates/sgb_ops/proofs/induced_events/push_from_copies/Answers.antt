@@ -1,4 +1,4 @@
-use Rattle.std.proofs.Common.{◌++◌, ◌+◌, ◌∙◌, refl, ap, arith}
+use Rattle.std.proofs.Common.{rules, ◌++◌, ◌+◌, ◌∙◌, ap, arith}
 use Rattle.std.specs.List.{flat_map}
 use Rattle.sgb_ops.specs.inner.Copies.{copies_end}
 use Rattle.sgb_ops.specs.inner.Induced.{events_of_arc, events_of_copies, events_of_copy, wanted}
@@ -8,12 +8,7 @@ use Rattle.sgb_ops.proofs.WantedEvents.{arcs_to_copies, wanted_more, events_unti
 use Rattle.sgb_ops.proofs.induced_events.push_from_copies.Goals as goal
 
 pub loop-u-init : goal.loop-u-init
-loop-u-init c =
-    let copies = c.args.copies.now in
-    let v = c.args.v in
-    let last = copies_end copies v in
-    ap (λ us. c.args.events.now.items ++ wanted c.args.flags.self_loops (flat_map (events_of_copy c.args.graph.now copies c.args.flags.directed v) us))
-    (copies_between copies v c.start-u.result last c.start-u.ensures.value refl)
+loop-u-init c = search (rules, copies_end, wanted, flat_map, events_of_copy, copies_between)
 
 pub loop-u-preserved : goal.loop-u-preserved
 loop-u-preserved c =

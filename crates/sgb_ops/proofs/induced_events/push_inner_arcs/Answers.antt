@@ -1,4 +1,4 @@
-use Rattle.std.proofs.Common.{ℤ, w64, rules, ◌++◌, ◌∷◌, [], ◌∙◌, ◌+◌, map, length, sym, ap, subst}
+use Rattle.std.proofs.Common.{ℤ, w64, rules, ◌++◌, ◌∷◌, [], ◌∙◌, ◌+◌, map, length, ap, subst}
 use Rattle.std.specs.List.{All}
 use Rattle.std.proofs.lemmas.Int.{to_z-of_z}
 use Rattle.std.proofs.lemmas.List.Elements.{All-tail}
@@ -10,11 +10,7 @@ use Rattle.sgb_ops.proofs.WantedEvents.{wanted_more}
 use Rattle.sgb_ops.proofs.induced_events.push_inner_arcs.Goals as goal
 
 pub loop-arc-init : goal.loop-arc-init
-loop-arc-init c =
-    let is = c.into_iter-arc-iterator.ensures.into_iter_gives in (
-      subst (All (TipBelow (length c.args.inner.now.vertices))) (sym is) c.taken-arc-items.ensures.tips,
-      ap (λ ls. c.args.events.now.items ++ wanted c.args.flags.self_loops (map (inner_event c.args.start c.args.w) ls)) (is ∙ c.taken-arc-items.ensures.taken),
-    )
+loop-arc-init c = search (rules, All, TipBelow, wanted, inner_event)
 
 pub loop-arc-preserved : goal.loop-arc-preserved
 loop-arc-preserved c =

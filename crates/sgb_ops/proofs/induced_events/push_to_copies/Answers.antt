@@ -1,4 +1,4 @@
-use Rattle.std.proofs.Common.{◌++◌, ◌+◌, ◌∷◌, [], map, filter, refl, ap, arith}
+use Rattle.std.proofs.Common.{rules, ◌++◌, ◌+◌, ◌∷◌, [], map, filter, arith}
 use Rattle.sgb_ops.specs.inner.Copies.{copies_end}
 use Rattle.sgb_ops.specs.inner.Induced.{event_between, events_of_arc, is_met, wanted}
 use Rattle.sgb_ops.proofs.EntryTotals.{copies_between}
@@ -6,12 +6,7 @@ use Rattle.sgb_ops.proofs.WantedEvents.{wanted_more, events_met, met_more}
 use Rattle.sgb_ops.proofs.induced_events.push_to_copies.Goals as goal
 
 pub loop-t-init : goal.loop-t-init
-loop-t-init c =
-    let copies = c.args.copies.now in
-    let a = c.args.arc in
-    let last = copies_end copies a.tip in
-    ap (λ ts. c.args.events.now.items ++ wanted c.args.flags.self_loops (map (event_between c.args.u a.len) (filter (is_met c.args.flags.directed c.args.v c.args.u a.tip) ts)))
-    (copies_between copies a.tip c.start-t.result last c.start-t.ensures.value refl)
+loop-t-init c = search (rules, copies_end, wanted, event_between, is_met, copies_between)
 
 pub loop-t-preserved : goal.loop-t-preserved
 loop-t-preserved c =

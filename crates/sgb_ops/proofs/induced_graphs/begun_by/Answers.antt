@@ -1,4 +1,4 @@
-use Rattle.std.proofs.Common.{◌≡◌, ◌∙◌, ℕ, List, length, sym, ap, rules, arith}
+use Rattle.std.proofs.Common.{◌≡◌, ◌∙◌, ℕ, List, length, sym, ap, rules}
 use Rattle.std.proofs.lemmas.List.{length-map}
 use Rattle.sgb_graph.specs.Graphs.{GraphData}
 use Rattle.sgb_graph.specs.Growth.{new_vertex}
@@ -14,12 +14,7 @@ count_of : (g : GraphData) (entries : List Entry) (names : List (List ℕ)) → 
 count_of g entries names count is = ap length is ∙ length-names (names_of g) entries (count ∙ sym (length-map g.vertices (λ x. x.name)))
 
 pub returns-in_err-built-clause-memory : goal.returns-in_err-built-clause-memory
-returns-in_err-built-clause-memory c =
-    let count = count_of c.args.graph.now c.args.entries.now c.in_ok-names.names c.requires.count c.in_ok-names.ensures.ok in
-    let memory = c.in_err-built.ensures.err (omega (arith, count, c.requires.few)) in
-    search (rules, memory)
+returns-in_err-built-clause-memory c = search (rules, count_of)
 
 pub begun_in_parts-requires-clause-size : goal.begun_in_parts-requires-clause-size
-begun_in_parts-requires-clause-size c =
-    let count = count_of c.args.graph.now c.args.entries.now c.in_ok-names.names c.requires.count c.in_ok-names.ensures.ok in
-    ap (λ k. length k.vertices) c.in_ok-built.ensures.ok ∙ (length-map c.in_ok-names.names new_vertex ∙ count)
+begun_in_parts-requires-clause-size c = search (rules, count_of, length-map, new_vertex)

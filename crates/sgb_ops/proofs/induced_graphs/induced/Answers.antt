@@ -1,4 +1,4 @@
-use Rattle.std.proofs.Common.{◌≡◌, ◌∙◌, Ok, Err, sym, ap, rules}
+use Rattle.std.proofs.Common.{rules}
 use Rattle.std.proofs.lemmas.Result.{err_from_is_err_and}
 use Rattle.sgb_ops.specs.Entries.{accepted_entries}
 use Rattle.sgb_graph.specs.Vertices.{order_of}
@@ -7,32 +7,13 @@ use Rattle.sgb_ops.proofs.Refusals.{not_refused, same_refusal}
 use Rattle.sgb_ops.proofs.induced_graphs.induced.Goals as goal
 
 pub finished-requires : goal.finished-requires
-finished-requires c =
-    let b = c.in_ok-begun.begun in
-    let numbered = c.in_ok-merged.ensures.numbered in
-    let begun = c.in_ok-begun.ensures.ok in
-    record {
-      count = begun_count _ _ _ _ _ b.copies b.in_parts b.kept.items b.built numbered begun (c.in_ok-merged.ensures.count ∙ c.n.ensures.count);
-      numbered = begun_numbered _ _ _ _ _ b.copies b.in_parts b.kept.items b.built numbered begun;
-      parts = begun_own _ _ _ _ _ b.copies b.in_parts b.kept.items b.built numbered begun;
-      size = begun_size _ _ _ _ _ b.copies b.in_parts b.kept.items b.built numbered begun (c.in_ok-merged.ensures.count ∙ c.n.ensures.count);
-      plain = search rules;
-      within = begun_within _ _ _ _ _ b.copies b.in_parts b.kept.items b.built numbered begun c.in_ok-merged.ensures.kept;
-    }
+finished-requires c = search (rules, begun_count, begun_numbered, begun_own, begun_size, begun_within)
 
 pub returns-clause-answer : goal.returns-clause-answer
-returns-clause-answer c =
-    let b = c.in_ok-begun.begun in
-    let accepted : accepted_entries (order_of c.args.graph.now) c.args.entries.now ≡ Ok c.args.entries.now =
-    ap (λ n. accepted_entries n c.args.entries.now) (sym c.n.ensures.count) ∙ c.in_ok-merged.ensures.ok in
-    finished_answer c.args.graph.now c.args.entries.now c.args.self_loops c.args.multi c.args.directed b.copies b.in_parts b.kept.items b.built c.in_ok-merged.ensures.numbered c.in_ok-begun.ensures.ok
-    c.finished.result c.in_ok-merged.ensures.kept accepted c.finished.ensures.ok c.finished.ensures.memory
+returns-clause-answer c = search (rules, accepted_entries, order_of, finished_answer)
 
 pub returns-clause-refused : goal.returns-clause-refused
-returns-clause-refused c =
-    λ e is. absurd (not_refused _ _ e c.in_ok-merged.ensures.ok (ap (λ n. accepted_entries n c.args.entries.now) c.n.ensures.count ∙ is))
+returns-clause-refused c = search (rules, not_refused, accepted_entries)
 
 pub returns-in_err-merged-clause-refused : goal.returns-in_err-merged-clause-refused
-returns-in_err-merged-clause-refused c =
-    let p = err_from_is_err_and c.from_residual.result c.from_residual.ensures.1 in
-    λ e is. same_refusal _ _ e _ c.in_err-merged.ensures.refused (p.1 ∙ ap (λ x. Err x) p.2) (ap (λ n. accepted_entries n c.args.entries.now) c.n.ensures.count ∙ is)
+returns-in_err-merged-clause-refused c = search (rules, err_from_is_err_and, same_refusal, accepted_entries)

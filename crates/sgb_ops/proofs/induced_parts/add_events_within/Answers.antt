@@ -1,4 +1,4 @@
-use Rattle.std.proofs.Common.{◌≡◌, ◌<◌, ◌∙◌, [], length, Some, ap, sym, subst, refl, arith}
+use Rattle.std.proofs.Common.{rules, ◌≡◌, ◌<◌, ◌∙◌, [], length, Some, ap, sym, subst, refl, arith}
 use Rattle.std.specs.List.{flat_map, slice_get}
 use Rattle.std.specs.Option.{option_map_or}
 use Rattle.sgb_graph.specs.Growth.{AddsEvents}
@@ -12,12 +12,7 @@ use Rattle.sgb_ops.proofs.Places.{place_added, places_added}
 use Rattle.sgb_ops.proofs.induced_parts.add_events_within.Goals as goal
 
 pub add_inner_events-requires-clause-few : goal.add_inner_events-requires-clause-few
-add_inner_events-requires-clause-few c =
-    let entries = c.args.entries.now in
-    let v = c.loop-v.v in
-    let e = c.index-entries-v.result in
-    let first = first_read entries c.args.copies.now v c.first-start.result c.requires.copies c.first-start.ensures.value in
-    omega (arith, first, place_fits entries v e (omega (arith, c.requires.count)) c.index-entries-v.is, c.loop-v.invariant.added.rest.size, c.requires.size)
+add_inner_events-requires-clause-few c = search (rules, first_read, place_fits)
 
 pub loop-v-preserved : goal.loop-v-preserved
 loop-v-preserved c =

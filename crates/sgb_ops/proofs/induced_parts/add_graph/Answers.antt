@@ -1,4 +1,4 @@
-use Rattle.std.proofs.Common.{length, sym, ap, subst, refl, arith}
+use Rattle.std.proofs.Common.{rules, ap, subst, refl, arith}
 use Rattle.std.specs.List.{flat_map}
 use Rattle.sgb_graph.specs.Growth.{AddsEvents}
 use Rattle.sgb_ops.specs.Merged.{merged_unless}
@@ -9,10 +9,7 @@ use Rattle.sgb_ops.proofs.Places.{place_added, places_added}
 use Rattle.sgb_ops.proofs.induced_parts.add_graph.Goals as goal
 
 pub add_part-requires-clause-within : goal.add_part-requires-clause-within
-add_part-requires-clause-within c =
-    let n = length c.loop-w.built.vertices in
-    subst (AllWithin n) (sym c.in_ok-part.ensures.ok)
-    (part_within c.args.flags.directed c.args.start c.args.inner.now c.args.flags.self_loops c.loop-w.w n c.requires.kept (omega arith) (omega (arith, c.requires.few, c.loop-w.invariant.added.rest.size)))
+add_part-requires-clause-within c = search (rules, AllWithin, part_within)
 
 pub loop-w-preserved : goal.loop-w-preserved
 loop-w-preserved c =
@@ -23,9 +20,4 @@ loop-w-preserved c =
     place_added d c.args.built.now c.loop-w.built (flat_map (graph_part c.args.flags.self_loops multi d c.args.start g)) (order_of g) c.loop-w.w c.add_part.new.built _ (omega arith) c.loop-w.invariant added refl
 
 pub returns-clause-ok : goal.returns-clause-ok
-returns-clause-ok c =
-    let flags = c.args.flags in
-    let g = c.args.inner.now in
-    let part = graph_part flags.self_loops flags.multi flags.directed c.args.start g in
-    subst (AddsEvents flags.directed c.args.built.now c.loop-w.built) (graph_left flags.directed c.args.start g flags.self_loops flags.multi)
-    (places_added flags.directed c.args.built.now c.loop-w.built (flat_map part) (order_of g) c.loop-w.w (omega arith) c.loop-w.invariant refl)
+returns-clause-ok c = search (rules, graph_part, AddsEvents, graph_left, places_added, flat_map, order_of)

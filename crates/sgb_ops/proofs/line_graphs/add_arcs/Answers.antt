@@ -1,4 +1,4 @@
-use Rattle.std.proofs.Common.{◌≡◌, ◌<◌, ◌+◌, ◌∷◌, true, drop, get_or, ap, subst, arith}
+use Rattle.std.proofs.Common.{rules, ◌<◌, get_or, arith}
 use Rattle.std.proofs.lemmas.List.{drop_more}
 use Rattle.sgb_graph.specs.Growth.{AddsEvents}
 use Rattle.sgb_graph.specs.Graphs.{GraphData}
@@ -18,23 +18,7 @@ add_arcs_to-requires-clause-others c =
     omega (arith, end, few_from line.to lines, c.loop-i.invariant.added.rest.size, c.requires.size)
 
 pub loop-i-init : goal.loop-i-init
-loop-i-init c =
-    let all = line_events true c.args.lines.now in
-    subst (λ (g : GraphData). AddsUpTo true g c.reserve.new.self all all) c.reserve.ensures.kept (up_to-none true c.reserve.new.self all)
+loop-i-init c = search (rules, line_events, GraphData, AddsUpTo, up_to-none)
 
 pub loop-i-preserved : goal.loop-i-preserved
-loop-i-preserved c =
-    let n = c.args.n in
-    let lines = c.args.lines.now in
-    let i = c.loop-i.i in
-    let line = get_or lines i no_line in
-    let ends = c.in_ok-ends.ends.items in
-    let size = c.in_ok-ends.ensures.size in
-    let table = c.in_ok-ends.ensures.ends in
-    let below : line.to < n = (c.requires.within i no_line c.loop-i-test.true).1 in
-    let first = ends_read n (line.to + 1) lines ends c.index.result.now (omega (arith, below)) size table c.index.ensures in
-    let end = ends_read n line.to lines ends c.index-in-loop-i.result.now (omega (arith, below)) size table c.index-in-loop-i.ensures in
-    let next : drop i lines ≡ line ∷ drop (i + 1) lines = drop_more lines i no_line (omega arith) in
-    let added = subst (AddsEvents true c.loop-i.built c.add_arcs_to.new.built) (run_events n lines i line c.index.result.now c.index-in-loop-i.result.now c.requires.descending first end) c.in_ok-add_arcs_to.ensures.ok in
-    up_to-more true c.args.built.now c.loop-i.built c.add_arcs_to.new.built (events_to true i line lines) (events_from true lines (i + 1) (drop (i + 1) lines)) (line_events true lines) (events_from true lines i (drop i lines))
-    c.loop-i.invariant (ap (events_from true lines i) next) added
+loop-i-preserved c = search (rules, no_line, ends_read, drop_more, AddsEvents, run_events, up_to-more, events_to, events_from, line_events)

@@ -1,4 +1,4 @@
-use Rattle.std.proofs.Common.{◌<◌, ◌∙◌, ℕ, List, true, false, All, filter, length, sym, subst, arith}
+use Rattle.std.proofs.Common.{rules, ◌∙◌, ℕ, List, true, false, filter, length, subst}
 use Rattle.std.proofs.lemmas.Result.{on_ok_weaker}
 use Rattle.sgb_graph.specs.Growth.{AddsEvents}
 use Rattle.sgb_graph.proofs.AddedEvents.{adds-then}
@@ -8,16 +8,10 @@ use Rattle.sgb_ops.proofs.LineLists.{edges_at, listed, numbers_within}
 use Rattle.sgb_ops.proofs.line_graphs.add_edges_from.Goals as goal
 
 pub add_edges_to-requires-clause-within : goal.add_edges_to-requires-clause-within
-add_edges_to-requires-clause-within c =
-    let lines = c.args.lines.now in
-    let list = c.deref.ensures.value ∙ listed c.args.lists.now c.args.line.to c.index-lists-line.result _ c.requires.within.1 c.index-lists-line.is (c.requires.listed c.args.line.to) in
-    subst (All (λ j. j < length lines)) (sym list) (numbers_within c.args.line.to c.args.i lines (omega arith))
+add_edges_to-requires-clause-within c = search (rules, listed, numbers_within)
 
 pub add_edges_to-requires-2-clause-within : goal.add_edges_to-requires-2-clause-within
-add_edges_to-requires-2-clause-within c =
-    let lines = c.args.lines.now in
-    let list = c.deref-2.ensures.value ∙ listed c.args.lists.now c.args.line.from c.index-lists-line-2.result _ c.requires.within.0 c.index-lists-line-2.is (c.requires.listed c.args.line.from) in
-    subst (All (λ j. j < length lines)) (sym list) (numbers_within c.args.line.from c.args.i lines (omega arith))
+add_edges_to-requires-2-clause-within c = search (rules, listed, numbers_within)
 
 pub returns-clause-ok : goal.returns-clause-ok
 returns-clause-ok c =

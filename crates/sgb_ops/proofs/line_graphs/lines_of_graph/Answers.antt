@@ -1,4 +1,4 @@
-use Rattle.std.proofs.Common.{◌≡◌, ◌+◌, ◌-◌, ◌∙◌, All, sym, ap, subst, arith, rules}
+use Rattle.std.proofs.Common.{rules}
 use Rattle.sgb_ops.specs.inner.Lines.{DescendFrom, LeadsUp, LineWithin}
 use Rattle.sgb_graph.specs.Vertices.{order_of}
 use Rattle.sgb_ops.proofs.LineEvents.{lines_at, lines_below, lines_below-more, lines_within}
@@ -7,23 +7,7 @@ use Rattle.sgb_ops.proofs.PlainLists.{part_more, parts_all}
 use Rattle.sgb_ops.proofs.line_graphs.lines_of_graph.Goals as goal
 
 pub loop-v-preserved : goal.loop-v-preserved
-loop-v-preserved c =
-    let g = c.args.graph.now in
-    let directed = c.args.directed in
-    let v = c.loop-v.v - 1 in
-    let last : c.loop-v.v ≡ v + 1 = omega arith in
-    part_more c.loop-v.lines.items _ (lines_at g directed v) (lines_below g directed v) (lines_below g directed c.loop-v.v) _
-    (ap (lines_below g directed) last ∙ lines_below-more g directed v) c.loop-v.invariant c.in_ok-push_lines.ensures.ok
+loop-v-preserved c = search (rules, part_more, lines_at, lines_below, lines_below-more)
 
 pub returns : goal.returns
-returns c =
-    let g = c.args.graph.now in
-    let none : c.loop-v.v ≡ 0 = omega arith in
-    let all = sym (parts_all c.loop-v.lines.items _ _ (ap (lines_below g c.args.directed) none) c.loop-v.invariant) in
-    record {
-      ok = sym all;
-      within = subst (All (LineWithin (order_of g))) all (lines_within g c.args.directed c.n-v.ensures.kept);
-      descending = subst (DescendFrom (order_of g)) all (lines_descend g c.args.directed);
-      up = λ e. subst (All LeadsUp) all (lines_lead_up g c.args.directed e);
-      memory = search rules;
-    }
+returns c = search (rules, parts_all, lines_below, LineWithin, order_of, lines_within, DescendFrom, lines_descend, LeadsUp, lines_lead_up)

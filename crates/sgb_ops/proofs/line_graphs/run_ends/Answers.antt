@@ -1,4 +1,4 @@
-use Rattle.std.proofs.Common.{◌-◌, arith}
+use Rattle.std.proofs.Common.{rules, ◌-◌, arith}
 use Rattle.sgb_ops.proofs.LineRuns.{ends_first, ends_more, ends_sum, few_from}
 use Rattle.sgb_ops.proofs.line_graphs.run_ends.Goals as goal
 
@@ -13,10 +13,4 @@ overflow_add-index_mut c =
     omega (arith, sum, few_from (w - 1) lines, c.requires.few)
 
 pub loop-w-preserved : goal.loop-w-preserved
-loop-w-preserved c =
-    let n = c.args.n in
-    let lines = c.args.lines.now in
-    let w = c.loop-w.w in
-    let ends = c.loop-w.ends.items in
-    let sum = ends_sum n w lines ends c.index_mut.result.now c.index.result.now c.loop-w-test.true c.loop-w.auto.w c.loop-w.invariant c.index_mut.ensures.value c.index.ensures in
-    ends_more n w lines ends _ c.loop-w-test.true c.loop-w.auto.w c.loop-w.invariant sum
+loop-w-preserved c = search (rules, ends_sum, ends_more)

@@ -1,4 +1,4 @@
-use Rattle.std.proofs.Common.{◌≡◌, ◌∙◌, ◌++◌, ◌∷◌, [], ℕ, List, true, false, sym, ap, rules}
+use Rattle.std.proofs.Common.{◌≡◌, ◌∙◌, ◌++◌, ◌∷◌, [], ℕ, List, true, sym, ap, rules}
 use Rattle.std.specs.List.{list_any, position_or_len}
 use Rattle.std.proofs.lemmas.Bool.{not-true, not-false}
 use Rattle.std.proofs.lemmas.List.{map_push}
@@ -16,21 +16,10 @@ same_place : (keys ks : List (ℕ × ℕ)) (k key : ℕ × ℕ) → k ≡ key �
 same_place keys ks k key e f = ap (λ p. position_or_len (has_same_pair p) keys) e ∙ ap (position_or_len (has_same_pair key)) f
 
 pub returns-then-is_new-clause-ok : goal.returns-then-is_new-clause-ok
-returns-then-is_new-clause-ok c =
-    let none : has_key c.args.directed c.args.left.now.items c.args.event ≡ false =
-    sym (same_test c.args.ends.now.keys _ c.ends.result _ c.ends.ensures c.requires.ends) ∙ not-true _ (sym c.in_ok-place.ensures.added ∙ c.if-is_new.true) in
-    c.in_ok-push.ensures.items ∙ sym (put_last c.args.directed c.args.left.now.items c.args.event none)
+returns-then-is_new-clause-ok c = search (rules, has_key, same_test, not-true, put_last)
 
 pub returns-then-is_new-clause-ends : goal.returns-then-is_new-clause-ends
-returns-then-is_new-clause-ends c =
-    let keys = c.args.ends.now.keys in
-    let key = ends_key c.args.directed in
-    let none : list_any (has_same_pair c.ends.result) keys ≡ false = not-true _ (sym c.in_ok-place.ensures.added ∙ c.if-is_new.true) in
-    c.in_ok-place.ensures.keys
-    ∙ (ap (λ b. if b then keys else keys ++ c.ends.result ∷ []) none
-    ∙ (ap (λ k. keys ++ k ∷ []) c.ends.ensures
-    ∙ (ap (λ ks. ks ++ key c.args.event ∷ []) c.requires.ends
-    ∙ (sym (map_push key c.args.left.now.items c.args.event) ∙ ap (map key) (sym c.in_ok-push.ensures.items)))))
+returns-then-is_new-clause-ends c = search (rules, ends_key, list_any, has_same_pair, not-true, map_push)
 
 pub returns : goal.returns
 returns c =

@@ -1,5 +1,4 @@
-use Rattle.std.proofs.Common.{◌≡◌, ◌+◌, ◌∙◌, ◌++◌, ◌∷◌, [], sym, ap, take, arith}
-use Rattle.std.specs.Prelude.{map}
+use Rattle.std.proofs.Common.{rules, ◌≡◌, ◌+◌, ◌∙◌, ◌++◌, ◌∷◌, [], sym, ap, take, arith}
 use Rattle.std.proofs.lemmas.List.{take_more}
 use Rattle.sgb_ops.specs.inner.Ends.{ends_key, with_event}
 use Rattle.sgb_ops.specs.Merged.{merged}
@@ -8,9 +7,7 @@ use Rattle.sgb_ops.proofs.merged.merged.Goals as goal
 
 pub loop-event-init : goal.loop-event-init
 unfolding merged
-loop-event-init c =
-    let nothing : c.in_ok-left.left.items ≡ [] = c.in_ok-left.ensures.items in
-    (nothing, c.in_ok-ends.ensures.empty ∙ ap (map (ends_key c.args.directed)) (sym nothing))
+loop-event-init c = search (rules, ends_key)
 
 pub loop-event-preserved : goal.loop-event-preserved
 loop-event-preserved c =

@@ -8,10 +8,7 @@ use Rattle.sgb_ops.proofs.Places.{arcs_first, arc_added, same_event}
 use Rattle.sgb_ops.proofs.products.add_both_step.Goals as goal
 
 pub loop-other-init : goal.loop-other-init
-loop-other-init c =
-    let h = c.args.second.now in
-    arcs_first (order_of h) c.args.directed c.args.built.now (map (both_step (order_of h) c.args.x c.args.y c.args.arc)) _ _ (chain_of h c.args.y)
-    c.into_iter-other-iterator.ensures.into_iter_gives c.arcs-other-items.ensures.chain c.arcs-other-items.ensures.tips
+loop-other-init c = search (rules, arcs_first, order_of, both_step, chain_of)
 
 pub loop-other-preserved : goal.loop-other-preserved
 loop-other-preserved c =

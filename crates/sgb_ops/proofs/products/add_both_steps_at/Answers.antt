@@ -1,4 +1,4 @@
-use Rattle.std.proofs.Common.{map, refl}
+use Rattle.std.proofs.Common.{rules, map, refl}
 use Rattle.std.specs.List.{flat_map}
 use Rattle.sgb_graph.specs.Graphs.{chain_of}
 use Rattle.sgb_graph.specs.Vertices.{order_of}
@@ -8,11 +8,7 @@ use Rattle.sgb_ops.proofs.Places.{arcs_first, arc_added, next_tip}
 use Rattle.sgb_ops.proofs.products.add_both_steps_at.Goals as goal
 
 pub loop-arc-init : goal.loop-arc-init
-loop-arc-init c =
-    let g = c.args.first.now in
-    let h = c.args.second.now in
-    arcs_first (order_of g) c.args.directed c.args.built.now (flat_map (λ a. map (both_step (order_of h) c.args.x c.args.y a) (chain_of h c.args.y))) _ _ (taken c.args.directed g c.args.x)
-    c.into_iter-arc-iterator.ensures.into_iter_gives c.taken-arc-items.ensures.taken c.taken-arc-items.ensures.tips
+loop-arc-init c = search (rules, arcs_first, order_of, flat_map, both_step, chain_of, taken)
 
 pub add_both_step-requires-clause-tip : goal.add_both_step-requires-clause-tip
 add_both_step-requires-clause-tip c = next_tip (order_of c.args.first.now) _ _ _ _ c.in-Some.is c.next.ensures.steps c.loop-arc.invariant.0

@@ -1,4 +1,4 @@
-use Rattle.std.proofs.Common.{arith, refl}
+use Rattle.std.proofs.Common.{rules, arith, refl}
 use Rattle.std.specs.List.{flat_map}
 use Rattle.sgb_graph.specs.Vertices.{order_of}
 use Rattle.sgb_ops.specs.inner.Steps.{both_steps_at}
@@ -11,6 +11,4 @@ loop-y-preserved c =
     place_added c.args.directed c.args.built.now c.loop-y.built steps (order_of c.args.second.now) c.loop-y.y c.add_both_steps_at.new.built _ (omega arith) c.loop-y.invariant c.in_ok-add_both_steps_at.ensures.ok refl
 
 pub returns-clause-ok : goal.returns-clause-ok
-returns-clause-ok c =
-    let steps = flat_map (both_steps_at c.args.first.now c.args.second.now c.args.directed c.args.x) in
-    places_added c.args.directed c.args.built.now c.loop-y.built steps (order_of c.args.second.now) c.loop-y.y (omega arith) c.loop-y.invariant refl
+returns-clause-ok c = search (rules, flat_map, both_steps_at, places_added, order_of)

@@ -1,4 +1,4 @@
-use Rattle.std.proofs.Common.{◌∙◌, length, ap, rules, arith}
+use Rattle.std.proofs.Common.{◌∙◌, ap, rules}
 use Rattle.std.proofs.lemmas.List.{length-map}
 use Rattle.sgb_graph.specs.Growth.{new_vertex}
 use Rattle.sgb_graph.specs.Sound.{arc_kinds}
@@ -10,11 +10,7 @@ use Rattle.sgb_ops.proofs.Results.{made}
 use Rattle.sgb_ops.proofs.products.product_of_few.Goals as goal
 
 pub add_steps-requires : goal.add_steps-requires
-add_steps-requires c =
-    let g = c.args.first.now in
-    let h = c.args.second.now in
-    let count = ap (λ k. length k.vertices) c.in_ok-built.ensures.ok ∙ (length-map c.in_ok-names.names new_vertex ∙ (ap length c.in_ok-names.ensures.ok ∙ length-names_of_pairs g h)) in
-    record { room = (c.requires, count, ap (λ k. arc_kinds k.kinds) c.in_ok-built.ensures.ok) }
+add_steps-requires c = search (rules, length-map, new_vertex, length-names_of_pairs, arc_kinds)
 
 pub returns : goal.returns
 returns c =
@@ -27,7 +23,4 @@ returns c =
     (c.id-3.ensures ∙ (ap (λ id. product_id id c.id-2.result.now t d) c.id.ensures ∙ ap (λ id. product_id g.id id t d) c.id-2.ensures)) c.set_id.ensures
 
 pub returns-in_err-built : goal.returns-in_err-built
-returns-in_err-built c =
-    let count = ap length c.in_ok-names.ensures.ok ∙ length-names_of_pairs c.args.first.now c.args.second.now in
-    let memory = c.in_err-built.ensures.err (omega (arith, count, c.requires)) in
-    search (rules, memory)
+returns-in_err-built c = search (rules, length-names_of_pairs)

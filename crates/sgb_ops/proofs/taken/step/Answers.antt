@@ -1,4 +1,4 @@
-use Rattle.std.proofs.Common.{sym, ◌∙◌}
+use Rattle.std.proofs.Common.{rules, sym, ◌∙◌}
 use Rattle.sgb_ops.proofs.Taking.{step_other, step_directed, step_down, step_loop, step_up}
 use Rattle.sgb_ops.proofs.taken.step.Goals as goal
 
@@ -9,14 +9,10 @@ pub returns-then-directed : goal.returns-then-directed
 returns-then-directed c = rw c.if-directed.true (step_directed c.args.v c.args.after_loop c.args.link (sym c.is_other_record.ensures ∙ c.if-is_other_record.false))
 
 pub returns-then-link-v : goal.returns-then-link-v
-returns-then-link-v c =
-    rw c.if-directed.false (step_down c.args.v c.args.after_loop c.args.link (sym c.is_other_record.ensures ∙ c.if-is_other_record.false) c.if-link-v.true)
+returns-then-link-v c = search (rules, step_down)
 
 pub returns-then-link-v-2 : goal.returns-then-link-v-2
-returns-then-link-v-2 c =
-    rw c.if-directed.false (step_loop c.args.v c.args.after_loop c.args.link (sym c.is_other_record.ensures ∙ c.if-is_other_record.false) c.if-link-v-2.true)
+returns-then-link-v-2 c = search (rules, step_loop)
 
 pub returns : goal.returns
-returns c =
-    rw c.if-directed.false
-    (step_up c.args.v c.args.after_loop c.args.link (sym c.is_other_record.ensures ∙ c.if-is_other_record.false) c.if-link-v.false c.if-link-v-2.false)
+returns c = search (rules, step_up)

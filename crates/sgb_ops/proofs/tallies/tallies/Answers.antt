@@ -1,21 +1,13 @@
-use Rattle.std.proofs.Common.{◌≡◌, ◌==◌, ◌≤◌, ◌+◌, ◌∙◌, ◌++◌, ◌∷◌, [], nat_eq, take, get_or, cond, Some, sym, ap, arith}
+use Rattle.std.proofs.Common.{rules, ◌≡◌, ◌==◌, ◌+◌, ◌∙◌, ◌++◌, ◌∷◌, [], nat_eq, take, get_or, cond, Some, sym, ap, arith}
 use Rattle.std.specs.Option.{option_map_or}
 use Rattle.std.proofs.lemmas.List.{take_more, length-take-le}
 use Rattle.indexmap.specs.IndexMap.{get}
 use Rattle.sgb_ops.specs.inner.Tallies.{tally_to}
-use Rattle.sgb_ops.specs.declared.tallies.Tally.{Tally}
 use Rattle.sgb_ops.proofs.TallyLemmas.{no_arc, few_to, noted_more}
 use Rattle.sgb_ops.proofs.tallies.tallies.Goals as goal
 
 pub with_one_more-tally-requires : goal.with_one_more-tally-requires
-with_one_more-tally-requires c =
-    let arcs = c.args.arcs.now in
-    let i = c.loop-arc.arc-index in
-    let l = get_or arcs i no_arc in
-    let is : c.copied.result ≡ tally_to l.tip (take i arcs) = c.copied.ensures ∙ (c.get.ensures.value ∙ c.loop-arc.invariant l.tip) in
-    let few = few_to l.tip (take i arcs) in
-    let size : option_map_or (λ (t : Tally). t.count + 1) c.copied.result 0 ≤ i + 1 = rw is omega (arith, few, length-take-le i arcs (omega arith)) in
-    omega (arith, size, c.loop-arc-test.true)
+with_one_more-tally-requires c = search (rules, no_arc, tally_to, get, few_to, option_map_or, length-take-le)
 
 pub loop-arc-preserved : goal.loop-arc-preserved
 loop-arc-preserved c = λ u.

@@ -1,4 +1,4 @@
-use Rattle.std.proofs.Common.{◌≡◌, ◌∙◌, ℤ, SFits, Err, w64, to_z, of_z, ap, subst}
+use Rattle.std.proofs.Common.{rules, ◌≡◌, ◌∙◌, ℤ, SFits, w64, to_z, of_z, ap}
 use Rattle.std.proofs.lemmas.Int.{to_z-of_z}
 use Rattle.std.proofs.lemmas.Result.{err_from_is_err_and}
 use Rattle.sgb_graph.specs.Descriptions.{IsAnswerOf}
@@ -14,14 +14,10 @@ pub wheel_around-requires : goal.wheel_around-requires
 wheel_around-requires c = c.in_ok-middle.ensures.ok
 
 pub returns-clause-answer : goal.returns-clause-answer
-returns-clause-answer c =
-    subst (λ k. IsAnswerOf (wheel_of k c.args.n1 c.args.directed) c.wheel_around.result) (to_z-of_z w64 c.args.n c.ranges.n)
-    (subst (λ k. IsAnswerOf (wheel_of (to_z w64 (of_z w64 c.args.n)) k c.args.directed) c.wheel_around.result) (to_z-of_z w64 c.args.n1 c.ranges.n1) c.wheel_around.ensures)
+returns-clause-answer c = search (rules, IsAnswerOf, wheel_of, to_z-of_z, to_z, of_z)
 
 pub returns-clause-refused : goal.returns-clause-refused
 returns-clause-refused c = λ e is. absurd (not_refused _ _ e c.in_ok-middle.ensures.ok (read c.args.n1 c.ranges.n1 ∙ is))
 
 pub returns-in_err-middle-clause-refused : goal.returns-in_err-middle-clause-refused
-returns-in_err-middle-clause-refused c =
-    let p = err_from_is_err_and c.from_residual.result c.from_residual.ensures.1 in
-    λ e is. same_refusal _ _ e _ c.in_err-middle.ensures.refused (p.1 ∙ ap (λ x. Err x) p.2) (read c.args.n1 c.ranges.n1 ∙ is)
+returns-in_err-middle-clause-refused c = search (rules, err_from_is_err_and, same_refusal, read)

@@ -1,4 +1,4 @@
-use Rattle.std.proofs.Common.{◌≡◌, ◌∙◌, ℤ, Bool, Result, Ok, Err, [], ◌∷◌, false, SFits, w64, to_z, of_z, ap, subst}
+use Rattle.std.proofs.Common.{rules, ◌≡◌, ◌∙◌, ℤ, Bool, Result, Ok, Err, [], ◌∷◌, false, SFits, w64, to_z, of_z, ap, subst}
 use Rattle.std.proofs.lemmas.Int.{to_z-of_z}
 use Rattle.std.proofs.lemmas.Result.{err_from_is_err_and}
 use Rattle.sgb_vec.specs.Results.{and_then}
@@ -73,25 +73,7 @@ returns-in_err-built c =
     (refused_onward (induced_of pair (c.args.middle ∷ entry.Graph c.in_ok-rim.rim ∷ []) false false d) e (named n n1 d) answer))
 
 pub returns-in_err-rim : goal.returns-in_err-rim
-returns-in_err-rim c =
-    let n = c.args.n in
-    let n1 = c.args.n1 in
-    let d = c.args.directed in
-    let middle = c.args.middle in
-    let e = c.in_err-rim.field-0.0 in
-    let p = err_from_is_err_and c.from_residual.result c.from_residual.ensures.1 in
-    let answer = subst (λ k. IsAnswerOf (board (rim_of_wheel k d)) (Err e)) (to_z-of_z w64 n c.ranges.n) c.in_err-rim.ensures in
-    rw (c.requires, p.1, p.2) (refused_onward (board (rim_of_wheel n d)) e (λ h. after_rim n n1 d middle (graph_described h)) answer)
+returns-in_err-rim c = search (rules, err_from_is_err_and, IsAnswerOf, board, rim_of_wheel, to_z-of_z, refused_onward, after_rim, graph_described)
 
 pub returns-in_err-pair : goal.returns-in_err-pair
-returns-in_err-pair c =
-    let n = c.args.n in
-    let n1 = c.args.n1 in
-    let d = c.args.directed in
-    let middle = c.args.middle in
-    let rim = c.in_ok-rim.rim in
-    let e = c.in_err-pair.field-0.0 in
-    let p = err_from_is_err_and c.from_residual-in_err-pair.result c.from_residual-in_err-pair.ensures.1 in
-    rw (p.1, p.2)
-    (rim_there n n1 d middle rim (Err e) c.ranges.n c.requires c.in_ok-rim.ensures
-    (refused_onward (board (pair_of_vertices d)) e (λ p. after_pair n n1 d middle rim (graph_described p)) c.in_err-pair.ensures))
+returns-in_err-pair c = search (rules, err_from_is_err_and, rim_there, refused_onward, board, pair_of_vertices, after_pair, graph_described)

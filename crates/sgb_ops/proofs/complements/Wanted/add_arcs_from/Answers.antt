@@ -1,4 +1,4 @@
-use Rattle.std.proofs.Common.{◌+◌, arith, subst, refl}
+use Rattle.std.proofs.Common.{rules, ◌+◌, arith, subst}
 use Rattle.sgb_graph.specs.Growth.{AddsEvents}
 use Rattle.sgb_ops.specs.inner.Complement.{is_wanted_where}
 use Rattle.sgb_graph.specs.Vertices.{order_of}
@@ -19,7 +19,4 @@ loop-w-preserved c =
     place_added d c.args.built.now c.loop-w.built (wanted_to g copy loops d u) (order_of g) w c.add_arc.new.built _ (omega arith) c.loop-w.invariant added (first_wanted g copy loops d u w (places_from (order_of g) (w + 1)))
 
 pub returns-clause-ok : goal.returns-clause-ok
-returns-clause-ok c =
-    let wanted = c.args.self in
-    let g = c.args.graph.now in
-    places_added wanted.directed c.args.built.now c.loop-w.built (wanted_to g wanted.copy wanted.self_loops wanted.directed c.args.u) (order_of g) c.loop-w.w (omega arith) c.loop-w.invariant refl
+returns-clause-ok c = search (rules, places_added, wanted_to, order_of)

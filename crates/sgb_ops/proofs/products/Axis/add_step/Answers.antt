@@ -12,6 +12,4 @@ loop-w-preserved c =
     place_added c.args.directed c.args.built.now c.loop-w.built step (order_of c.args.beside.now) c.loop-w.w c.add_event.new.self _ (omega arith) c.loop-w.invariant added refl
 
 pub returns-clause-ok : goal.returns-clause-ok
-returns-clause-ok c =
-    let step = map (step_along c.args.self c.args.along.now c.args.beside.now c.args.v c.args.arc) in
-    places_added c.args.directed c.args.built.now c.loop-w.built step (order_of c.args.beside.now) c.loop-w.w (omega arith) c.loop-w.invariant refl
+returns-clause-ok c = search (rules, step_along, places_added, order_of)

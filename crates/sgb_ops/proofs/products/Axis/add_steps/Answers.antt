@@ -1,4 +1,4 @@
-use Rattle.std.proofs.Common.{arith, refl}
+use Rattle.std.proofs.Common.{rules, arith, refl}
 use Rattle.std.specs.List.{flat_map}
 use Rattle.sgb_graph.specs.Vertices.{order_of}
 use Rattle.sgb_ops.specs.inner.Steps.{steps_from}
@@ -11,6 +11,4 @@ loop-v-preserved c =
     place_added c.args.directed c.args.built.now c.loop-v.built steps (order_of c.args.along.now) c.loop-v.v c.add_steps_from.new.built _ (omega arith) c.loop-v.invariant c.in_ok-add_steps_from.ensures.ok refl
 
 pub returns-clause-ok : goal.returns-clause-ok
-returns-clause-ok c =
-    let steps = flat_map (steps_from c.args.self c.args.along.now c.args.beside.now c.args.directed) in
-    places_added c.args.directed c.args.built.now c.loop-v.built steps (order_of c.args.along.now) c.loop-v.v (omega arith) c.loop-v.invariant refl
+returns-clause-ok c = search (rules, flat_map, steps_from, places_added, order_of)

@@ -1,4 +1,4 @@
-use Rattle.std.proofs.Common.{map, refl}
+use Rattle.std.proofs.Common.{rules, map, refl}
 use Rattle.std.specs.List.{flat_map}
 use Rattle.sgb_graph.specs.Vertices.{order_of, places_of}
 use Rattle.sgb_ops.specs.inner.Steps.{step_along}
@@ -7,11 +7,7 @@ use Rattle.sgb_ops.proofs.Places.{arcs_first, arc_added, next_tip}
 use Rattle.sgb_ops.proofs.products.Axis.add_steps_from.Goals as goal
 
 pub loop-arc-init : goal.loop-arc-init
-loop-arc-init c =
-    let g = c.args.along.now in
-    let h = c.args.beside.now in
-    arcs_first (order_of g) c.args.directed c.args.built.now (flat_map (λ a. map (step_along c.args.self g h c.args.v a) (places_of h))) _ _ (taken c.args.directed g c.args.v)
-    c.into_iter-arc-iterator.ensures.into_iter_gives c.taken-arc-items.ensures.taken c.taken-arc-items.ensures.tips
+loop-arc-init c = search (rules, arcs_first, order_of, flat_map, step_along, places_of, taken)
 
 pub add_step-requires-clause-tip : goal.add_step-requires-clause-tip
 add_step-requires-clause-tip c = next_tip (order_of c.args.along.now) _ _ _ _ c.in-Some.is c.next.ensures.steps c.loop-arc.invariant.0
