@@ -43,9 +43,7 @@ exit_certain r f exit other = search (rules, err_from_is_err_and)
 
 -- a code that is another
 other_panic : (p : Panic) → p ≢ NoRoom → fault.Panic p ≢ fault.Panic NoRoom
-other_panic p other e =
-    let same : p ≡ NoRoom = cc in
-    other same
+other_panic p other e = search rules
 
 -- the exit of a `?` with a refusal
 pub exit_panic : {T : Type 0} (r : Result T Fault) (p : Panic) → IsErrAnd r (λ g. g ≡ fault.Panic p) → p ≢ NoRoom → IfErr r (λ g. g ≢ fault.Panic NoRoom)
@@ -134,9 +132,7 @@ at_once_other input e p refused h is = search (rules, first_other)
 -- no graph was made of it
 pub at_once_unmade : {T : Type 0} (input : List ℕ) (e : Expr) (g : GraphData) (r : Result T Fault) → ((code : Panic) → IsRefusedFirst input (expression_of e) code → Ok g ≡ Err code)
     → IsRefusedAtOnce (expression_of e) → IfErr r (λ f. f ≢ fault.Panic NoRoom)
-at_once_unmade input e g r made h =
-    let none = made h.code (h.refused input) in
-    absurd cc
+at_once_unmade input e g r made h = search rules
 
 -- ---- runs
 

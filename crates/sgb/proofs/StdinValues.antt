@@ -28,7 +28,6 @@ use Rattle.sgb_ops.specs.declared.entries.Entry.TheVariants as entry
 use Rattle.sgb_expr.specs.declared.expressions.Expr.{Expr}
 use Rattle.sgb_expr.specs.declared.expressions.Expr.TheVariants as expr
 use Rattle.sgb_expr.specs.declared.expressions.Generator.{Generator}
-use Rattle.sgb_requests.specs.declared.requests.Resume.{Resume}
 use Rattle.sgb_requests.specs.declared.requests.Request.{Request}
 use Rattle.sgb_requests.specs.declared.requests.Request.TheVariants as request
 

@@ -1,4 +1,4 @@
-use Rattle.std.proofs.Common.{refl}
+use Rattle.std.proofs.Common.{rules, refl}
 use Rattle.std.proofs.lemmas.Result.{err_from_is_err_and}
 use Rattle.sgb.proofs.CertainAnswers.{exit_certain, write_certain}
 use Rattle.sgb.proofs.Endings.{flush_ended}
@@ -30,9 +30,7 @@ returns-clause-ended g c =
     )
 
 pub returns-in_err-input-clause-certain : goal.returns-in_err-input-clause-certain
-returns-in_err-input-clause-certain g c = λ unread needs.
-    let none = c.in_err-input.ensures.none unread in
-    absurd cc
+returns-in_err-input-clause-certain g c = search rules
 
 pub returns-in_err-write-clause-certain : goal.returns-in_err-write-clause-certain
 returns-in_err-write-clause-certain g c = λ unread needs. exit_certain _ _ c.from_residual-in_err-write.ensures.1 (c.in_err-write.ensures.memory needs)

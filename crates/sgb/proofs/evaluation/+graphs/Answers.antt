@@ -68,16 +68,10 @@ at_numbers : (make : ℤ → ℤ → Result Description Panic) (m n m' n' : ℤ)
 at_numbers make m n m' n' r e f is = subst (λ k. IsAnswerOf (make m k) r) f (subst (λ k. IsAnswerOf (make k n') r) e is)
 
 pub evaluate-returns-in-BiComplete-clause-value : goal.evaluate-returns-in-BiComplete-clause-value
-evaluate-returns-in-BiComplete-clause-value t c =
-    let a = c.in-BiComplete in
-    rw a.is (λ stdin gives. value_made (bi_complete_of a.n1 a.n2 a.directed) c.bi_complete.result
-    (at_numbers (λ n1 n2. bi_complete_of n1 n2 a.directed) a.n1 a.n2 _ _ c.bi_complete.result (to_z-of_z w64 a.n1 (search rules)) (to_z-of_z w64 a.n2 (search rules)) c.bi_complete.ensures.answer))
+evaluate-returns-in-BiComplete-clause-value t c = search (rules, value_made, bi_complete_of, at_numbers, to_z-of_z)
 
 pub evaluate-returns-in-Wheel-clause-value : goal.evaluate-returns-in-Wheel-clause-value
-evaluate-returns-in-Wheel-clause-value t c =
-    let a = c.in-Wheel in
-    rw a.is (λ stdin gives. value_made (wheel_of a.n a.n1 a.directed) c.wheel.result
-    (at_numbers (λ n n1. wheel_of n n1 a.directed) a.n a.n1 _ _ c.wheel.result (to_z-of_z w64 a.n (search rules)) (to_z-of_z w64 a.n1 (search rules)) c.wheel.ensures.answer))
+evaluate-returns-in-Wheel-clause-value t c = search (rules, value_made, wheel_of, at_numbers, to_z-of_z)
 
 pub evaluate-returns-in-Stdin-clause-value : goal.evaluate-returns-in-Stdin-clause-value
 evaluate-returns-in-Stdin-clause-value t c =
@@ -144,25 +138,17 @@ evaluate-returns-in_err-list-in-Induced-clause-refused t c =
     rw c.in-Induced.is (made_first c.args.input.now c.deref-in-Induced.result.now c.in-Induced.graph.value _ _ c.deref-in-Induced.ensures c.in_ok-operand-in-Induced.ensures.refused)
 
 pub evaluate-returns-in-BiComplete-clause-refused : goal.evaluate-returns-in-BiComplete-clause-refused
-evaluate-returns-in-BiComplete-clause-refused t c =
-    let a = c.in-BiComplete in
-    rw a.is (numbers_refused (λ n1 n2 p. accepted_parts n1 n2 ≡ Err p) a.n1 a.n2 _ _ c.bi_complete.result (to_z-of_z w64 a.n1 (search rules)) (to_z-of_z w64 a.n2 (search rules)) c.bi_complete.ensures.refused)
+evaluate-returns-in-BiComplete-clause-refused t c = search (rules, numbers_refused, accepted_parts, to_z-of_z)
 
 pub evaluate-returns-in-Wheel-clause-refused : goal.evaluate-returns-in-Wheel-clause-refused
-evaluate-returns-in-Wheel-clause-refused t c =
-    let a = c.in-Wheel in
-    rw a.is (numbers_refused (λ n n1 p. accepted_middle n1 ≡ Err p) a.n a.n1 a.n _ c.wheel.result refl (to_z-of_z w64 a.n1 (search rules)) c.wheel.ensures.refused)
+evaluate-returns-in-Wheel-clause-refused t c = search (rules, numbers_refused, accepted_middle, to_z-of_z)
 
 pub evaluate-returns-in-Stdin-clause-refused : goal.evaluate-returns-in-Stdin-clause-refused
 evaluate-returns-in-Stdin-clause-refused t c =
     rw c.in-Stdin.is c.read_kept.ensures.refused
 
 pub evaluate-values_of-requires : goal.evaluate-values_of-requires
-evaluate-values_of-requires t c =
-    let a = c.in-Induced in
-    let size = induced_size c.args.expression.now a.graph a.entries a.self_loops a.multi a.directed a.is in
-    let same = ap (λ es. size_of_entries (entries_of (listed es))) c.as_slice-entries.ensures in
-    (omega (arith, size, same, c.decreases), tt)
+evaluate-values_of-requires t c = search (rules, induced_size, size_of_entries, entries_of, listed)
 
 pub evaluate-returns-in_err-values-in-Induced-clause-value : goal.evaluate-returns-in_err-values-in-Induced-clause-value
 evaluate-returns-in_err-values-in-Induced-clause-value t c = λ stdin gives.

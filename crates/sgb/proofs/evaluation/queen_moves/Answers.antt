@@ -1,4 +1,4 @@
-use Rattle.std.proofs.Common.{◌≡◌, Result, Ok, Err, subst, neg_ℤ, pos, false}
+use Rattle.std.proofs.Common.{rules, ◌≡◌, Result, subst, neg_ℤ, pos, false}
 use Rattle.std.proofs.lemmas.Result.{err_from_is_err_and}
 use Rattle.sgb_vec.specs.Results.{IsValue}
 use Rattle.sgb_vec.specs.declared.panics.Panic.{Panic}
@@ -17,9 +17,7 @@ moves_made e f r same is = value_made (generator_value f) r (subst (λ (x : Gene
 
 pub returns-in_err-rooks : goal.returns-in_err-rooks
 unfolding queen_moves
-returns-in_err-rooks c =
-    let returned = err_from_is_err_and c.from_residual.result c.from_residual.ensures.1 in
-    rw (returned.1, returned.2) (first_refused (made (generator_value (moves_of (neg_ℤ (pos 1))))) _ _ _ (moves_made _ _ _ c.moves_of.ensures c.in_err-rooks.ensures.answer))
+returns-in_err-rooks c = search (rules, err_from_is_err_and, first_refused, made, generator_value, moves_of, neg_ℤ, moves_made)
 
 pub returns : goal.returns
 unfolding queen_moves

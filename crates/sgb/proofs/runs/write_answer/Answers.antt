@@ -1,6 +1,4 @@
-use Rattle.std.proofs.Common.{Ok, ap}
-use Rattle.std.specs.Prelude.{◌++◌, Err}
-use Rattle.sgb_vec.specs.declared.panics.Panic.TheVariants.{Early}
+use Rattle.std.proofs.Common.{rules, ap}
 use Rattle.sgb_graph.specs.Vertices.{names_of}
 use Rattle.sgb_file.specs.Saving.{text_of_graph}
 use Rattle.sgb_requests.specs.declared.requests.Request.{Request}
@@ -24,21 +22,10 @@ returns-in-List-clause-ended g c =
     (answer_from value (λ h. list_answer h a.resume), made_answered c.args.request.now a.expression c.args.input.items value _ (λ stdin. ap (λ (r : Request). answer_of r stdin) a.is) on, ended)
 
 pub returns-in-Save-clause-ended : goal.returns-in-Save-clause-ended
-returns-in-Save-clause-ended g c =
-    let a = c.in-Save in
-    let (value, on, ended) = c.answer_save.ensures.ended in
-    (answer_from value (λ h. Ok (text_of_graph h)), made_answered c.args.request.now a.expression c.args.input.items value _ (λ stdin. ap (λ (r : Request). answer_of r stdin) a.is) on, ended)
+returns-in-Save-clause-ended g c = search (rules, answer_from, text_of_graph, made_answered, answer_of)
 
 pub returns-in-Queen-clause-ended : goal.returns-in-Queen-clause-ended
-returns-in-Queen-clause-ended g c = (
-  answer_from (value_of (Err Early) queen_moves) (λ h. Ok (queen_title ++ (head h ++ blocks h 0))),
-  plain_answered c.args.request.now c.args.input.items _ (λ stdin. ap (λ (r : Request). answer_of r stdin) c.in-Queen.is),
-  c.answer_queen.ensures,
-)
+returns-in-Queen-clause-ended g c = search (rules, answer_from, value_of, queen_moves, queen_title, head, blocks, plain_answered, answer_of)
 
 pub returns-in-Flip-clause-ended : goal.returns-in-Flip-clause-ended
-returns-in-Flip-clause-ended g c = (
-  flip_answer c.in-Flip.params,
-  plain_answered c.args.request.now c.args.input.items _ (λ stdin. ap (λ (r : Request). answer_of r stdin) c.in-Flip.is),
-  c.write_flip.ensures.ended,
-)
+returns-in-Flip-clause-ended g c = search (rules, flip_answer, plain_answered, answer_of)

@@ -1,4 +1,4 @@
-use Rattle.std.proofs.Common.{◌≡◌, ◌≤◌, ◌∙◌, ◌+◌, ◌++◌, List, ℕ, ap, drop, length, option_map, arith, refl, rules, subst}
+use Rattle.std.proofs.Common.{◌≡◌, ◌∙◌, ◌++◌, List, ℕ, ap, drop, option_map, refl, rules, subst}
 use Rattle.std.specs.Io.KnownBytes.{Appends}
 use Rattle.sgb_vec.specs.Lexicographic.{IsRising}
 use Rattle.sgb_gen.specs.VectorGraphs.{described_by}
@@ -11,9 +11,7 @@ use Rattle.sgb.proofs.LocalListings.{blocks_of_rest}
 use Rattle.sgb.proofs.writing.families.list_vectors.Goals as goal
 
 pub push_head_if-requires : goal.push_head_if-requires
-push_head_if-requires g c =
-    let room : length c.new-page.result + most_line_bytes ≤ page_bytes = omega (arith, ap length c.new-page.ensures) in
-    search rules
+push_head_if-requires g c = search (rules, most_line_bytes, page_bytes)
 
 pub returns-in_err-push_head_if-clause-written : goal.returns-in_err-push_head_if-clause-written
 returns-in_err-push_head_if-clause-written g c = exit_unwritten _ _ _ _ _ c.from_residual.ensures.1 c.in_err-push_head_if.ensures.memory c.requires.sound

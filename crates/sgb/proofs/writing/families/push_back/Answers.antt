@@ -1,4 +1,4 @@
-use Rattle.std.proofs.Common.{arith}
+use Rattle.std.proofs.Common.{rules, arith}
 use Rattle.std.specs.List.{flat_map}
 use Rattle.sgb_gen.specs.Runs.{arc_along, arcs_along}
 use Rattle.sgb.specs.inner.Locals.{local_line}
@@ -25,7 +25,4 @@ loop-shorter-preserved g c =
     (paged_more _ _ _ _ _ _ _ _ _ _ first c.loop-shorter.invariant.0 c.in_ok-push_moved_arc.ensures.output, c.in_ok-push_moved_arc.ensures.sound)
 
 pub returns : goal.returns
-returns g c =
-    let r = c.args.runs.now in
-    let none = shortest-none (arc_along r.sizes r.wrap c.args.name.now c.args.parts.now) c.args.farthest c.loop-shorter.shorter (omega arith) in
-    record { output = paged_all _ _ _ _ _ _ none c.loop-shorter.invariant.0; sound = c.loop-shorter.invariant.1 }
+returns g c = search (rules, shortest-none, arc_along, paged_all)

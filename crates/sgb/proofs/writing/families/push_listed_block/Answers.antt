@@ -1,4 +1,4 @@
-use Rattle.std.proofs.Common.{◌∙◌, length, Some, sym, ap, arith}
+use Rattle.std.proofs.Common.{rules, ◌∙◌, length, Some, sym, ap, arith}
 use Rattle.sgb.specs.inner.Locals.{local_block}
 use Rattle.sgb.proofs.LocalListings.{lines-first, tip_width}
 use Rattle.sgb.proofs.RunLines.{parts-named}
@@ -16,11 +16,7 @@ returns-in_err-push_line-clause-paged g c =
     (paged_cut _ _ _ _ _ _ _ _ _ _ _ parts (paged_none _ c.args.page.now _) c.in_err-push_line.ensures.paged)
 
 pub loop-i-init : goal.loop-i-init
-loop-i-init g c =
-    let parts = parts-named (g.L.Listed.graph c.args.listed.now) c.args.x.now c.args.name.now c.arcs_at.new.links.arcs c.in_ok-arcs_at.ensures.ok c.requires.named in (
-      paged_more _ _ _ _ _ _ _ _ _ _ parts (paged_none _ c.args.page.now _) c.in_ok-push_line.ensures.paged.output,
-      c.in_ok-push_line.ensures.paged.sound,
-    )
+loop-i-init g c = search (rules, parts-named, paged_more, paged_none)
 
 -- the arc that is written leads to a vector as wide as x
 pub push_arc-requires-clause-width : goal.push_arc-requires-clause-width

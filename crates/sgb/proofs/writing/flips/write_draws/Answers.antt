@@ -43,8 +43,4 @@ loop-number-preserved g c =
     ((next.0, next.1, paged_more _ _ _ _ [] _ _ _ _ _ first stands.2 c.in_ok-push_number_line.ensures.paged.output), c.in_ok-push_number_line.ensures.paged.sound)
 
 pub returns-clause-written : goal.returns-clause-written
-returns-clause-written g c =
-    let draws = c.args.draws in
-    let stands = c.loop-number.invariant.0 in
-    let none : draws.count - c.loop-number._number ≡ 0 = omega (arith, c.loop-number-test.false) in
-    written_held _ _ _ _ _ _ _ (paged_all _ _ [] _ _ _ (lines_none (seed_of draws.start) draws.m stands.0 _ none) stands.2) c.put_page.ensures.written
+returns-clause-written g c = search (rules, written_held, paged_all, lines_none, seed_of)

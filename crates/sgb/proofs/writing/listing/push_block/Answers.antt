@@ -1,4 +1,4 @@
-use Rattle.std.proofs.Common.{◌≡◌, ◌<◌, ◌∙◌, List, [], Option, None, refl, sym, ap, subst, map, length}
+use Rattle.std.proofs.Common.{rules, ◌≡◌, ◌<◌, List, [], Option, None, refl, ap, subst, map, length}
 use Rattle.std.specs.Iterator.{YieldsFirst}
 use Rattle.std.specs.List.{All, flat_map}
 use Rattle.std.proofs.lemmas.List.Elements.{All-tail}
@@ -19,13 +19,7 @@ returns-in_err-push_name_line g c =
     exit_paged c.args.page.now (block c.args.graph.now c.args.v) _ _ _ _ c.from_residual.ensures.1 (paged_cut _ _ _ _ _ _ _ _ _ _ _ parts (paged_none _ c.args.page.now _) c.in_err-push_name_line.ensures)
 
 pub loop-link-init : goal.loop-link-init
-loop-link-init g c =
-    let links = c.into_iter-link-iterator.ensures.into_iter_gives in
-    let parts = block-parts c.args.graph.now c.args.v _ (sym (links ∙ c.arcs-link-items.ensures.chain)) in (
-      paged_more _ _ _ _ _ _ _ _ _ _ parts (paged_none _ c.args.page.now _) c.in_ok-push_name_line.ensures.output,
-      subst (All (λ link. link.tip < length c.args.graph.now.vertices)) (sym links) c.arcs-link-items.ensures.tips,
-      c.in_ok-push_name_line.ensures.sound,
-    )
+loop-link-init g c = search (rules, block-parts, paged_more, paged_none, All)
 
 pub returns-in_err-push_arc : goal.returns-in_err-push_arc
 returns-in_err-push_arc g c =
@@ -45,7 +39,4 @@ loop-link-preserved g c =
     )
 
 pub returns : goal.returns
-returns g c =
-    let names = map (λ v. v.name) c.args.graph.now.vertices in
-    let none = step_none c.loop-link.link-iterator c.next.new.self c.next.result c.in-None.is c.next.ensures.steps in
-    record { output = paged_all _ _ _ _ _ _ (ap (flat_map (arc_line names)) none) c.loop-link.invariant.0; sound = c.loop-link.invariant.2 }
+returns g c = search (rules, step_none, paged_all, flat_map, arc_line)

@@ -1,4 +1,4 @@
-use Rattle.std.proofs.Common.{◌≡◌, ◌≤◌, ◌<◌, ◌∙◌, min, sym, ap, length, arith}
+use Rattle.std.proofs.Common.{rules, ◌≡◌, ◌<◌, ◌∙◌, min, sym, ap, length, arith}
 use Rattle.std.proofs.lemmas.List.{length-map}
 use Rattle.sgb_graph.specs.Vertices.{names_of}
 use Rattle.sgb.specs.Texts.{blocks}
@@ -28,7 +28,4 @@ loop-v-preserved g c =
     (paged_more _ _ _ _ _ _ _ _ _ _ (blocks-first graph c.loop-v.v within) c.loop-v.invariant.0 c.in_ok-push_block.ensures.output, c.in_ok-push_block.ensures.sound)
 
 pub returns : goal.returns
-returns g c =
-    let graph = c.args.graph.now in
-    let past : length (names_of graph) ≤ c.loop-v.v = omega (arith, length-map c.args.graph.now.vertices (λ v. v.name), c.n-end.ensures.count) in
-    written_held _ _ _ _ _ _ _ (paged_all _ _ _ _ _ _ (blocks-none graph c.loop-v.v past) c.loop-v.invariant.0) c.put_page.ensures.written
+returns g c = search (rules, names_of, length-map, written_held, paged_all, blocks-none)

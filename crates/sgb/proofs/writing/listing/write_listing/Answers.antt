@@ -1,4 +1,4 @@
-use Rattle.std.proofs.Common.{◌≡◌, ◌∙◌, ◌++◌, List, ℕ, refl, sym, ap, length, arith}
+use Rattle.std.proofs.Common.{rules, ◌≡◌, ◌∙◌, ◌++◌, List, ℕ, sym, ap, length, arith}
 use Rattle.sgb_graph.specs.Vertices.{names_of}
 use Rattle.sgb.specs.Outcomes.{head_for, left_out}
 use Rattle.sgb.specs.Texts.{blocks, head}
@@ -7,10 +7,7 @@ use Rattle.sgb.proofs.Endings.{ended_after, exit_ended, refused_after}
 use Rattle.sgb.proofs.writing.listing.write_listing.Goals as goal
 
 pub returns-in_err-from-clause-ended : goal.returns-in_err-from-clause-ended
-returns-in_err-from-clause-ended g c =
-    let graph = c.args.graph.now in
-    let text = λ (k : ℕ). head_for c.args.resume.now (head graph) ++ blocks graph k in
-    exit_ended _ _ _ _ _ c.from_residual.ensures.1 (refused_after _ (left_out (names_of graph) c.args.resume.now) text _ _ _ _ c.in_err-from.ensures c.requires refl)
+returns-in_err-from-clause-ended g c = search (rules, head_for, head, blocks, exit_ended, refused_after, left_out, names_of)
 
 pub returns-clause-ended : goal.returns-clause-ended
 returns-clause-ended g c =

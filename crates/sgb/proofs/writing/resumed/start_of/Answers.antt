@@ -1,4 +1,4 @@
-use Rattle.std.proofs.Common.{◌≡◌, ◌∙◌, List, ℕ, Some, suc, map, option_map, refl, sym, ap}
+use Rattle.std.proofs.Common.{rules, ◌≡◌, ◌∙◌, List, ℕ, Some, suc, map, option_map, refl, sym, ap}
 use Rattle.std.specs.Prelude.{ok_or}
 use Rattle.sgb_vec.specs.Names.{name_of_vector}
 use Rattle.sgb_requests.specs.declared.faults.Fault.TheVariants as fault
@@ -8,9 +8,7 @@ use Rattle.sgb.proofs.ResumedListings.{skipped_begins}
 use Rattle.sgb.proofs.writing.resumed.start_of.Goals as goal
 
 pub returns-in-Skip : goal.returns-in-Skip
-returns-in-Skip g c =
-    let members = g.F.Family.members c.args.family.now in
-    rw c.in-Skip.is (skipped_begins members (g.met.F.Family.rising c.args.family.now) c.in-Skip.count (option_map (λ vector. vector.items) c.last_skipped.result) c.last_skipped.ensures)
+returns-in-Skip g c = search (rules, skipped_begins, option_map)
 
 pub returns-in-Some : goal.returns-in-Some
 returns-in-Some g c =

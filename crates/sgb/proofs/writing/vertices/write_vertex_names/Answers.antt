@@ -1,4 +1,4 @@
-use Rattle.std.proofs.Common.{refl}
+use Rattle.std.proofs.Common.{rules}
 use Rattle.sgb_graph.specs.Vertices.{names_of}
 use Rattle.sgb.specs.Outcomes.{left_out}
 use Rattle.sgb.specs.Texts.{name_lines}
@@ -7,14 +7,10 @@ use Rattle.sgb.proofs.Endings.{ended_after, exit_ended, refused_after}
 use Rattle.sgb.proofs.writing.vertices.write_vertex_names.Goals as goal
 
 pub returns-in_err-from-clause-ended : goal.returns-in_err-from-clause-ended
-returns-in_err-from-clause-ended g c =
-    let names = names_of c.args.graph.now in
-    exit_ended _ _ _ _ _ c.from_residual.ensures.1 (refused_after _ (left_out names c.args.resume.now) (name_lines names) _ _ _ _ c.in_err-from.ensures c.requires refl)
+returns-in_err-from-clause-ended g c = search (rules, names_of, exit_ended, refused_after, left_out, name_lines)
 
 pub returns-clause-ended : goal.returns-clause-ended
-returns-clause-ended g c =
-    let names = names_of c.args.graph.now in
-    ended_after (left_out names c.args.resume.now) _ (name_lines names) _ _ _ c.in_ok-from.ensures c.write_name_lines.ensures
+returns-clause-ended g c = search (rules, names_of, ended_after, left_out, name_lines)
 
 pub returns-in_err-from-clause-nowhere : goal.returns-in_err-from-clause-nowhere
 returns-in_err-from-clause-nowhere g c = exit_nowhere _ (left_out (names_of c.args.graph.now) c.args.resume.now) _ c.from_residual.ensures.1 c.in_err-from.ensures

@@ -1,12 +1,10 @@
-use Rattle.std.proofs.Common.{length, nat_lt, ap, arith}
+use Rattle.std.proofs.Common.{rules, length, nat_lt, ap, arith}
 use Rattle.sgb.proofs.KeptNames.{kept-more}
 use Rattle.sgb_vec.proofs.VectorNames.{length-name_of_vector-le}
 use Rattle.sgb.proofs.writing.kept_names.KeptName.push.Goals as goal
 
 pub push_entry-requires : goal.push_entry-requires
-push_entry-requires c =
-    let kept = c.self.invariant in
-    omega (arith, c.requires, ap length kept.name, length-name_of_vector-le c.self.inside.vector.items kept.small, ap length c.self.view_is)
+push_entry-requires c = search (rules, length-name_of_vector-le)
 
 pub invariant_of-self : goal.invariant_of-self
 invariant_of-self c =

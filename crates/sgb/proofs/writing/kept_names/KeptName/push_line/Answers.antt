@@ -1,4 +1,4 @@
-use Rattle.std.proofs.Common.{◌≡◌, ◌∙◌, ◌++◌, List, ℕ, [], ◌∷◌, length, ap, append_assoc, arith}
+use Rattle.std.proofs.Common.{rules, ◌≡◌, ◌∙◌, ◌++◌, List, ℕ, [], ◌∷◌, ap, append_assoc}
 use Rattle.sgb_vec.specs.Names.{name_of_vector}
 use Rattle.sgb.specs.Texts.{name_line}
 use Rattle.sgb.proofs.CutOff.{exit_write}
@@ -7,14 +7,10 @@ use Rattle.sgb.proofs.Pages.{exit_untaken, held_line}
 use Rattle.sgb.proofs.writing.kept_names.KeptName.push_line.Goals as goal
 
 pub push_text-requires : goal.push_text-requires
-push_text-requires g c =
-    let kept = c.self.invariant in
-    omega (arith, ap length c.bytes.ensures, ap length kept.name, length-name_of_vector-le c.self.inside.vector.items kept.small, kept.few)
+push_text-requires g c = search (rules, length-name_of_vector-le)
 
 pub push_text-requires-2 : goal.push_text-requires-2
-push_text-requires-2 g c =
-    let kept = c.self.invariant in
-    omega (arith, ap length c.bytes.ensures, ap length kept.name, length-name_of_vector-le c.self.inside.vector.items kept.small, kept.few)
+push_text-requires-2 g c = search (rules, length-name_of_vector-le)
 
 pub returns-in_err-make_room : goal.returns-in_err-make_room
 returns-in_err-make_room g c = record {

@@ -1,15 +1,11 @@
-use Rattle.std.proofs.Common.{◌≡◌, ◌<◌, ◌^◌, ◌∙◌, All, get_or, length, ap, subst, arith}
+use Rattle.std.proofs.Common.{rules, ◌≡◌, ◌<◌, ◌∙◌, get_or, ap, arith}
 use Rattle.sgb_vec.specs.Names.{name_of_vector}
 use Rattle.sgb_vec.proofs.VectorNames.{length-name_of_vector-le}
 use Rattle.sgb.proofs.WrittenDigits.{digit-end, turned-digit, turned-same, turned-two, two-end}
 use Rattle.sgb.proofs.writing.kept_names.KeptName.push_with_digits.Goals as goal
 
 pub push_start_of-requires : goal.push_start_of-requires
-push_start_of-requires c =
-    let v = c.args.self.now in
-    let name : c.self.inside.text ≡ name_of_vector v = c.self.invariant.name ∙ ap name_of_vector c.self.view_is in
-    let small : All (λ n. n < 2 ^ 32) v = subst (All (λ n. n < 2 ^ 32)) c.self.view_is c.self.invariant.small in
-    (omega arith, (omega arith, (omega (arith, c.len.ensures.value), omega (arith, c.len.ensures.value, ap length name, length-name_of_vector-le v small, c.requires.room))))
+push_start_of-requires c = search (rules, name_of_vector, length-name_of_vector-le)
 
 pub loop-k-preserved-then-entry-vector : goal.loop-k-preserved-then-entry-vector
 loop-k-preserved-then-entry-vector c =
@@ -77,7 +73,4 @@ loop-k-preserved c =
     c.len-start.ensures.value c.end_of.ensures.value c.put_two_digits.ensures
 
 pub returns-clause-short : goal.returns-clause-short
-returns-clause-short c =
-    let v = c.args.self.now in
-    let small : All (λ n. n < 2 ^ 32) v = subst (All (λ n. n < 2 ^ 32)) c.self.view_is c.self.invariant.small in
-    omega (arith, c.loop-k.invariant.size, length-name_of_vector-le v small)
+returns-clause-short c = search (rules, length-name_of_vector-le)
