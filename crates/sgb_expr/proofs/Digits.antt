@@ -7,7 +7,7 @@ use Rattle.std.specs.Str.Parse.{AllDigits, digits_value}
 use Rattle.std.proofs.Math.Seq.{drop-append_seam}
 use Rattle.std.proofs.lemmas.Bool.{cases_lt, lt-ltb, le-ltb}
 use Rattle.std.proofs.lemmas.List.{nil_from_length}
-use Rattle.sgb_expr.specs.Numbers.{IsNumber}
+use Rattle.sgb_text.specs.Numbers.{IsNumber}
 use Rattle.sgb_vec.specs.Digits.{leading_digits}
 use Rattle.sgb_vec.proofs.NamedNumbers.{first_byte}
 use Rattle.sgb_expr.specs.inner.Readings.{number_of_digits, number_at}

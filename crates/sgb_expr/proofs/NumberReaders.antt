@@ -2,7 +2,8 @@
 use Rattle.std.proofs.Common.{◌≡◌, ℕ, ℤ, pos, neg_ℤ, ◌<◌, ◌≤◌, List, [], ◌∷◌, ◌++◌, length, Some, Result, Ok, Err, codes, refl, sym, ◌∙◌, ap, subst, inl, inr, append_assoc, arith, length-append, lit<, lit≤, drop}
 use Rattle.std.specs.Char.{digit_value}
 use Rattle.std.specs.Str.Parse.{IsNumeral}
-use Rattle.sgb_expr.specs.Numbers.{IsNumber, IsInteger, IsBits, most_digits}
+use Rattle.sgb_text.specs.Numbers.{IsNumber}
+use Rattle.sgb_expr.specs.Numbers.{IsInteger, IsBits, most_digits}
 use Rattle.sgb_text.specs.Languages.{As}
 use Rattle.sgb_text.proofs.Readings.{◌>>=◌, fixed_at}
 use Rattle.sgb_expr.specs.inner.Readings.{most_hex_digits, number_at, signed_at, integer_at, bits_after, bits_at}

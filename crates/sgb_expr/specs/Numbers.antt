@@ -1,17 +1,11 @@
 -- The texts of numbers in expressions.
-use Rattle.std.specs.Prelude.{◌≡◌, ◌≤◌, ℕ, ℤ, pos, neg_ℤ, List, length, codes}
-use Rattle.std.specs.Str.Parse.{IsNumeral, digits_value}
+use Rattle.std.specs.Prelude.{ℕ, ℤ, pos, neg_ℤ, List, codes}
 use Rattle.sgb_text.specs.Languages.{After, As, Or}
+use Rattle.sgb_text.specs.Numbers.{IsNumber}
 
 -- a number has at most this many decimal digits
 abbrev pub most_digits : ℕ
 most_digits = 18
-
--- digits in the radix, one or more and at most so many, leading zeros allowed, that write the number
-pub record IsNumber (radix most : ℕ) (text : List ℕ) (number : ℕ) : Type 0 where
-  pub numeral : IsNumeral radix text
-  pub short : length text ≤ most
-  pub writes : number ≡ digits_value radix text
 
 -- an integer: an optional `-`, and 1 to 18 decimal digits
 abbrev pub IsInteger : List ℕ → ℤ → Type 0

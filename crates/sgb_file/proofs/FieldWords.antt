@@ -7,23 +7,24 @@ use Rattle.std.proofs.Common.{ap, sym, subst, ◌∙◌, arith, inl, inr}
 use Rattle.std.proofs.lemmas.Bool.{and_parts}
 use Rattle.std.proofs.lemmas.Bool.Decides.{nat_tests, Decides-eqb}
 use Rattle.std.proofs.lemmas.Slice.Eq.{bytes_eq-Decides}
+use Rattle.sgb_text.specs.Numbers.{IsNumber}
 use Rattle.sgb_text.proofs.Findings.{given, was_given, was_mapped, was_let_through, was_chosen, was_either}
 use Rattle.sgb_vec.specs.Names.{is_text_byte}
 use Rattle.sgb_graph.specs.declared.fields.Ref.{Ref}
 use Rattle.sgb_graph.specs.declared.fields.Ref.TheVariants.{Null, One, At}
-use Rattle.sgb_file.specs.Fields.{AreDigitsOf, IsIntegerText, IsNumberBelow, IsRecordNumberText, IsRefText, most_number_digits, unbroken}
+use Rattle.sgb_file.specs.Fields.{IsIntegerText, IsNumberBelow, IsRecordNumberText, IsRefText, most_number_digits, unbroken}
 use Rattle.sgb_file.specs.inner.FieldValues.{number_of, number_below, integer_of, most_integer_digits, ref_of, record_number_of, string_of}
 use Rattle.sgb_file.proofs.FieldReading.{digits_tested, integer_by_digits}
 use Rattle.sgb_file.proofs.NumberReading.{all_digits, at_most, number_says, number_tested, test_below}
 
 -- digits
-pub digits_found : (most : ℕ) (text : List ℕ) (n : ℕ) → number_of most text ≡ Some n → AreDigitsOf most text n
+pub digits_found : (most : ℕ) (text : List ℕ) (n : ℕ) → number_of most text ≡ Some n → IsNumber 10 most text n
 digits_found most text n e =
     let h = number_says most text n e in
-    ((h.some, all_digits text h.digits), h.short, sym h.value)
+    record { numeral = (h.some, all_digits text h.digits); short = h.short; writes = sym h.value }
 
-pub digits_again : (most : ℕ) (text : List ℕ) (n : ℕ) → AreDigitsOf most text n → number_of most text ≡ Some n
-digits_again most text n h = number_tested most text h.0.0 h.1 (digits_tested text h.0.1) ∙ ap Some (sym h.2)
+pub digits_again : (most : ℕ) (text : List ℕ) (n : ℕ) → IsNumber 10 most text n → number_of most text ≡ Some n
+digits_again most text n h = number_tested most text h.numeral.0 h.short (digits_tested text h.numeral.1) ∙ ap Some (sym h.writes)
 
 -- a number below a limit
 below_found : (limit : ℕ) (text : List ℕ) (k : ℕ) → number_below limit text ≡ Some k → IsNumberBelow limit text k
@@ -109,7 +110,7 @@ integer_found (b ∷ text) i e = elim (was_either (b == 45) e) [
 
 pub integer_again : (text : List ℕ) (i : ℤ) → IsIntegerText text i → integer_of text ≡ Some i
 integer_again text i (inl h, fits) =
-    integer_by_digits text h.0 (digits_again most_integer_digits text h.0 h.1) (digits_tested text h.1.0.1) (positive_passes h.0 (subst (λ j. FitsSigned w64 j) h.2 fits))
+    integer_by_digits text h.0 (digits_again most_integer_digits text h.0 h.1) (digits_tested text h.1.numeral.1) (positive_passes h.0 (subst (λ j. FitsSigned w64 j) h.2 fits))
     ∙ ap Some (sym h.2)
 integer_again text i (inr h, fits) =
     let small = negative_passes h.2.0 (subst (λ j. FitsSigned w64 j) h.2.2 fits) in

@@ -12,7 +12,8 @@ use Rattle.sgb_text.proofs.Findings.{Found, after_prefix, prefix_is, taken_and_l
 use Rattle.sgb_vec.specs.Limits.{most_vertices}
 use Rattle.sgb_graph.specs.declared.fields.Kind.{Kind}
 use Rattle.sgb_graph.specs.declared.fields.Kind.TheVariants.{Z, I, V, S, A}
-use Rattle.sgb_file.specs.Fields.{most_number_digits, AreDigitsOf}
+use Rattle.sgb_file.specs.Fields.{most_number_digits}
+use Rattle.sgb_text.specs.Numbers.{IsNumber}
 use Rattle.sgb_file.specs.inner.FieldValues.{is_decimal_digit, number_of}
 use Rattle.sgb_file.specs.inner.Heads.{Head, BeginsWithNoDigit, SaysHead}
 use Rattle.sgb_file.specs.inner.ReadFiles.{kind_of_letter, kinds_at, leading_number, head_of_line}
@@ -130,7 +131,7 @@ digits_end (b ∷ text) more h e =
     rw parts.0 (ap (λ k. 1 + k) (digits_end text more parts.1 e) ∙ omega arith)
 
 -- the number that a text begins with is read
-pub leading_says : (digits more : List ℕ) (k : ℕ) → AreDigitsOf most_number_digits digits k → BeginsWithNoDigit more → leading_number (digits ++ more) ≡ Some (record { value = k; rest = more })
+pub leading_says : (digits more : List ℕ) (k : ℕ) → IsNumber 10 most_number_digits digits k → BeginsWithNoDigit more → leading_number (digits ++ more) ≡ Some (record { value = k; rest = more })
 leading_says digits more k is none =
     let says = digits_again most_number_digits digits k is in
     search (rules, digits, digits_end, number_says, says, take-append_seam, drop-append_seam)

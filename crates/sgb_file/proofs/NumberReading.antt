@@ -61,13 +61,13 @@ pub test_below : (n limit : ℕ) → nat_lt n limit ≡ true → n < limit
 test_below n limit e = grind (arith, nat_tests)
 
 -- what the text of a number is
-pub record IsNumberText (most : ℕ) (text : List ℕ) (n : ℕ) : Type 0 where
+pub record SaysNumber (most : ℕ) (text : List ℕ) (n : ℕ) : Type 0 where
   pub some : 0 < length text
   pub short : length text ≤ most
   pub digits : list_all is_decimal_digit text ≡ true
   pub value : digits_value 10 text ≡ n
 
-pub number_says : (most : ℕ) (text : List ℕ) (n : ℕ) → number_of most text ≡ Some n → IsNumberText most text n
+pub number_says : (most : ℕ) (text : List ℕ) (n : ℕ) → number_of most text ≡ Some n → SaysNumber most text n
 number_says most text n e =
     let p = was_let_through (nat_lt 0 (length text) && nat_le (length text) most && list_all is_decimal_digit text) (digits_value 10 text) n e in
     let parts = and_parts (nat_lt 0 (length text) && nat_le (length text) most) (list_all is_decimal_digit text) p.0 in

@@ -2,8 +2,8 @@
 use Rattle.std.specs.Prelude.{◌≡◌, ◌≢◌, ℕ, ◌<◌, ◌≤◌, ℤ, pos, neg_ℤ, ◌&&◌, All, FitsSigned, IsTrue, List, [], ◌∷◌, length, codes, Option, Some, None, ◌==◌, if◌then◌else◌}
 use Rattle.std.specs.Int.{w64}
 use Rattle.std.specs.List.{list_all}
-use Rattle.std.specs.Str.Parse.{IsNumeral, digits_value}
 use Rattle.sgb_text.specs.Languages.{After, As, Fixed, Or}
+use Rattle.sgb_text.specs.Numbers.{IsNumber}
 use Rattle.sgb_vec.specs.Names.{is_text_byte}
 use Rattle.sgb_graph.specs.declared.fields.Ref.{Ref}
 use Rattle.sgb_graph.specs.declared.fields.Ref.TheVariants.{Null, One, At}
@@ -13,13 +13,9 @@ use Rattle.sgb_file.specs.Saving.{quoted}
 abbrev pub most_number_digits : ℕ
 most_number_digits = 18
 
--- a text of 1 to `most` decimal digits that write n; leading zeros are allowed
-abbrev pub AreDigitsOf : ℕ → List ℕ → ℕ → Type 0
-AreDigitsOf most text n = IsNumeral 10 text × (length text ≤ most) × (n ≡ digits_value 10 text)
-
 -- the text of a number of the file's own
 abbrev pub IsNumberText : List ℕ → ℕ → Type 0
-IsNumberText = AreDigitsOf most_number_digits
+IsNumberText = IsNumber 10 most_number_digits
 
 -- the same, where the number is below a limit
 abbrev pub IsNumberBelow : ℕ → List ℕ → ℕ → Type 0
@@ -28,7 +24,7 @@ IsNumberBelow limit text k = IsNumberText text k × (k < limit)
 -- the text of an integer of 64 bits: at most 20 digits, or a `-` and such digits
 abbrev pub IsIntegerText : List ℕ → ℤ → Type 0
 IsIntegerText text i =
-    Or (As pos (AreDigitsOf 20)) (After (codes "-") (As (λ n. neg_ℤ (pos n)) (AreDigitsOf 20))) text i × FitsSigned w64 i
+    Or (As pos (IsNumber 10 20)) (After (codes "-") (As (λ n. neg_ℤ (pos n)) (IsNumber 10 20))) text i × FitsSigned w64 i
 
 -- the text of one of n vertices: `V` and its number; or `0`, or `1`
 abbrev pub IsRefText : ℕ → List ℕ → Ref → Type 0

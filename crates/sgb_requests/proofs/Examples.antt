@@ -7,7 +7,8 @@ use Rattle.clap.specs.Words.{Text, fault_of}
 use Rattle.clap.specs.declared.error.kind.ErrorKind.TheVariants as kind
 use Rattle.sgb_requests.specs.CommandLine.{command_line}
 use Rattle.sgb_requests.specs.inner.CommandLine.{Asked, asked_of}
-use Rattle.sgb_expr.specs.Numbers.{IsNumber, most_digits}
+use Rattle.sgb_text.specs.Numbers.{IsNumber}
+use Rattle.sgb_expr.specs.Numbers.{most_digits}
 use Rattle.sgb_requests.specs.Reading.{IsFlipReadAs, IsReadAs}
 use Rattle.sgb_requests.specs.Requests.{IsCommandLineReadAs, IsRequest}
 use Rattle.sgb_expr.specs.declared.expressions.Expr.{Expr}

@@ -6,7 +6,8 @@ use Rattle.sgb_expr.specs.Expressions.{IsExpression}
 use Rattle.sgb_expr.proofs.WholeReading.{no_hyphen}
 use Rattle.sgb_expr.specs.declared.expressions.Expr.{Expr}
 use Rattle.sgb_expr.specs.declared.flips.FlipParams.{FlipParams}
-use Rattle.sgb_expr.specs.Numbers.{IsNumber, most_digits}
+use Rattle.sgb_text.specs.Numbers.{IsNumber}
+use Rattle.sgb_expr.specs.Numbers.{most_digits}
 use Rattle.sgb_requests.specs.PlainWords.{IsPlain}
 use Rattle.sgb_requests.specs.Reading.{IsFlipReadAs, IsReadAs}
 

@@ -1,7 +1,8 @@
 -- The plain forms of words, and what each is read as. Who uses these forms needs nothing of what clap takes: the law
 -- `plain_words_law` says that the words are read so, and not otherwise.
 use Rattle.std.specs.Prelude.{◌≡◌, ◌≢◌, ◌⊎◌, ℕ, List, [], ◌∷◌, Result, Ok, Err, codes, slice_index}
-use Rattle.sgb_expr.specs.Numbers.{IsNumber, most_digits}
+use Rattle.sgb_text.specs.Numbers.{IsNumber}
+use Rattle.sgb_expr.specs.Numbers.{most_digits}
 use Rattle.sgb_requests.specs.Reading.{IsFlipReadAs, IsReadAs}
 use Rattle.sgb_vec.specs.declared.panics.Panic.TheVariants.{NoRoom}
 use Rattle.sgb_expr.specs.declared.expressions.Expr.{Expr}

@@ -1,7 +1,8 @@
 -- The requests that the words of a command line make.
 use Rattle.std.specs.Prelude.{◌≡◌, ◌≢◌, ◌⊎◌, List, [], Option, Some, None, Result, Ok, Err, codes}
 use Rattle.clap.specs.Words.{Row, Text, fault_of, first_of, subcommand_of}
-use Rattle.sgb_expr.specs.Numbers.{IsNumber, most_digits}
+use Rattle.sgb_text.specs.Numbers.{IsNumber}
+use Rattle.sgb_expr.specs.Numbers.{most_digits}
 use Rattle.sgb_requests.specs.CommandLine.{Asks, Enters, command_line}
 use Rattle.sgb_requests.specs.Reading.{IsFlipReadAs, IsReadAs}
 use Rattle.sgb_vec.specs.declared.panics.Panic.TheVariants.{NoRoom}

@@ -2,7 +2,8 @@
 ghost use Rattle.std.specs.Prelude.{◌≡◌, MatchOption, MatchResult, ℕ, map};
 ghost use Rattle.std.specs.String.{string_bytes};
 ghost use Rattle.sgb_requests.specs.inner.CommandLine.{bytes_of};
-ghost use Rattle.sgb_expr.specs.Numbers.{IsNumber, most_digits};
+ghost use Rattle.sgb_text.specs.Numbers.{IsNumber};
+ghost use Rattle.sgb_expr.specs.Numbers.{most_digits};
 ghost use Rattle.sgb_requests.specs.Requests.{IsCommandLineReadAs, IsResumeOf};
 ghost use Rattle.sgb_requests.specs.inner.Requests.{AreReadAs, AreRefused, IsResumeFault};
 

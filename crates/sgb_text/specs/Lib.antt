@@ -1,3 +1,5 @@
 -- What contracts say of texts, whatever they name.
 -- texts that are words of values; words one after another; where a text goes wrong
 pub mod Languages
+-- texts of numbers
+pub mod Numbers

@@ -1,5 +1,6 @@
 use Rattle.std.proofs.Common.{◌≢◌, ◌≤◌, length, get_or, MatchOption, subst, sym, rules, arith, Option, ℕ}
-use Rattle.sgb_expr.specs.Numbers.{IsNumber, most_digits}
+use Rattle.sgb_text.specs.Numbers.{IsNumber}
+use Rattle.sgb_expr.specs.Numbers.{most_digits}
 use Rattle.sgb_requests.proofs.Counts.{count_read}
 use Rattle.sgb_requests.proofs.command_line.count_of.Goals as goal
 
