@@ -34,17 +34,11 @@ has_great_size-push s n h small = grind (arith, list_any-append, nat_tests)
 
 -- few dimensions, with a size too great
 pub board_by_stop-great : (entries : List ℤ) (s : List ℕ) (e : ℤ) → 0 < length s → count_by_stop 0 s e ≤ most_dimensions → has_great_size (repeated s (count_by_stop 0 s e)) ≡ true → board_by_stop entries s e ≡ Err VeryBad
-board_by_stop-great entries [] e some few great = absurd (omega arith)
-board_by_stop-great entries (x ∷ s) e some few great =
-    let t : nat_lt most_dimensions (count_by_stop 0 (x ∷ s) e) ≡ false = grind (arith, nat_tests) in
-    rw (t, great) refl
+board_by_stop-great entries s e some few great = grind arith
 
 -- few dimensions, with no size too great
 pub board_by_stop-fits : (entries : List ℤ) (s : List ℕ) (e : ℤ) → 0 < length s → count_by_stop 0 s e ≤ most_dimensions → has_great_size (repeated s (count_by_stop 0 s e)) ≡ false → board_by_stop entries s e ≡ Ok (record { params = zero_after_stop entries; sizes = repeated s (count_by_stop 0 s e) })
-board_by_stop-fits entries [] e some few small = absurd (omega arith)
-board_by_stop-fits entries (x ∷ s) e some few small =
-    let t : nat_lt most_dimensions (count_by_stop 0 (x ∷ s) e) ≡ false = grind (arith, nat_tests) in
-    rw (t, small) refl
+board_by_stop-fits entries s e some few small = grind arith
 
 -- 8 and 8 with zeros after them are the chessboard
 pub chessboard_by_stop : board_by_stop (pos 8 ∷ pos 8 ∷ pos 0 ∷ pos 0 ∷ []) (8 ∷ 8 ∷ []) (pos 0) ≡ Ok chessboard

@@ -1,8 +1,8 @@
 -- The vector at a place of a box: the digits of the place in mixed radix.
-use Rattle.std.proofs.Common.{◌≡◌, ℕ, zero, suc, ◌+◌, ◌*◌, ◌/◌, ◌%◌, ◌<◌, ◌≤◌, List, [], ◌∷◌, length, get_or, drop, set, Some, refl, sym, ap, subst, ◌∙◌, arith}
+use Rattle.std.proofs.Common.{◌≡◌, ℕ, zero, suc, ◌+◌, ◌*◌, ◌/◌, ◌%◌, ◌<◌, ◌≤◌, List, [], ◌∷◌, length, get_or, drop, set, Some, refl, sym, ap, subst, ◌∙◌, arith, rules}
 use Rattle.std.specs.List.{slice_get}
 use Rattle.std.proofs.lemmas.List.{at_drop_more, drop_all, drop-set}
-use Rattle.std.proofs.lemmas.Nat.{div-add-mod', mod_below}
+use Rattle.std.proofs.lemmas.Nat.{mod_below}
 use Rattle.sgb_vec.specs.Boxes.{box, product_of}
 use Rattle.sgb_vec.specs.Lexicographic.{IsBelow}
 use Rattle.sgb_vec.proofs.BoxPlaces.{place_of, slice_get-place_of}
@@ -22,9 +22,8 @@ size-pos (s ∷ sizes) (suc k) h w = size-pos sizes k (factors-pos s (product_of
 -- one digit of the rest put in front of those that stand
 digit_more : (s n rest front : ℕ) → (rest / s) * (s * n) + ((rest % s) * n + front) ≡ rest * n + front
 digit_more s n rest front =
-    let whole = div-add-mod' rest s in
     let grouped : (rest / s) * (s * n) + ((rest % s) * n + front) ≡ (rest / s * s + rest % s) * n + front = omega arith in
-    grouped ∙ ap (λ m. m * n + front) whole
+    grind arith
 
 -- none stands behind the last entry
 pub digits-none : (sizes entries : List ℕ) (k place : ℕ) → length sizes ≤ k → length entries ≡ length sizes → AreDigits sizes entries k place place
@@ -38,10 +37,8 @@ digits-more sizes entries k next rest place after some h e behind =
     let s = get_or sizes k 0 in
     let x = rest % s in
     let n = product_of (drop (k + 1) sizes) in
-    let front = place_of (drop (k + 1) sizes) (drop (k + 1) entries) in
     let here : drop k sizes ≡ s ∷ drop (k + 1) sizes = at_drop_more (λ xs. xs) sizes k 0 h in
-    let there : drop k (set entries k x) ≡ x ∷ drop (k + 1) entries = drop-set entries k x (omega (arith, h, e)) in
-    rw (here, there) ((mod_below rest s (size-pos sizes k some h), digits.0), digit_more s n rest front ∙ digits.1)
+    search (rules, drop-set, mod_below, size-pos, digit_more, here)
 
 -- all of them are the vector at the place
 pub digits-all : (sizes entries : List ℕ) (k rest place : ℕ) → k ≡ 0 → place < product_of sizes → AreDigits sizes entries k rest place
@@ -54,6 +51,4 @@ digits-all sizes entries k rest place zero_left within digits =
   where
     no_rest : (r n front p : ℕ) → p < n → r * n + front ≡ p → r ≡ 0
     no_rest zero n front p h e = refl
-    no_rest (suc r) n front p h e =
-        let more : suc r * n ≡ n + r * n = omega arith in
-        absurd (omega (arith, h, e, more))
+    no_rest (suc r) n front p h e = grind (arith)

@@ -4,11 +4,11 @@ use Rattle.std.specs.List.{AllZip, Contains, flat_map, range_with_len, slice_get
 use Rattle.std.specs.Prelude.{Some}
 use Rattle.std.proofs.lemmas.List.{length-map, length-take-le, get_or-map}
 use Rattle.std.proofs.lemmas.List.Elements.{length_all_zip, AllZip-get_or}
-use Rattle.std.proofs.lemmas.Bool.{and_parts, and_from, ltb-true, lt-ltb}
+use Rattle.std.proofs.lemmas.Bool.{ltb-true, lt-ltb}
 use Rattle.std.proofs.lemmas.Option.{slice_get_within, slice_get_read, get_or_from_slice_get}
 use Rattle.std.proofs.lemmas.List.FromFn.{length-range_with_len, get_or-range_with_len}
 use Rattle.std.proofs.lemmas.List.Concat.{get_or-flat_map}
-use Rattle.std.proofs.lemmas.Nat.{mul-add-lt, div-add-mod', div_below, mod_below}
+use Rattle.std.proofs.lemmas.Nat.{mul-add-lt, div_below, mod_below}
 use Rattle.sgb_vec.specs.Boxes.{box, product_of}
 use Rattle.sgb_vec.specs.Lexicographic.{IsBelow}
 use Rattle.sgb_vec.proofs.Products.{factors-pos}
@@ -29,11 +29,7 @@ IsBelow-length sizes v b = length_all_zip (λ x s. x < s) v sizes b
 -- a test of each pair, where there are as many in both lists
 pub test_each_pair : (t : ℕ → ℕ → Bool) (R : ℕ → ℕ → Type 0) → ((x s : ℕ) → (t x s ≡ true) ↔ R x s) → (sizes v : List ℕ) → length v ≡ length sizes → (list_all (λ p. t p.0 p.1) (zip v sizes) ≡ true) ↔ AllZip R v sizes
 test_each_pair t R decides [] [] e = (λ _. tt, λ _. refl)
-test_each_pair t R decides (s ∷ sizes) (x ∷ v) e =
-    let rest = test_each_pair t R decides sizes v (omega arith) in (
-      λ h. let parts = and_parts (t x s) (list_all (λ p. t p.0 p.1) (zip v sizes)) h in ((decides x s).0 parts.0, rest.0 parts.1),
-      λ b. and_from (t x s) (list_all (λ p. t p.0 p.1) (zip v sizes)) ((decides x s).1 b.0) (rest.1 b.1),
-    )
+test_each_pair t R decides (s ∷ sizes) (x ∷ v) e = grind (arith, test_each_pair t R decides sizes v (omega arith))
 test_each_pair t R decides _ _ e = absurd (omega arith)
 
 -- that of entries below sizes
@@ -52,8 +48,7 @@ get_or-rows f k e n x j d h l =
     let x_at : get_or xs x 0 ≡ x = get_or-range_with_len 0 n x 0 h ∙ zero-add x in
     let before : length (flat_map f (take x xs)) ≡ x * k =
     length-rows f k e (take x xs) ∙ ap (λ m. m * k) (length-take-le x xs (omega (arith, length-range_with_len 0 n))) in
-    let there = get_or-flat_map f xs x j 0 d (omega (arith, length-range_with_len 0 n)) (omega (arith, e (get_or xs x 0))) in
-    rw (before, x_at) at there
+    grind (arith, get_or-flat_map, length-range_with_len)
 
 -- a box has as many vectors as the product of its sizes
 pub length-box : (sizes : List ℕ) → length (box sizes) ≡ product_of sizes
@@ -80,9 +75,7 @@ place_of-below _ _ b = absurd b
 pub get_or-place_of : (sizes v d : List ℕ) → IsBelow v sizes → get_or (box sizes) (place_of sizes v) d ≡ v
 unfolding box
 get_or-place_of [] [] d b = refl
-get_or-place_of (s ∷ sizes) (x ∷ v) d b =
-    get_or-box s sizes x (place_of sizes v) d b.0 (place_of-below sizes v b.1)
-    ∙ ap (λ w. x ∷ w) (get_or-place_of sizes v d b.1)
+get_or-place_of (s ∷ sizes) (x ∷ v) d b = grind (arith, get_or-box, place_of-below, get_or-place_of sizes v d b.1)
 get_or-place_of _ _ d b = absurd b
 
 -- a vector that stands at place i: its entries are below the sizes, and its place is i
@@ -104,15 +97,11 @@ StandsAt-box (s ∷ sizes) i d h =
     let x_below : i / n < s = div_below i n s n_pos h in
     let j_below : i % n < n = mod_below i n n_pos in
     let after = StandsAt-cons s sizes _ (i / n) (i % n) _ x_below (StandsAt-box sizes (i % n) d j_below) refl in
-    let row : StandsAt (s ∷ sizes) (get_or (box (s ∷ sizes)) (i / n * n + i % n) d) (i / n * n + i % n) =
-    rw (get_or-box s sizes (i / n) (i % n) d x_below j_below) after in
-    subst (λ m. StandsAt (s ∷ sizes) (get_or (box (s ∷ sizes)) m d) m) (div-add-mod' i n) row
+    grind (arith, get_or-box)
 
 -- the vectors of a box are those with as many entries as there are sizes, each below its size
 pub IsBelow-from_Contains : (sizes v : List ℕ) → Contains (box sizes) v → IsBelow v sizes
-IsBelow-from_Contains sizes v (i, within, at) =
-    let there = StandsAt-box sizes i v (omega (arith, length-box sizes)) in
-    subst (λ w. IsBelow w sizes) at there.each_below
+IsBelow-from_Contains sizes v (i, within, at) = grind (arith, StandsAt-box, length-box)
 
 pub Contains-from_IsBelow : (sizes v : List ℕ) → IsBelow v sizes → Contains (box sizes) v
 Contains-from_IsBelow sizes v b =

@@ -1,9 +1,8 @@
 -- The place of a vector of a box, computed entry by entry.
-use Rattle.std.proofs.Common.{◌≡◌, ℕ, suc, ◌+◌, ◌*◌, ◌<◌, ◌≤◌, List, ◌∷◌, length, get_or, drop, sym, ap, ◌∙◌, arith}
+use Rattle.std.proofs.Common.{◌≡◌, ℕ, suc, ◌+◌, ◌*◌, ◌<◌, ◌≤◌, List, ◌∷◌, length, get_or, drop, ap, ◌∙◌, arith}
 use Rattle.std.specs.List.{slice_get}
 use Rattle.std.specs.Prelude.{Some}
 use Rattle.std.proofs.lemmas.List.{at_drop_more, drop_all}
-use Rattle.std.proofs.lemmas.Nat.{mul-le}
 use Rattle.sgb_vec.specs.Boxes.{box, product_of}
 use Rattle.sgb_vec.proofs.Products.{factors-pos}
 use Rattle.sgb_vec.specs.Lexicographic.{IsBelow}
@@ -29,17 +28,11 @@ product-drop_pos _ _ h = h
 
 -- what the entries make so far is below the number of vectors
 pub rank-below : (sizes v : List ℕ) (k rank : ℕ) → IsRankSoFar sizes v k rank → IsBelow v sizes → rank < product_of sizes
-rank-below sizes v k rank so b =
-    let below = place_of-below sizes v b in
-    let some = product-drop_pos k sizes (omega arith) in
-    omega (arith, so.whole, mul-le rank 1 rank (product_of (drop k sizes)) (omega arith) some)
+rank-below sizes v k rank so b = grind (arith, place_of-below, product-drop_pos)
 
 -- all entries make the place
 pub rank-all : (sizes v : List ℕ) (k rank : ℕ) → IsRankSoFar sizes v k rank → IsBelow v sizes → length v ≤ k → slice_get (box sizes) rank ≡ Some v
-rank-all sizes v k rank so b h =
-    let none = drop_all k sizes (omega (arith, IsBelow-length sizes v b)) in
-    let same : place_of sizes v ≡ rank = omega (arith, so.whole, ap (λ s. rank * product_of s + place_of s (drop k v)) none) in
-    ap (slice_get (box sizes)) (sym same) ∙ slice_get-place_of sizes v b
+rank-all sizes v k rank so b h = grind (arith, drop_all, IsBelow-length, slice_get-place_of)
 
 -- the next step stays below the number of vectors
 pub rank-next_below : (sizes v : List ℕ) (k rank : ℕ) → IsRankSoFar sizes v k rank → IsBelow v sizes → k < length v → rank * get_or sizes k 0 + get_or v k 0 < product_of sizes

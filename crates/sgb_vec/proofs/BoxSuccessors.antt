@@ -5,8 +5,8 @@ use Rattle.std.proofs.lemmas.List.{places}
 use Rattle.sgb_vec.specs.Boxes.{box, product_of}
 use Rattle.sgb_vec.specs.Order.{IsNext, IsLast}
 use Rattle.sgb_vec.specs.Lexicographic.{IsBelow}
-use Rattle.sgb_vec.proofs.BoxPlaces.{StandsAt, place_of}
-use Rattle.sgb_vec.proofs.BoxOrder.{IsNext-from_places, IsLast-from_place}
+use Rattle.sgb_vec.proofs.BoxPlaces.{StandsAt, place_of, StandsAt-from_slice_get, length-box}
+use Rattle.sgb_vec.proofs.BoxOrder.{IsNext-from_places}
 
 -- the entries after place p are as great as the sizes let them be
 abbrev pub TopAfter : List ℕ → List ℕ → ℕ → Type 0
@@ -24,8 +24,7 @@ pub place_of-top : (sizes v : List ℕ) → IsBelow v sizes → TopAfter sizes v
 place_of-top [] [] b t = refl
 place_of-top (s ∷ sizes) (x ∷ v) b t =
     let here : x + 1 ≡ s = t 0 (omega arith) (omega arith) in
-    let rest = place_of-top sizes v b.1 (λ k _ h. t (suc k) (omega arith) (omega arith)) in
-    rw (← here) (omega arith)
+    search (rules, place_of-top sizes v b.1 (λ k _ h. t (suc k) (omega arith) (omega arith)))
 place_of-top _ _ b t = absurd b
 
 -- zeros stand at place 0, where some vector is below the sizes
@@ -35,38 +34,24 @@ StandsAt-zero [] (x ∷ v) w b e z = absurd b
 StandsAt-zero (s ∷ sizes) [] w b e z = absurd b
 StandsAt-zero (s ∷ sizes) (x ∷ v) (y ∷ w) b e z =
     let here : y ≡ 0 = z 0 (omega arith) in
-    let rest = StandsAt-zero sizes v w b.1 (omega arith) (λ k h. z (suc k) (omega arith)) in
-    rw here (record { each_below = (omega (arith, b.0), rest.each_below); place = omega arith })
+    grind (arith, StandsAt-zero sizes v w b.1 (omega arith) (λ k h. z (suc k) (omega arith)))
 StandsAt-zero _ _ _ b e z = absurd (omega arith)
 
 -- with the entries after p at their top, the vector grown at p stands at the next place
 pub StandsAt-grown : (sizes v w : List ℕ) (p : ℕ) → IsBelow v sizes → p < length v → get_or v p 0 + 1 < get_or sizes p 0 → TopAfter sizes v (p + 1) → GrownAt v w p → StandsAt sizes w (place_of sizes v + 1)
 StandsAt-grown (s ∷ sizes) (x ∷ v) [] p b h l t g = absurd (omega (arith, g.same_length))
 StandsAt-grown (s ∷ sizes) (x ∷ v) (y ∷ w) zero b h l t g =
-    let here : y ≡ x + 1 = g.at in
     let zeros = StandsAt-zero sizes v w b.1 (omega (arith, g.same_length)) (λ k m. g.after (suc k) (omega arith) (omega arith)) in
     let top = place_of-top sizes v b.1 (λ k _ m. t (suc k) (omega arith) (omega arith)) in
-    rw here (record { each_below = (l, zeros.each_below); place = omega (arith, zeros.place, top) })
+    search rules
 StandsAt-grown (s ∷ sizes) (x ∷ v) (y ∷ w) (suc p) b h l t g =
     let here : y ≡ x = g.before 0 (omega arith) in
-    let grown : GrownAt v w p = record {
-      same_length = omega (arith, g.same_length);
-      before = λ k m. g.before (suc k) (omega arith);
-      at = g.at;
-      after = λ k m n. g.after (suc k) (omega arith) (omega arith);
-    } in
-    let rest = StandsAt-grown sizes v w p b.1 (omega arith) l (λ k m n. t (suc k) (omega arith) (omega arith)) grown in
-    rw here (record { each_below = (b.0, rest.each_below); place = omega (arith, rest.place) })
+    grind (arith, StandsAt-grown sizes v w p b.1 (omega arith) l (λ k m n. t (suc k) (omega arith) (omega arith)) (record { same_length = omega (arith, g.same_length); before = λ k m. g.before (suc k) (omega arith); at = g.at; after = λ k m n. g.after (suc k) (omega arith) (omega arith) }))
 StandsAt-grown _ _ w p b h l t g = absurd (omega arith)
 
 -- what a write of the grown entry and then of zeros after it leaves
 pub GrownAt-put_mid : (v zs : List ℕ) (p : ℕ) → p < length v → zs ≡ replicate (length v - (p + 1)) 0 → GrownAt v (put_mid (p + 1) (length (set v p (get_or v p 0 + 1)) - (p + 1)) (set v p (get_or v p 0 + 1)) zs) p
-GrownAt-put_mid v zs p h e = record {
-  same_length = search (rules, places);
-  before = λ k m. search (rules, places);
-  at = search (rules, places);
-  after = λ k m n. search (rules, places);
-}
+GrownAt-put_mid v zs p h e = search (rules, places)
 
 -- the vector grown at the last place where it can is the next of the box
 pub IsNext-grown : (sizes v w : List ℕ) (p : ℕ) → IsBelow v sizes → p < length v → get_or v p 0 + 1 < get_or sizes p 0 → TopAfter sizes v (p + 1) → GrownAt v w p → IsNext (box sizes) v w
@@ -76,4 +61,4 @@ IsNext-grown sizes v w p b h l t g =
 
 -- a vector that can grow nowhere is the last of the box
 pub IsLast-top : (sizes v : List ℕ) → IsBelow v sizes → TopAfter sizes v 0 → IsLast (box sizes) v
-IsLast-top sizes v b t = IsLast-from_place sizes v (place_of-top sizes v b t)
+IsLast-top sizes v b t = grind (arith, place_of-top, StandsAt-from_slice_get, length-box)

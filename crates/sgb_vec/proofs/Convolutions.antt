@@ -10,9 +10,7 @@ products_from f w n (suc m) = f n * w m + products_from f w (suc n) m
 -- equal terms have equal products
 pub products_same : (f g w : ℕ → ℕ) (m n : ℕ) → ((i : ℕ) → n ≤ i → i < n + m → f i ≡ g i) → products_from f w n m ≡ products_from g w n m
 products_same f g w zero n e = refl
-products_same f g w (suc m) n e =
-    let first : f n * w m ≡ g n * w m = ap (λ x. x * w m) (e n (omega arith) (omega arith)) in
-    omega (arith, first, products_same f g w m (suc n) (λ i low high. e i (omega arith) (omega arith)))
+products_same f g w (suc m) n e = grind (arith, products_same f g w m (suc n) (λ i low high. e i (omega arith) (omega arith)))
 
 -- equal factors too
 pub products_same_factors : (f v w : ℕ → ℕ) (m n : ℕ) → ((i : ℕ) → v i ≡ w i) → products_from f v n m ≡ products_from f w n m
@@ -23,9 +21,7 @@ products_same_factors f v w (suc m) n e =
 -- no terms from n on have no products
 pub products_none : (f w : ℕ → ℕ) (m n : ℕ) → ((i : ℕ) → n ≤ i → f i ≡ 0) → products_from f w n m ≡ 0
 products_none f w zero n z = refl
-products_none f w (suc m) n z =
-    let first : f n * w m ≡ 0 * w m = ap (λ x. x * w m) (z n (omega arith)) in
-    omega (arith, first, products_none f w m (suc n) (λ i h. z i (omega arith)))
+products_none f w (suc m) n z = grind (arith, products_none f w m (suc n) (λ i h. z i (omega arith)))
 
 module _ (a b : ℕ) where
   -- two windows

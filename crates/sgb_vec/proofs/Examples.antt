@@ -64,7 +64,7 @@ pub board_refused_twice : board_of (pos 4294967296) (negsuc 250) (pos 0) (pos 0)
 unfolding repeated
 board_refused_twice = refl
 
-pub board_of_a_great_size : board_of (pos 4294967296) (pos 0) (pos 0) (pos 0) ≡ Err VeryBad
+pub board_of_a_great_size : board_of (pos 2) (pos 4294967296) (pos 0) (pos 0) ≡ Err VeryBad
 unfolding repeated
 board_of_a_great_size = refl
 
@@ -142,6 +142,11 @@ pub simplex_name : simplex_of (pos 4) (pos 3) (pos 9) (negsuc 0) (pos 5) (negsuc
     ≡ Ok (record { params = pos 4 ∷ pos 3 ∷ pos 4 ∷ negsuc 0 ∷ pos 0 ∷ pos 0 ∷ []; sizes = 3 ∷ 4 ∷ [] })
 unfolding repeated
 simplex_name = refl
+
+pub simplex_of_the_greatest_sum : simplex_of (pos 1_000_000_000) (pos 1) (pos 0) (pos 0) (pos 0) (pos 0)
+    ≡ Ok (record { params = pos 1_000_000_000 ∷ pos 1 ∷ pos 0 ∷ pos 0 ∷ pos 0 ∷ pos 0 ∷ []; sizes = 1 ∷ [] })
+unfolding repeated
+simplex_of_the_greatest_sum = refl
 
 pub simplex_too_great : simplex_of (pos 1_000_000_001) (pos 1) (pos 0) (pos 0) (pos 0) (pos 0) ≡ Err VeryBad
 unfolding repeated

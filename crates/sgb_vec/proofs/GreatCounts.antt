@@ -2,17 +2,16 @@
 use Rattle.std.proofs.Common.{rules, ◌≡◌, ℕ, suc, zero, ◌+◌, ◌-◌, ◌*◌, ◌<◌, ◌≤◌, Bool, true, false, List, ◌∷◌, length, take, sum, get_or, min, refl, ap, ◌∙◌, inl, inr, arith}
 use Rattle.std.specs.List.{All, list_any, range_with_len, remove}
 use Rattle.std.specs.Prelude.{nat_lt, nat_le, ◌/◌, ◌⊎◌}
-use Rattle.std.proofs.lemmas.Bool.{cases_lt, lt-ltb, le-ltb, ltb-true, leb-true, and_parts, or_from, both_ways}
+use Rattle.std.proofs.lemmas.Bool.{cases_lt, lt-ltb, ltb-true, leb-true, and_parts, or_from}
 use Rattle.std.proofs.lemmas.List.{get_or_default, take_all}
-use Rattle.std.proofs.lemmas.List.Elements.{All-from_get_or}
 use Rattle.std.proofs.lemmas.List.Folds.{list_any_at, Any-from_list_any}
 use Rattle.std.proofs.lemmas.List.FromFn.{length-range_with_len, get_or-range_with_len}
 use Rattle.sgb_vec.specs.Limits.{most_vertices}
 use Rattle.sgb_vec.specs.Sums.{count_of_sum, has_great_count}
 use Rattle.sgb_vec.specs.inner.SumRows.{CountsSums, HasGreatSum, great_bound, has_great_three}
-use Rattle.sgb_vec.proofs.SumCounts.{count_of_sum-nil, count_of_sum-cons, count_of_sum-remove, count_of_sum-cons_le, count_of_sum-take_le, counts_rise}
+use Rattle.sgb_vec.proofs.SumCounts.{count_of_sum-nil, count_of_sum-cons, count_of_sum-remove, count_of_sum-take_le, counts_rise}
 use Rattle.sgb_vec.proofs.Hills.{hill_top}
-use Rattle.sgb_vec.proofs.Windows.{window, window_same, window_le, window_prefix, up_to, up_to_ones, up_to_le, up_to-suc, one_at_zero, window-one_at_zero_prefix}
+use Rattle.sgb_vec.proofs.Windows.{window, window_le, window_prefix, up_to, up_to_ones, up_to_le, up_to-suc, one_at_zero, window-one_at_zero_prefix, window-last_le}
 
 -- a number in a range that passes
 list_any-range : (p : ℕ → Bool) (a n k : ℕ) → a ≤ k → k < a + n → p k ≡ true → list_any p (range_with_len a n) ≡ true
@@ -27,13 +26,9 @@ list_any-range_none p zero a none = refl
 list_any-range_none p (suc n) a none =
     or_from (p a) (list_any p (range_with_len (a + 1) n)) (none a (omega arith) (omega arith)) (list_any-range_none p n (a + 1) (λ k low high. none k (omega arith) (omega arith)))
 
--- in a row in which no count is too great
-not_great : (row : List ℕ) (k : ℕ) → list_any (λ count. nat_lt most_vertices count) row ≡ false → k < length row → get_or row k 0 ≤ most_vertices
-not_great row k none h = grind (arith, cases_lt, both_ways, list_any_at, lt-ltb)
-
 -- a row of counts of which none is too great
 pub All-from_none : (row : List ℕ) → list_any (λ count. nat_lt most_vertices count) row ≡ false → All (λ count. count ≤ most_vertices) row
-All-from_none row none = All-from_get_or (λ count. count ≤ most_vertices) row 0 (λ k h. not_great row k none h)
+All-from_none row none = grind (arith, list_any_at)
 
 -- a count too great in a row of the first bounds is one of all bounds
 pub HasGreatSum-from_row : (n : ℕ) (row bounds : List ℕ) (j : ℕ) → CountsSums n row (take j bounds) → length row ≤ n + 1 → list_any (λ count. nat_lt most_vertices count) row ≡ true → HasGreatSum n bounds
@@ -41,7 +36,7 @@ HasGreatSum-from_row n row bounds j counts short great = search (rules, Any-from
 
 -- two bounds more leave it too great
 pub HasGreatSum-two : (n a b : ℕ) (others : List ℕ) → HasGreatSum n others → HasGreatSum n (a ∷ b ∷ others)
-HasGreatSum-two n a b others h = grind (arith, count_of_sum-cons_le)
+HasGreatSum-two n a b others h = grind (arith, count_of_sum-cons, window-last_le)
 
 -- equal counts are too great for the same sum
 pub HasGreatSum-same : (n : ℕ) (xs ys : List ℕ) → ((k : ℕ) → count_of_sum k ys ≡ count_of_sum k xs) → HasGreatSum n xs → HasGreatSum n ys
@@ -52,9 +47,8 @@ three_great : (g a b c : ℕ) (f : ℕ → ℕ) → ((i : ℕ) → one_at_zero i
 three_great g a b c f h la lb lc =
     let one : (i : ℕ) → i ≤ g → 1 ≤ window c f i = λ i l. omega (arith, window_le c one_at_zero f i (λ j _. h j), window-one_at_zero_prefix c i (omega arith)) in
     let two : (i : ℕ) → i ≤ g → i + 1 ≤ window b (window c f) i = λ i l. omega (arith, window_prefix b (window c f) i (omega arith), up_to_ones (window c f) i (λ j m. one j (omega arith))) in
-    let all : window a (window b (window c f)) g ≡ up_to (window b (window c f)) g = window_prefix a (window b (window c f)) g la in
     let more : up_to (λ i. i + 1) g ≤ up_to (window b (window c f)) g = up_to_le (λ i. i + 1) (window b (window c f)) g two in
-    omega (arith, all, more, up_to-suc g)
+    grind (arith, window_prefix, up_to-suc)
 
 -- the zero vector alone
 count_of_sum-ge : (bounds : List ℕ) (k : ℕ) → one_at_zero k ≤ count_of_sum k bounds
@@ -72,14 +66,8 @@ HasGreatSum-three n a b others h =
     let left = remove others i in
     let f : ℕ → ℕ = λ k. count_of_sum k left in
     let last : (k : ℕ) → count_of_sum k others ≡ window c f k = λ k. count_of_sum-remove others i k found.2 ∙ count_of_sum-cons c left k in
-    let all : count_of_sum great_bound (a ∷ b ∷ others) ≡ window a (window b (window c f)) great_bound =
-    count_of_sum-cons a (b ∷ others) great_bound
-    ∙ window_same a (λ k. count_of_sum k (b ∷ others)) (window b (window c f)) great_bound (λ k _. count_of_sum-cons b others k ∙ window_same b (λ m. count_of_sum m others) (window c f) k (λ m _. last m)) in
-    record {
-      at = great_bound;
-      low = omega arith;
-      great = omega (arith, all, three_great great_bound a b c f (count_of_sum-ge left) (omega arith) (omega arith) (omega (arith, leb-true great_bound found.1 found.4)));
-    }
+    let all : count_of_sum great_bound (a ∷ b ∷ others) ≡ window a (window b (window c f)) great_bound = grind (arith, count_of_sum-cons) in
+    grind (arith, three_great, count_of_sum-ge, leb-true)
 
 -- a sum with too many vectors
 pub has_great_count-from_sum : (n : ℕ) (bounds : List ℕ) → 2 ≤ length bounds → HasGreatSum n bounds → has_great_count n bounds ≡ true
@@ -102,12 +90,9 @@ has_great_count-none n m bounds top few =
     ] in
     let small : (j k : ℕ) → k ≤ n → count_of_sum k (take (j + 1) bounds) ≤ most_vertices = λ j k l.
     omega (arith, few, count_of_sum-take_le bounds (j + 1) k, hill_top f (sum bounds) (counts_rise bounds) n m k (omega arith) (omega arith) side l) in
-    list_any-range_none (λ i. list_any (λ m. nat_lt most_vertices (count_of_sum m (take (i + 1) bounds))) (range_with_len 0 (n + 1))) (length bounds - 1) 1 (λ j low high.
-    list_any-range_none (λ i. nat_lt most_vertices (count_of_sum i (take (j + 1) bounds))) (n + 1) 0 (λ k first last.
-    le-ltb most_vertices (count_of_sum k (take (j + 1) bounds)) (small j k (omega arith))))
+    grind (arith, list_any-range_none)
 
 -- of one bound or none no count is too great
 pub has_great_count-few : (n : ℕ) (bounds : List ℕ) → length bounds < 2 → has_great_count n bounds ≡ false
 unfolding has_great_count
-has_great_count-few n (b ∷ c ∷ bounds) short = absurd (omega arith)
-has_great_count-few n _ short = refl
+has_great_count-few n bounds short = grind (arith)

@@ -1,5 +1,5 @@
 -- Sequences that rise to the middle of 0 to s, fall after it as they rose, and are 0 after s; so are their windows.
-use Rattle.std.proofs.Common.{◌≡◌, ℕ, suc, zero, ◌+◌, ◌-◌, ◌<◌, ◌≤◌, sym, ◌∙◌, inl, inr, ap, ◌⊎◌, arith}
+use Rattle.std.proofs.Common.{◌≡◌, ℕ, suc, zero, ◌+◌, ◌-◌, ◌<◌, ◌≤◌, inl, inr, ap, ◌⊎◌, arith}
 use Rattle.std.proofs.lemmas.Bool.{cases_lt}
 use Rattle.sgb_vec.proofs.Windows.{window, window_far, window-wider, window-wide}
 
@@ -12,9 +12,7 @@ module _ (f : ℕ → ℕ) (s : ℕ) (h : IsHill f s) where
   -- up to the middle
   rise : (m i : ℕ) → i + m + (i + m) ≤ s + 1 → f i ≤ f (i + m)
   rise zero i l = let here : i + 0 ≡ i = omega arith in omega (arith, ap f here)
-  rise (suc m) i l =
-      let here : i + suc m ≡ suc (i + m) = omega arith in
-      omega (arith, rise m i (omega arith), h.rises (i + m) (omega arith), ap f here)
+  rise (suc m) i l = grind (arith, rise m i (omega arith))
 
   rise_to : (i j : ℕ) → i ≤ j → j + j ≤ s + 1 → f i ≤ f j
   rise_to i j l m = let here : i + (j - i) ≡ j = omega arith in omega (arith, rise (j - i) i (omega arith), ap f here)
@@ -72,11 +70,3 @@ module _ (f : ℕ → ℕ) (s : ℕ) (h : IsHill f s) where
     mirror = λ i j e. window-mirror b i j (omega arith);
     rises = λ i l. window-rises b i (omega arith);
   }
-
--- an equal sequence
-pub IsHill-same : (f g : ℕ → ℕ) (s : ℕ) → ((i : ℕ) → f i ≡ g i) → IsHill f s → IsHill g s
-IsHill-same f g s e h = record {
-  far = λ i l. sym (e i) ∙ h.far i l;
-  mirror = λ i j m. sym (e i) ∙ h.mirror i j m ∙ e j;
-  rises = λ i l. omega (arith, e i, e (suc i), h.rises i l);
-}

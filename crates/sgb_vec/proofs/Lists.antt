@@ -61,8 +61,7 @@ pub Contains-other : {X : Type 0} (x y : X) (xs : List X) → Contains xs y → 
 Contains-other x y xs (k, within, at) = (suc k, omega arith, at)
 
 pub Contains-cases : {X : Type 0} (x y : X) (xs : List X) → Contains (x ∷ xs) y → (x ≡ y) ⊎ Contains xs y
-Contains-cases x y xs (zero, within, at) = inl at
-Contains-cases x y xs (suc k, within, at) = inr (k, omega arith, at)
+Contains-cases x y xs h = grind (arith)
 
 pub Contains-none : {X : Type 0} (x : X) → Contains [] x → ⊥
 Contains-none x (k, within, at) = absurd (omega arith)
@@ -80,10 +79,7 @@ pub Contains-passing : {X : Type 0} (p : X → Bool) (xs : List X) (x : X) → p
 Contains-passing p [] x e h = absurd (Contains-none x h)
 Contains-passing p (z ∷ xs) x e h =
     elim (Contains-cases z x xs h) [
-      | inl same ↦
-          let passes : p z ≡ true = ap p same ∙ e in
-          subst (λ b. Contains (cond b (z ∷ filter p xs) (filter p xs)) x) (sym passes)
-          (subst (Contains (z ∷ filter p xs)) same (Contains-first z (filter p xs)))
+      | inl same ↦ grind arith
       | inr later ↦
           let rest = Contains-passing p xs x e later in
           cond_both (p z) (z ∷ filter p xs) (filter p xs) (λ l. Contains l x) (λ _. Contains-other z x (filter p xs) rest) (λ _. rest)
@@ -108,9 +104,8 @@ Contains-range start (suc count) k from below =
 
 pub Contains-reverse : {X : Type 0} (xs : List X) (x : X) → Contains xs x → Contains (reverse xs) x
 Contains-reverse xs x (k, within, at) =
-    let long : length (reverse xs) ≡ length xs = length-reverse xs in
     let there : get_or (reverse xs) (length xs - 1 - k) x ≡ get_or xs (length xs - 1 - (length xs - 1 - k)) x = get_or-reverse xs (length xs - 1 - k) x (omega arith) in
-    (length xs - 1 - k, omega arith, there ∙ ap (λ (i : ℕ). get_or xs i x) (omega arith) ∙ at)
+    grind (arith, length-reverse)
 
 -- elements that all lists of a list have
 pub All-flat_map : {X Y : Type 0} (P : Y → Type 0) (f : X → List Y) (xs : List X) → All (λ x. All P (f x)) xs → All P (flat_map f xs)
@@ -133,9 +128,7 @@ reverse-first x xs = reverse-append (x ∷ []) xs
 -- where no element passes, nor gives anything, nothing is left
 pub filter-none : {X : Type 0} (t : X → Bool) (xs : List X) → All (λ x. t x ≡ false) xs → filter t xs ≡ []
 filter-none t [] h = refl
-filter-none t (x ∷ xs) h =
-    ap (λ b. cond b (x ∷ filter t xs) (filter t xs)) (All-head (λ y. t y ≡ false) x xs h)
-    ∙ filter-none t xs (All-tail (λ y. t y ≡ false) x xs h)
+filter-none t (x ∷ xs) h = grind (arith, All-head, filter-none t xs (All-tail (λ y. t y ≡ false) x xs h))
 
 pub flat_map-none : {X Y : Type 0} (f : X → List Y) (xs : List X) → All (λ x. f x ≡ []) xs → flat_map f xs ≡ []
 flat_map-none f [] h = refl
@@ -144,13 +137,10 @@ flat_map-none f (x ∷ xs) h =
 
 -- tests that hold together are the same, and one that cannot hold is false
 pub same_tests : (a b : Bool) → (a ≡ true → b ≡ true) → (b ≡ true → a ≡ true) → a ≡ b
-same_tests true false on back = sym (on refl)
-same_tests false true on back = back refl
-same_tests _ _ on back = refl
+same_tests a b on back = grind (arith)
 
 pub never_true : (b : Bool) → (b ≡ true → ⊥) → b ≡ false
-never_true true h = absurd (h refl)
-never_true false h = refl
+never_true b h = grind (arith)
 
 pub eqb-turned : (a b : ℕ) → (a == b) ≡ (b == a)
 eqb-turned a b = same_tests (a == b) (b == a) (λ e. eq-eqb b a (sym (eqb-true a b e))) (λ e. eq-eqb a b (sym (eqb-true b a e)))
@@ -158,13 +148,10 @@ eqb-turned a b = same_tests (a == b) (b == a) (λ e. eq-eqb b a (sym (eqb-true a
 -- where all elements pass, all stay; a first one that passes is one more
 pub filter-all : {X : Type 0} (t : X → Bool) (xs : List X) → All (λ x. t x ≡ true) xs → filter t xs ≡ xs
 filter-all t [] h = refl
-filter-all t (x ∷ xs) h =
-    ap (λ b. cond b (x ∷ filter t xs) (filter t xs)) (All-head (λ y. t y ≡ true) x xs h)
-    ∙ ap (λ ys. x ∷ ys) (filter-all t xs (All-tail (λ y. t y ≡ true) x xs h))
+filter-all t (x ∷ xs) h = grind (arith, All-head, filter-all t xs (All-tail (λ y. t y ≡ true) x xs h))
 
 pub passing_first : {X : Type 0} (b : Bool) (x : X) (xs : List X) → length (cond b (x ∷ xs) xs) ≡ cond b 1 0 + length xs
-passing_first true x xs = omega arith
-passing_first false x xs = omega arith
+passing_first b x xs = grind (arith)
 
 -- an element of the first of two lists
 pub slice_get-left : {X : Type 0} (xs ys : List X) (k : ℕ) (x : X) → slice_get xs k ≡ Some x → slice_get (xs ++ ys) k ≡ Some x
@@ -174,15 +161,10 @@ slice_get-left (a ∷ xs) ys (suc k) x is = slice_get-left xs ys k x is
 
 -- numbers, and those after them
 pub range-joined : (start m n : ℕ) → range_with_len start (m + n) ≡ range_with_len start m ++ range_with_len (start + m) n
-range-joined start zero n =
-    let none : 0 + n ≡ n = omega arith in
-    let here : start ≡ start + 0 = omega arith in
-    ap (range_with_len start) none ∙ ap (λ k. range_with_len k n) here
+range-joined start zero n = grind (arith)
 range-joined start (suc m) n =
     let more : suc m + n ≡ suc (m + n) = omega arith in
-    let after : start + 1 + m ≡ start + suc m = omega arith in
-    ap (range_with_len start) more
-    ∙ ap (λ ks. start ∷ ks) (range-joined (start + 1) m n ∙ ap (λ k. range_with_len (start + 1) m ++ range_with_len k n) after)
+    grind (arith, range-joined (start + 1) m n)
 
 -- one number more
 pub range-more : (start n : ℕ) → range_with_len start (n + 1) ≡ range_with_len start n ++ (start + n) ∷ []
@@ -194,12 +176,8 @@ steps_to s rest r x is h = subst (λ o. YieldsFirst (λ l. l) s o rest) is h
 
 -- the numbers from k to below n, k first
 pub range-first : (k n : ℕ) → k < n → range_with_len k (n - k) ≡ k ∷ range_with_len (k + 1) (n - (k + 1))
-range-first k n h =
-    let more : n - k ≡ suc (n - (k + 1)) = omega arith in
-    ap (range_with_len k) more
+range-first k n h = grind (arith)
 
 -- none from n on
 pub range-none : (k n : ℕ) → n ≤ k → range_with_len k (n - k) ≡ []
-range-none k n h =
-    let none : n - k ≡ 0 = omega arith in
-    ap (range_with_len k) none
+range-none k n h = grind (arith)

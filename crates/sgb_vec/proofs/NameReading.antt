@@ -1,9 +1,9 @@
 -- The name of a vector read back: cut at its dots, each part is the decimal of an entry.
-use Rattle.std.proofs.Common.{rules, ◌≡◌, ℕ, ◌<◌, ◌≤◌, ◌^◌, sym, Bool, true, false, cond, eqb, ◌&&◌, List, [], ◌∷◌, length, get_or, map, refl, ap, ap₂, subst, ◌∙◌, arith, decimal, Some, None, nat_eq, length-append}
+use Rattle.std.proofs.Common.{rules, ◌≡◌, ℕ, ◌<◌, ◌≤◌, ◌^◌, Bool, true, false, cond, eqb, ◌&&◌, List, [], ◌∷◌, length, get_or, map, refl, ap, ap₂, subst, ◌∙◌, arith, decimal, Some, None, nat_eq, length-append}
 use Rattle.std.specs.List.{All, join_with_byte, slice_split}
-use Rattle.std.specs.Cmp.Lexicographic.{pointwise, bytes_decides}
+use Rattle.std.specs.Cmp.Lexicographic.{pointwise}
 use Rattle.std.specs.Str.Parse.{digits_value}
-use Rattle.std.proofs.lemmas.Bool.{leb-true, le-leb, ne_eqb, and_parts, and_from, cond-true}
+use Rattle.std.proofs.lemmas.Bool.{leb-true, le-leb, ne_eqb, and_parts}
 use Rattle.std.proofs.lemmas.Fmt.{decimal_is_IsNumeral}
 use Rattle.std.proofs.lemmas.List.Elements.{All-from_get_or, All-head, All-tail, All-weaker}
 use Rattle.std.proofs.lemmas.List.{get_or-map, length-map}
@@ -26,9 +26,6 @@ AllSmall x = All (λ entry. entry ≤ most_entry) x
 IsVector-from_test : (x : List ℕ) → is_vector x ≡ true → IsVector x
 IsVector-from_test x h = grind (arith, and_parts, leb-true, All-weaker, AllPass-from_list_all)
 
-test-from_IsVector : (x : List ℕ) → IsVector x → is_vector x ≡ true
-test-from_IsVector x h = search (rules, and_from, le-leb, list_all-from_AllPass, All-weaker)
-
 -- a decimal has no dot in it
 no_dot-decimal : (n : ℕ) → n ≤ most_entry → All (λ c. is_dot c ≡ false) (decimal n)
 no_dot-decimal n h =
@@ -40,9 +37,7 @@ no_dot-decimal n h =
 -- the name cut at its dots
 slice_split-name : (entry : ℕ) (x : List ℕ) → AllSmall (entry ∷ x) → slice_split is_dot (join_with_byte 46 (map decimal (entry ∷ x))) ≡ map decimal (entry ∷ x)
 slice_split-name entry [] h = slice_split_none is_dot (decimal entry) (no_dot-decimal entry (All-head (λ e. e ≤ most_entry) entry [] h))
-slice_split-name entry (next ∷ x) h =
-    slice_split_at is_dot (decimal entry) 46 (join_with_byte 46 (map decimal (next ∷ x))) (no_dot-decimal entry (All-head (λ e. e ≤ most_entry) entry (next ∷ x) h)) refl
-    ∙ ap (λ parts. decimal entry ∷ parts) (slice_split-name next x (All-tail (λ e. e ≤ most_entry) entry (next ∷ x) h))
+slice_split-name entry (next ∷ x) h = search (rules, slice_split_at, no_dot-decimal, All-head, slice_split-name next x (All-tail (λ e. e ≤ most_entry) entry (next ∷ x) h))
 
 -- the parts read as numbers
 values-decimals : (x : List ℕ) → AllSmall x → map (λ part. digits_value 10 part) (map decimal x) ≡ x
@@ -53,29 +48,21 @@ values-decimals (entry ∷ x) h =
 
 -- a text that is not empty has parts
 numbers-nonempty : (text : List ℕ) → 0 < length text → numbers_between_dots text ≡ map (λ part. digits_value 10 part) (slice_split is_dot text)
-numbers-nonempty [] h = absurd (omega arith)
-numbers-nonempty (b ∷ text) h = refl
+numbers-nonempty text h = grind (arith)
 
 -- the name of a vector that is not empty is not empty
 nonempty-name : (entry : ℕ) (x : List ℕ) → entry ≤ most_entry → 0 < length (join_with_byte 46 (map decimal (entry ∷ x)))
-nonempty-name entry [] h = (decimal_is_IsNumeral entry (omega arith)).0.0
-nonempty-name entry (next ∷ x) h =
-    let some : 0 < length (decimal entry) = (decimal_is_IsNumeral entry (omega arith)).0.0 in
-    omega (arith, length-append (decimal entry) (46 ∷ join_with_byte 46 (map decimal (next ∷ x))))
+nonempty-name entry x h = grind (arith, decimal_is_IsNumeral, length-append)
 
 -- the numbers between the dots of a name are the entries
 numbers-name : (x : List ℕ) → AllSmall x → numbers_between_dots (name_of_vector x) ≡ x
 unfolding name_of_vector
 numbers-name [] h = refl
-numbers-name (entry ∷ x) h =
-    numbers-nonempty (join_with_byte 46 (map decimal (entry ∷ x))) (nonempty-name entry x (All-head (λ e. e ≤ most_entry) entry x h))
-    ∙ ap (λ parts. map (λ part. digits_value 10 part) parts) (slice_split-name entry x h)
-    ∙ values-decimals (entry ∷ x) h
+numbers-name (entry ∷ x) h = search (rules, numbers-nonempty, nonempty-name, All-head, slice_split-name, values-decimals)
 
 -- a choice that gave something
 chosen : (t : Bool) (x y : List ℕ) → cond t (Some x) None ≡ Some y → (t ≡ true) × (x ≡ y)
-chosen true x y e = (refl, cc)
-chosen false x y e = absurd (cc)
+chosen t x y e = grind (arith)
 
 -- what a text stands for is a vector whose name it is
 pub named-vector_of : (text x : List ℕ) → vector_of text ≡ Some x → IsVector x × (name_of_vector x ≡ text)
@@ -83,13 +70,12 @@ unfolding vector_of
 named-vector_of text x e =
     let y = numbers_between_dots text in
     let taken = chosen (is_vector y && pointwise nat_eq (name_of_vector y) text) y x e in
-    let parts = and_parts _ _ taken.0 in
-    subst (λ z. IsVector z × (name_of_vector z ≡ text)) taken.1 (IsVector-from_test y parts.0, (bytes_decides (name_of_vector y) text).0 parts.1)
+    search (rules, IsVector-from_test)
 
 -- the name of a vector stands for it
 pub vector_of-name : (x : List ℕ) → IsVector x → vector_of (name_of_vector x) ≡ Some x
 unfolding vector_of
-vector_of-name x h = search (rules, numbers-name, cond-true, and_from, test-from_IsVector)
+vector_of-name x h = search (rules, numbers-name, le-leb, list_all-from_AllPass)
 
 -- entries whose decimals are the parts of a text make up its name
 pub name_of_parts : (x text : List ℕ) → map decimal x ≡ slice_split is_dot text → name_of_vector x ≡ text
@@ -107,9 +93,7 @@ pub part_is_decimal : (x text part : List ℕ) (k : ℕ) → IsVector x → name
     → part ≡ get_or (slice_split is_dot text) k part → (get_or x k 0 < 2 ^ 32) × (decimal (get_or x k 0) ≡ part)
 part_is_decimal x text part k is same some within at =
     let parts = parts_of_name x text is same some in
-    let inside : k < length x = omega (arith, within, ap length parts, length-map x decimal) in
-    let small : get_or x k 0 ≤ most_entry = is.small k 0 inside in
-    (omega (arith, small), sym (at ∙ (ap (λ ps. get_or ps k part) parts ∙ get_or-map decimal x k 0 part inside)))
+    grind (arith, length-map, get_or-map)
 
 -- a name has no more parts than a vector has entries
 pub few_parts : (x text : List ℕ) → IsVector x → name_of_vector x ≡ text → 0 < length text → length (slice_split is_dot text) ≤ 251

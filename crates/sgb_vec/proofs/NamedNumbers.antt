@@ -1,6 +1,5 @@
 -- Numbers read back from their decimals.
-use native.Mathlib.Nat.{pow-le-pow_right}
-use Rattle.std.proofs.Common.{◌≡◌, ℕ, zero, suc, ◌^◌, ◌<◌, ◌≤◌, ◌⊎◌, true, false, cond, List, [], ◌∷◌, length, take, decimal, refl, ◌∙◌, inl, inr, arith}
+use Rattle.std.proofs.Common.{◌≡◌, ℕ, zero, suc, ◌^◌, ◌<◌, ◌≤◌, ◌⊎◌, true, false, cond, List, [], ◌∷◌, length, take, decimal, refl, arith, rules}
 use Rattle.std.specs.Char.{digit_value, is_digit}
 use Rattle.std.specs.Str.Parse.{AllDigits, digits_value}
 use Rattle.std.proofs.lemmas.Bool.{cases_lt, lt-ltb, le-ltb}
@@ -24,12 +23,7 @@ first_byte radix most byte text = take_while-cons (λ b. is_digit b radix) byte 
 
 -- what a text begins with are digits
 pub leading_are_digits : (radix most : ℕ) (text : List ℕ) → AreDigits radix most (leading_digits radix most text)
-leading_are_digits radix (suc most) (byte ∷ text) =
-    let rest = leading_are_digits radix most text in
-    elim (digit_cases radix byte) [
-      | inl h ↦ rw (first_byte radix most byte text, h.0) (record { all = (h.1, rest.all); short = omega (arith, rest.short) })
-      | inr h ↦ rw (first_byte radix most byte text, h) (record { all = tt; short = omega arith })
-    ]
+leading_are_digits radix (suc most) (byte ∷ text) = grind (arith, first_byte, leading_are_digits radix most text)
 leading_are_digits radix _ _ = record { all = tt; short = omega arith }
 
 -- digits begin with all of them
@@ -37,16 +31,11 @@ pub leading_of_digits : (radix most : ℕ) (digits : List ℕ) → AreDigits rad
 leading_of_digits radix zero [] are = refl
 leading_of_digits radix zero (byte ∷ digits) are = absurd (omega (arith, are.short))
 leading_of_digits radix (suc most) [] are = refl
-leading_of_digits radix (suc most) (byte ∷ digits) are =
-    let rest = leading_of_digits radix most digits (record { all = are.all.1; short = omega (arith, are.short) }) in
-    first_byte radix most byte digits ∙ rw (lt-ltb (digit_value byte) radix are.all.0, rest) refl
+leading_of_digits radix (suc most) (byte ∷ digits) are = grind (arith, first_byte, leading_of_digits radix most digits (record { all = are.all.1; short = omega (arith, are.short) }))
 
 -- ten digits at most write a number below 2 ^ 128
 pub ten_digits_fit : (digits : List ℕ) → AreDigits 10 10 digits → digits_value 10 digits < 2 ^ 128
-ten_digits_fit digits are =
-    let positive : 1 ≤ 10 = omega arith in
-    let most : 10 ^ length digits ≤ 10 ^ 10 = pow-le-pow_right positive are.short in
-    omega (arith, digits_value-lt 10 digits are.all, most)
+ten_digits_fit digits are = search (rules, digits_value-lt)
 
 -- of a number below 2 ^ 32: its decimal is digits, and reads as the number
 pub record IsReadBack (entry : ℕ) : Type 0 where
@@ -58,8 +47,4 @@ pub decimal_is_read_back : (entry : ℕ) → entry < 2 ^ 32 → IsReadBack entry
 decimal_is_read_back entry h =
     let numeral = decimal_is_IsNumeral entry (omega arith) in
     let short : length (decimal entry) ≤ 10 = length-decimal-le 10 entry (omega arith) (omega arith) (omega arith) in
-    record {
-      leading = leading_of_digits 10 10 (decimal entry) (record { all = numeral.0.1; short = short });
-      some = numeral.0.0;
-      value = numeral.1;
-    }
+    search (rules, leading_of_digits)

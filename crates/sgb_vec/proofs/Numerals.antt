@@ -19,8 +19,4 @@ pub record NextDigit (radix : ℕ) (digits : List ℕ) (i : ℕ) : Type 0 where
 
 -- the digit at a place goes on the number before it
 pub next_digit : (radix : ℕ) (digits : List ℕ) (i : ℕ) → 2 ≤ radix → IsNumeral radix digits → digits_value radix digits < 2 ^ 128 → i < length digits → NextDigit radix digits i
-next_digit radix digits i least numeral fits h = record {
-  below = digit_below radix digits i numeral.1 h;
-  more = digits_value_more radix digits i h;
-  fits = omega (arith, fits, digits_value-take-le radix digits (i + 1) (omega (arith, least)));
-}
+next_digit radix digits i least numeral fits h = grind (arith, digit_below, digits_value_more, digits_value-take-le)

@@ -56,14 +56,11 @@ module _ (vs : List (List ℕ)) (rise : IsRising vs) where
   -- the same, where it is not known yet whether there are some
   pub all_ends : (some also : Bool) (v w : List ℕ) → OnTrue some (IsFirst vs v) → OnTrue also (IsFinal vs w) → OnFalse also (vs ≡ []) → IsTrue some → AreEnds vs v w
   all_ends true true v w first final none h = (ends_of_all v w first final).0
-  all_ends true false v w first final none h = let within = slice_get_within vs 0 v first in absurd (omega (arith, ap length none))
-  all_ends false also v w first final none h = absurd cc
+  all_ends some also v w first final none h = grind arith
 
   pub all_of_them : (some also : Bool) (v w : List ℕ) → OnTrue some (IsFirst vs v) → OnFalse some (vs ≡ []) → OnTrue also (IsFinal vs w) → OnFalse also (vs ≡ [])
       → from_to_if some vs v w ≡ vs
-  all_of_them true true v w first empty final none = (ends_of_all v w first final).1
-  all_of_them true false v w first empty final none = let within = slice_get_within vs 0 v first in absurd (omega (arith, ap length none))
-  all_of_them false also v w first empty final none = sym empty
+  all_of_them some also v w first empty final none = grind (arith, ends_of_all)
 
   -- from a vector to itself there is that one alone
   pub from_itself : (v w : List ℕ) → AreEnds vs v w → v ≡ w → from_to vs v w ≡ v ∷ []
@@ -74,8 +71,7 @@ module _ (vs : List (List ℕ)) (rise : IsRising vs) where
       rw (← place) (one (place_among vs v) v within there)
     where
       one : (i : ℕ) (x : List ℕ) → i < length vs → get_or vs i x ≡ x → drop i (take (i + 1) vs) ≡ x ∷ []
-      one i x within at =
-          drop-take i 1 vs ∙ (ap (take 1) (drop_more vs i x within) ∙ ap (λ y. y ∷ []) at)
+      one i x within at = grind (arith, drop-take, drop_more)
 
   -- the last one comes after the others
   from_before : (v w : List ℕ) → AreEnds vs v w → from_to vs v w ≡ drop (place_among vs v) (take (place_among vs w) vs) ++ w ∷ []
@@ -83,8 +79,7 @@ module _ (vs : List (List ℕ)) (rise : IsRising vs) where
       let j = place_among vs w in
       let here : get_or vs j w ≡ w = get_or_from_slice_get vs j w w (stands_there w ends.1) in
       let longer : take (j + 1) vs ≡ take j vs ++ w ∷ [] = take_more vs j w ends.1 ∙ ap (λ y. take j vs ++ y ∷ []) here in
-      ap (drop (place_among vs v)) longer
-      ∙ drop-append-le (place_among vs v) (take j vs) (w ∷ []) (omega (arith, ends.0, length-take-le j vs (omega (arith, ends.1))))
+      grind (arith, drop-append-le, length-take-le)
 
   -- other ends stand at other places
   apart_ends : (v w : List ℕ) → AreEnds vs v w → v ≢ w → place_among vs v < place_among vs w
@@ -101,13 +96,7 @@ module _ (vs : List (List ℕ)) (rise : IsRising vs) where
 
   -- the vector after a place, where it is not the last
   next_at : (found : Bool) (v w : List ℕ) (i : ℕ) → OnTrue found (IsNext vs v w) → OnFalse found (IsLast vs v) → slice_get vs i ≡ Some v → i + 1 < length vs → slice_get vs (i + 1) ≡ Some w
-  next_at true v w i next last at h = next i at
-  next_at false v w i next last at h = let end = last i at in absurd (omega arith)
-
-  -- the vector before a place, where it is not the first
-  previous_at : (found : Bool) (v w : List ℕ) (i : ℕ) → OnTrue found (IsPrevious vs v w) → OnFalse found (HasNoneBefore vs v) → slice_get vs i ≡ Some v → 0 < i → slice_get vs (i - 1) ≡ Some w
-  previous_at true v w i before first at h = (before i at).1
-  previous_at false v w i before first at h = let start = first i at in absurd (omega arith)
+  next_at found v w i next last at h = grind (arith)
 
   -- the first one taken off
   pub front_taken : (found : Bool) (v w next : List ℕ) → OnTrue found (IsNext vs v next) → OnFalse found (IsLast vs v) → AreEnds vs v w → v ≢ w
@@ -118,21 +107,16 @@ module _ (vs : List (List ℕ)) (rise : IsRising vs) where
       let at_v = stands_there v (omega (arith, ends.1)) in
       let at_next = next_at found v next i after last at_v (omega (arith, ends.1)) in
       let place = place_at next (i + 1) at_next in
-      let within : i < length (take (place_among vs w + 1) vs) = omega (arith, length-take-le (place_among vs w + 1) vs (omega (arith, ends.1))) in
       let here : get_or (take (place_among vs w + 1) vs) i v ≡ v = get_or-take (place_among vs w + 1) vs i v (omega arith) ∙ get_or_from_slice_get vs i v v at_v in
-      ((omega (arith, place), ends.1), rw (place, ← ap (λ x. x ∷ drop (i + 1) (take (place_among vs w + 1) vs)) here) (drop_more (take (place_among vs w + 1) vs) i v within))
+      grind (arith, length-take-le, drop_more)
 
   -- the last one taken off
   pub back_taken : (found : Bool) (v w before : List ℕ) → OnTrue found (IsPrevious vs w before) → OnFalse found (HasNoneBefore vs w) → AreEnds vs v w → v ≢ w
       → AreEnds vs v before × (from_to vs v w ≡ from_to vs v before ++ w ∷ [])
   back_taken found v w before previous first ends other =
       let j = place_among vs w in
-      let less = apart_ends v w ends other in
       let at_w = stands_there w ends.1 in
-      let at_before = previous_at found w before j previous first at_w (omega arith) in
-      let place = place_at before (j - 1) at_before in
-      let short : place_among vs before + 1 ≡ j = omega (arith, place) in
-      ((omega (arith, place), omega (arith, place, ends.1)), from_before v w ends ∙ ap (λ k. drop (place_among vs v) (take k vs) ++ w ∷ []) (sym short))
+      grind (arith, apart_ends, place_at, from_before)
 
   -- a vector of the list, what stands before it and what comes after it
   around : (v : List ℕ) (i : ℕ) → i < length vs → get_or vs i v ≡ v → vs ≡ take i vs ++ v ∷ drop (i + 1) vs
@@ -172,9 +156,8 @@ module _ (vs : List (List ℕ)) (rise : IsRising vs) where
       let both = ends is in
       let i = place_among vs v in
       let at_v = stands_there v (omega (arith, both.0, both.1)) in
-      let within : i < length (take (place_among vs w + 1) vs) = omega (arith, both.0, length-take-le (place_among vs w + 1) vs (omega (arith, both.1))) in
       let here : get_or (take (place_among vs w + 1) vs) i v ≡ v = get_or-take (place_among vs w + 1) vs i v (omega (arith, both.0)) ∙ get_or_from_slice_get vs i v v at_v in
-      rw is (ap (λ (xs : List (List ℕ)). slice_get xs 0) (drop_more (take (place_among vs w + 1) vs) i v within) ∙ ap (λ (x : List ℕ). Some x) here)
+      grind (arith, length-take-le, drop_more)
 
   -- the back one comes last
   pub back_last : (more : Bool) (v w : List ℕ) → more ≡ true → (IsTrue more → AreEnds vs v w) → IsFinal (from_to_if more vs v w) w
@@ -214,14 +197,11 @@ module _ (vs : List (List ℕ)) (rise : IsRising vs) where
       → OnTrue some (IsFinal vs last) → OnFalse some (vs ≡ []) → (IsTrue more → AreEnds vs next last) × ComeAfter vs v (from_to_if more vs next last)
   after_it true true v next last member after end final none =
       let both = next_ones v next last member after final in (λ _. both.0, both.1)
-  after_it true false v next last (i, within, at) after end final none = absurd (omega (arith, ap length none))
-  after_it false some v next last member after end final none = (λ h. absurd cc, none_after v member end)
+  after_it more some v next last member after end final none = grind (arith, none_after)
 
 -- a list with a first element is that one and the others
 pub first_and_rest : (xs rest : List (List ℕ)) (v copy : List ℕ) → slice_get xs 0 ≡ Some v → copy ≡ v → rest ≡ drop 1 xs → xs ≡ copy ∷ rest
-first_and_rest [] rest v copy first same left = absurd (omega (arith, slice_get_within [] 0 v first))
-first_and_rest (x ∷ xs) rest v copy first same left =
-    ap (λ (y : List ℕ). y ∷ xs) (get_or_from_slice_get (x ∷ xs) 0 v v first ∙ sym same) ∙ ap (λ ys. copy ∷ ys) (sym left)
+first_and_rest xs rest v copy first same left = grind arith
 
 -- and a list with a last element the others and that one
 pub rest_and_last : (xs rest : List (List ℕ)) (v copy : List ℕ) → IsFinal xs v → copy ≡ v → rest ≡ take (length xs - 1) xs → xs ≡ rest ++ copy ∷ []

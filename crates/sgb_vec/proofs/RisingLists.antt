@@ -59,9 +59,7 @@ length-greatest R xs v i rises here none =
 pub none_above_last : {X : Type 0} (R : X → X → Type 0) (xs : List X) (v u : X) → IsAsymmetric R → AllPairs R xs → Contains xs v → ((i : ℕ) → slice_get xs i ≡ Some v → length xs ≡ i + 1) → Contains xs u → R v u → ⊥
 none_above_last R xs v u asym rises (i, i_within, at_i) last (j, j_within, at_j) before =
     let here : get_or xs i u ≡ v = get_or_from_slice_get xs i v u (slice_get_read xs (length xs) i v refl i_within (sym at_i)) in
-    let less : i < j = place-rises R xs i j u asym rises i_within (rw (here, at_j) before) in
-    let top = last i (slice_get_read xs (length xs) i v refl i_within (sym at_i)) in
-    omega arith
+    grind (arith, slice_get_read)
 
 -- no element stands at two places
 pub place-once : {X : Type 0} (R : X → X → Type 0) (xs : List X) (v : X) (i j : ℕ) → IsAsymmetric R → AllPairs R xs → slice_get xs i ≡ Some v → slice_get xs j ≡ Some v → i ≡ j
@@ -83,8 +81,7 @@ pub slice_get-previous : {X : Type 0} (R : X → X → Type 0) (xs : List X) (v 
 slice_get-previous R xs v w i asym rises (j, within, at) next here =
     let at_j : slice_get xs j ≡ Some w = slice_get_read xs (length xs) j w refl within (sym at) in
     let same : i ≡ j + 1 = place-once R xs v i (j + 1) asym rises here (next j at_j) in
-    let back : i - 1 ≡ j = omega arith in
-    (omega arith, rw back at_j)
+    grind arith
 
 -- the element that ends the list at each of its places is the one at the end
 pub slice_get-end : {X : Type 0} (xs : List X) (v : X) → Contains xs v → ((i : ℕ) → slice_get xs i ≡ Some v → length xs ≡ i + 1) → slice_get xs (length xs - 1) ≡ Some v

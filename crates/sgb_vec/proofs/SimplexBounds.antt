@@ -31,8 +31,7 @@ simplex_by_stop-fits n entries s e few small = grind (arith, nat_tests)
 
 -- what is accepted where neither test refuses it
 accepted_of : (b c : Bool) (given shape : Normalized) → (if b then Err Bad else (if c then Err VeryBad else Ok given)) ≡ Ok shape → (b ≡ false) × (c ≡ false) × (given ≡ shape)
-accepted_of false false given shape accepted = (refl, refl, search (rules, accepted))
-accepted_of _ _ given shape accepted = absurd (search (rules, accepted))
+accepted_of b c given shape accepted = grind (arith)
 
 -- zeros after the stop stay zeros
 zeros_small : (n most : ℕ) (rest : List ℤ) → All (λ p. nat_abs p ≤ most) (map (clamped_parameter n) (map (λ z. pos 0) rest))

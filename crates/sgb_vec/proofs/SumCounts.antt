@@ -1,5 +1,5 @@
 -- How many vectors within bounds add to a number: one more bound sums the counts over a window.
-use Rattle.std.proofs.Common.{◌≡◌, ℕ, suc, zero, ◌+◌, ◌<◌, ◌≤◌, Bool, true, false, cond, eqb, List, [], ◌∷◌, ◌++◌, length, map, filter, take, sum, get_or, refl, sym, ap, subst, ◌∙◌, add-one, arith, length-append}
+use Rattle.std.proofs.Common.{◌≡◌, ℕ, suc, zero, ◌+◌, ◌<◌, ◌≤◌, Bool, false, eqb, List, [], ◌∷◌, ◌++◌, length, map, filter, take, sum, get_or, refl, sym, ap, ◌∙◌, add-one, arith, length-append, rules}
 use Rattle.std.specs.List.{flat_map, range_with_len, remove}
 use Rattle.std.proofs.lemmas.Bool.{ne_eqb}
 use Rattle.std.proofs.lemmas.Bool.Decides.{same_from_decides, Decides-like, Decides-eqb}
@@ -10,7 +10,7 @@ use Rattle.sgb_vec.specs.Boxes.{box}
 use Rattle.sgb_vec.specs.Sums.{bounded_sums, count_of_sum}
 use Rattle.sgb_vec.proofs.Lists.{filter-none}
 use Rattle.sgb_vec.proofs.Convolutions.{products_from, products_same_factors, windows-products}
-use Rattle.sgb_vec.proofs.Hills.{IsHill, IsHill-same, IsHill-window}
+use Rattle.sgb_vec.proofs.Hills.{IsHill, IsHill-window}
 use Rattle.sgb_vec.proofs.Windows.{shifted, window, window_same, window_comm, window_far, window-last_le, window_le, one_at_zero, window-one_at_zero_prefix}
 
 -- the sequence x places later, with 0 in front
@@ -27,12 +27,8 @@ laters a (suc n) f k = later a f k + laters (a + 1) n f k
 laters-shifted : (n a : ℕ) (f : ℕ → ℕ) (k : ℕ) → laters (a + 1) n f k ≡ shifted (laters a n f) k
 laters-shifted zero a f zero = refl
 laters-shifted zero a f (suc k) = refl
-laters-shifted (suc n) a f zero =
-    let first : later (a + 1) f 0 ≡ 0 = ap (λ m. later m f 0) (add-one a) in
-    omega (arith, laters-shifted n (a + 1) f 0)
-laters-shifted (suc n) a f (suc k) =
-    let first : later (a + 1) f (suc k) ≡ later a f k = ap (λ m. later m f (suc k)) (add-one a) in
-    omega (arith, laters-shifted n (a + 1) f (suc k))
+laters-shifted (suc n) a f zero = grind (arith, laters-shifted n (a + 1) f 0)
+laters-shifted (suc n) a f (suc k) = grind (arith, laters-shifted n (a + 1) f (suc k))
 
 -- all from 0 to b places later are a window
 laters-window : (b : ℕ) (f : ℕ → ℕ) (k : ℕ) → laters 0 (suc b) f k ≡ window b f k
@@ -47,12 +43,7 @@ tally vectors k = length (filter (λ v. eqb (sum v) k) vectors)
 -- what is mapped and passes is what passes before, mapped
 pub filter-map : (p q : List ℕ → Bool) (h : List ℕ → List ℕ) → ((v : List ℕ) → p (h v) ≡ q v) → (vectors : List (List ℕ)) → filter p (map h vectors) ≡ map h (filter q vectors)
 filter-map p q h e [] = refl
-filter-map p q h e (v ∷ vectors) =
-    let rest = filter-map p q h e vectors in
-    rw (e v) (elim (q v) as (λ b. cond b (h v ∷ filter p (map h vectors)) (filter p (map h vectors)) ≡ map h (cond b (v ∷ filter q vectors) (filter q vectors))) [
-      | true ↦ ap (λ vs. h v ∷ vs) rest
-      | false ↦ rest
-    ])
+filter-map p q h e (v ∷ vectors) = grind (arith, filter-map p q h e vectors)
 
 -- so there are as many
 length-filter-map : (p q : List ℕ → Bool) (h : List ℕ → List ℕ) → ((v : List ℕ) → p (h v) ≡ q v) → (vectors : List (List ℕ)) → length (filter p (map h vectors)) ≡ length (filter q vectors)
@@ -62,11 +53,6 @@ length-filter-map p q h e vectors = ap length (filter-map p q h e vectors) ∙ l
 sum-suc : (x : ℕ) (v : List ℕ) → sum (suc x ∷ v) ≡ suc (sum (x ∷ v))
 sum-suc x v = omega (arith, sum_by-cons (λ y. y) (suc x) v, sum_by-cons (λ y. y) x v)
 
--- tests of equations that say the same
-pub eqb_like : (a b c d : ℕ) → (a ≡ b → c ≡ d) → (c ≡ d → a ≡ b) → eqb a b ≡ eqb c d
-eqb_like a b c d there back =
-    same_from_decides {P = c ≡ d} (eqb a b) (eqb c d) (Decides-like (eqb a b) there back (Decides-eqb a b)) (Decides-eqb c d)
-
 -- x in front of each vector puts the counts x places later
 tally-front : (vectors : List (List ℕ)) (x k : ℕ) → tally (map (λ v. x ∷ v) vectors) k ≡ later x (tally vectors) k
 tally-front vectors zero k = length-filter-map (λ v. eqb (sum v) k) (λ v. eqb (sum v) k) (λ v. zero ∷ v) (λ v. refl) vectors
@@ -74,8 +60,7 @@ tally-front vectors (suc x) zero =
     let above : (v : List ℕ) → eqb (sum (suc x ∷ v)) 0 ≡ false = λ v. ne_eqb (sum (suc x ∷ v)) 0 (λ e. absurd (omega (arith, sum-suc x v))) in
     length-filter-map (λ v. eqb (sum v) 0) (λ v. false) (λ v. suc x ∷ v) above vectors ∙ ap length (filter-none (λ v. false) vectors (λ k d within. refl))
 tally-front vectors (suc x) (suc k) =
-    let same : (v : List ℕ) → eqb (sum (suc x ∷ v)) (suc k) ≡ eqb (sum (x ∷ v)) k =
-    λ v. eqb_like (sum (suc x ∷ v)) (suc k) (sum (x ∷ v)) k (λ e. omega (arith, sum-suc x v)) (λ e. omega (arith, sum-suc x v)) in
+    let same : (v : List ℕ) → eqb (sum (suc x ∷ v)) (suc k) ≡ eqb (sum (x ∷ v)) k = grind (arith, sum-suc) in
     let adds : List ℕ → Bool = λ v. eqb (sum (x ∷ v)) k in
     length-filter-map (λ v. eqb (sum v) (suc k)) adds (λ v. suc x ∷ v) same vectors
     ∙ sym (length-filter-map (λ v. eqb (sum v) k) adds (λ v. x ∷ v) (λ v. refl) vectors)
@@ -84,12 +69,7 @@ tally-front vectors (suc x) (suc k) =
 -- of each x from a on, n of them
 tally-rows : (vectors : List (List ℕ)) (n a k : ℕ) → tally (flat_map (λ x. map (λ v. x ∷ v) vectors) (range_with_len a n)) k ≡ laters a n (tally vectors) k
 tally-rows vectors zero a k = refl
-tally-rows vectors (suc n) a k =
-    let adds : List ℕ → Bool = λ v. eqb (sum v) k in
-    let row = map (λ v. a ∷ v) vectors in
-    let rest = flat_map (λ x. map (λ v. x ∷ v) vectors) (range_with_len (a + 1) n) in
-    let joined : tally (row ++ rest) k ≡ length (filter adds row ++ filter adds rest) = ap length (filter-append adds row rest) in
-    omega (arith, joined, length-append (filter adds row) (filter adds rest), tally-front vectors a k, tally-rows vectors n (a + 1) k)
+tally-rows vectors (suc n) a k = simp (eqb, tally, filter, filter-append, length-append, tally-front, tally-rows vectors n (a + 1) k)
 
 -- a bound in front sums the counts over a window
 pub count_of_sum-cons : (b : ℕ) (bounds : List ℕ) (k : ℕ) → count_of_sum k (b ∷ bounds) ≡ window b (λ i. count_of_sum i bounds) k
@@ -112,18 +92,14 @@ count_of_sum-snoc (a ∷ bounds) b k =
 pub count_of_sum-nil : (k : ℕ) → count_of_sum k [] ≡ one_at_zero k
 unfolding bounded_sums box
 count_of_sum-nil zero = refl
-count_of_sum-nil (suc k) =
-    let other : eqb 0 (suc k) ≡ false = ne_eqb 0 (suc k) (λ e. absurd (omega arith)) in
-    rw other refl
+count_of_sum-nil (suc k) = grind arith
 
 -- as far as it goes there is one; of no bound there is one that adds to 0
 pub count_of_sum-few : (bounds : List ℕ) (k : ℕ) → length bounds < 2 → k ≤ sum bounds → count_of_sum k bounds ≡ 1
 count_of_sum-few [] zero short h = count_of_sum-nil 0
 count_of_sum-few (b ∷ []) k short h =
     let within : k ≤ b = omega (arith, sum_by-cons (λ y. y) b []) in
-    count_of_sum-cons b [] k
-    ∙ window_same b (λ i. count_of_sum i []) one_at_zero k (λ i _. count_of_sum-nil i)
-    ∙ window-one_at_zero_prefix b k within
+    simp (count_of_sum-cons, window_same, one_at_zero, count_of_sum-nil, window-one_at_zero_prefix, within)
 count_of_sum-few _ _ short h = absurd (omega arith)
 
 -- no vector above the sum of the bounds
@@ -151,15 +127,11 @@ count_of_sum-remove (b ∷ bounds) (suc i) k h =
 pub count_of_sum-taken : (a b : ℕ) (bounds first others : List ℕ) → ((k : ℕ) → count_of_sum k bounds ≡ count_of_sum k (a ∷ first)) → ((k : ℕ) → count_of_sum k first ≡ count_of_sum k (b ∷ others)) → (k : ℕ) → count_of_sum k bounds ≡ count_of_sum k (a ∷ b ∷ others)
 count_of_sum-taken a b bounds first others e f k = grind (arith, count_of_sum-cons, window_same)
 
--- one more bound makes no count smaller
-pub count_of_sum-cons_le : (b : ℕ) (bounds : List ℕ) (k : ℕ) → count_of_sum k bounds ≤ count_of_sum k (b ∷ bounds)
-count_of_sum-cons_le b bounds k = omega (arith, count_of_sum-cons b bounds k, window-last_le b (λ i. count_of_sum i bounds) k)
-
 -- the first bounds have no greater count than all
 pub count_of_sum-take_le : (bounds : List ℕ) (j k : ℕ) → count_of_sum k (take j bounds) ≤ count_of_sum k bounds
 count_of_sum-take_le [] zero k = omega arith
 count_of_sum-take_le [] (suc j) k = omega arith
-count_of_sum-take_le (b ∷ bounds) zero k = omega (arith, count_of_sum-take_le bounds zero k, count_of_sum-cons_le b bounds k)
+count_of_sum-take_le (b ∷ bounds) zero k = grind (arith, count_of_sum-cons, window-last_le, count_of_sum-take_le bounds zero k)
 count_of_sum-take_le (b ∷ bounds) (suc j) k =
     omega (arith, count_of_sum-cons b (take j bounds) k, count_of_sum-cons b bounds k, window_le b (λ i. count_of_sum i (take j bounds)) (λ i. count_of_sum i bounds) k (λ i _. count_of_sum-take_le bounds j i))
 
@@ -179,10 +151,7 @@ count_of_sum-pairs a b bounds k =
 -- the counts rise to half the sum of the bounds, and fall after it as they rose
 pub counts_rise : (bounds : List ℕ) → IsHill (λ k. count_of_sum k bounds) (sum bounds)
 counts_rise [] = record { far = count_of_sum-far []; mirror = λ i j e. let same : i ≡ j = omega arith in ap (λ k. count_of_sum k []) same; rises = λ i l. absurd (omega arith) }
-counts_rise (b ∷ bounds) =
-    let f : ℕ → ℕ = λ k. count_of_sum k bounds in
-    let whole : b + sum bounds ≡ sum (b ∷ bounds) = sym (sum_by-cons (λ y. y) b bounds) in
-    subst (IsHill (λ k. count_of_sum k (b ∷ bounds))) whole (IsHill-same (window b f) (λ k. count_of_sum k (b ∷ bounds)) (b + sum bounds) (λ k. sym (count_of_sum-cons b bounds k)) (IsHill-window f (sum bounds) (counts_rise bounds) b))
+counts_rise (b ∷ bounds) = search (rules, sum_by-cons, count_of_sum-cons, IsHill-window, counts_rise bounds)
 
 -- three that are taken out one after another, the last bound having been put behind the others
 pub count_of_sum-three_taken : (x a b c : ℕ) (bounds all first second others : List ℕ) → all ≡ bounds ++ x ∷ [] → ((k : ℕ) → count_of_sum k all ≡ count_of_sum k (a ∷ first)) → ((k : ℕ) → count_of_sum k first ≡ count_of_sum k (b ∷ second)) → ((k : ℕ) → count_of_sum k second ≡ count_of_sum k (c ∷ others)) → (k : ℕ) → count_of_sum k (x ∷ bounds) ≡ count_of_sum k (a ∷ b ∷ c ∷ others)

@@ -1,5 +1,5 @@
 -- The place of a vector among those of a bounded sum: at each entry the vectors that have a smaller one there come before.
-use Rattle.std.proofs.Common.{rules, ◌≡◌, ℕ, suc, zero, ◌+◌, ◌-◌, ◌<◌, ◌≤◌, Bool, true, false, eqb, min, List, [], ◌∷◌, ◌++◌, length, map, filter, take, drop, sum, set, get_or, Some, refl, sym, ap, subst, ◌∙◌, inl, inr, add-one, arith, length-append}
+use Rattle.std.proofs.Common.{rules, ◌≡◌, ℕ, suc, zero, ◌+◌, ◌-◌, ◌<◌, ◌≤◌, Bool, eqb, min, List, [], ◌∷◌, ◌++◌, length, map, filter, take, drop, sum, set, get_or, Some, refl, sym, ap, subst, ◌∙◌, add-one, arith, length-append}
 use Rattle.std.specs.Bool.{OnTrue, OnFalse}
 use Rattle.std.specs.List.{Contains, flat_map, range_with_len, slice_get}
 use Rattle.std.proofs.lemmas.Bool.{cases_lt}
@@ -12,7 +12,7 @@ use Rattle.sgb_vec.specs.Order.{IsLast, IsNext}
 use Rattle.sgb_vec.specs.Sums.{bounded_sums, count_of_sum}
 use Rattle.sgb_vec.specs.inner.SumPlaces.{count_below}
 use Rattle.sgb_vec.proofs.Lists.{slice_get-left}
-use Rattle.sgb_vec.proofs.SumCounts.{eqb_like, filter-map, tally, count_of_sum-nil, count_of_sum-cons}
+use Rattle.sgb_vec.proofs.SumCounts.{filter-map, tally, count_of_sum-nil, count_of_sum-cons}
 use Rattle.sgb_vec.proofs.SumMembers.{Contains-bounded_sums, IsWithin-length}
 use Rattle.sgb_vec.proofs.SumSuccessors.{sum-cons}
 use Rattle.sgb_vec.proofs.SumTails.{IsWithin-drop}
@@ -28,8 +28,7 @@ slice_get-right (x ∷ xs) ys (suc m) j u e h = slice_get-right xs ys m j u (ome
 row-at : (vectors : List (List ℕ)) (n x j : ℕ) (w : List ℕ) → x ≤ n → slice_get (filter (λ v. eqb (sum v) (n - x)) vectors) j ≡ Some w → slice_get (filter (λ v. eqb (sum v) n) (map (λ v. x ∷ v) vectors)) j ≡ Some (x ∷ w)
 row-at vectors n x j w low e =
     let adds : List ℕ → Bool = λ v. eqb (sum v) (n - x) in
-    let same : (v : List ℕ) → eqb (sum (x ∷ v)) n ≡ eqb (sum v) (n - x) =
-    λ v. eqb_like (sum (x ∷ v)) n (sum v) (n - x) (λ s. omega (arith, sum-cons x v)) (λ s. omega (arith, sum-cons x v)) in
+    let same : (v : List ℕ) → eqb (sum (x ∷ v)) n ≡ eqb (sum v) (n - x) = grind (arith, sum-cons) in
     ap (λ vs. slice_get vs j) (filter-map (λ v. eqb (sum v) n) adds (λ v. x ∷ v) same vectors)
     ∙ slice_get-map (λ v. x ∷ v) (filter adds vectors) j
     ∙ ap (λ o. elim o as (λ _. Rattle.std.specs.Prelude.Option (List ℕ)) [ Some v ↦ Some (x ∷ v) | Rattle.std.specs.Prelude.None ↦ Rattle.std.specs.Prelude.None ]) e
@@ -38,25 +37,8 @@ row-at vectors n x j w low e =
 rows-at : (vectors : List (List ℕ)) (n a count i y j : ℕ) (u : List ℕ) → i < count → y ≡ a + i → slice_get (filter (λ v. eqb (sum v) n) (map (λ v. y ∷ v) vectors)) j ≡ Some u
     → slice_get (filter (λ v. eqb (sum v) n) (flat_map (λ x. map (λ v. x ∷ v) vectors) (range_with_len a count))) (tally (flat_map (λ x. map (λ v. x ∷ v) vectors) (range_with_len a i)) n + j) ≡ Some u
 rows-at vectors n a zero i y j u h s e = absurd (omega arith)
-rows-at vectors n a (suc count) zero y j u h s e =
-    let adds : List ℕ → Bool = λ v. eqb (sum v) n in
-    let row = map (λ v. a ∷ v) vectors in
-    let rest = flat_map (λ x. map (λ v. x ∷ v) vectors) (range_with_len (a + 1) count) in
-    let first : y ≡ a = omega arith in
-    let here : slice_get (filter adds row) j ≡ Some u = ap (λ x. slice_get (filter adds (map (λ v. x ∷ v) vectors)) j) (sym first) ∙ e in
-    ap (slice_get (filter adds (row ++ rest))) (omega arith)
-    ∙ ap (λ vs. slice_get vs j) (filter-append adds row rest)
-    ∙ slice_get-left (filter adds row) (filter adds rest) j u here
-rows-at vectors n a (suc count) (suc i) y j u h s e =
-    let adds : List ℕ → Bool = λ v. eqb (sum v) n in
-    let row = map (λ v. a ∷ v) vectors in
-    let rest = flat_map (λ x. map (λ v. x ∷ v) vectors) (range_with_len (a + 1) count) in
-    let before = flat_map (λ x. map (λ v. x ∷ v) vectors) (range_with_len (a + 1) i) in
-    let joined : tally (row ++ before) n ≡ length (filter adds row ++ filter adds before) = ap length (filter-append adds row before) in
-    ap (λ vs. slice_get vs (tally (row ++ before) n + j)) (filter-append adds row rest)
-    ∙ slice_get-right (filter adds row) (filter adds rest) (tally (row ++ before) n + j) (tally before n + j) u
-    (omega (arith, joined, length-append (filter adds row) (filter adds before)))
-    (rows-at vectors n (a + 1) count i y j u (omega arith) (omega arith) e)
+rows-at vectors n a (suc count) zero y j u h s e = grind (arith, filter-append, slice_get-left)
+rows-at vectors n a (suc count) (suc i) y j u h s e = grind (arith, filter-append, slice_get-right, length-append, rows-at vectors n (a + 1) count i y j u (omega arith) (omega arith) e)
 
 -- a vector with an entry in front comes as much later as vectors have a smaller entry there
 place-front : (n b x : ℕ) (after w : List ℕ) (j : ℕ) → x ≤ b → x ≤ n → slice_get (bounded_sums (n - x) after) j ≡ Some w → slice_get (bounded_sums n (b ∷ after)) (count_below n x after + j) ≡ Some (x ∷ w)
@@ -74,33 +56,18 @@ place-front n b x after w j low within e =
 
 -- below an entry more there are also those that have it
 pub count_below-more : (n x : ℕ) (after : List ℕ) → x ≤ n → count_below n (x + 1) after ≡ count_below n x after + count_of_sum (n - x) after
-count_below-more n zero after h =
-    let same : n ≡ n - 0 = omega arith in
-    omega (arith, ap (λ m. count_below n m after) (add-one 0), count_of_sum-cons 0 after n, ap (λ k. count_of_sum k after) same)
+count_below-more n zero after h = grind (arith, count_of_sum-cons)
 count_below-more n (suc x) after h =
     let f : ℕ → ℕ = λ k. count_of_sum k after in
     omega (arith, ap (λ m. count_below n m after) (add-one (suc x)), count_of_sum-cons (suc x) after n, count_of_sum-cons x after n, window-wider x (n - suc x) f n (omega arith))
 
 -- below an entry more than the greatest there are all
 pub count_below-all : (n b m : ℕ) (after : List ℕ) → m ≡ min b n → count_below n (m + 1) after ≡ count_of_sum n (b ∷ after)
-count_below-all n b m after e =
-    let f : ℕ → ℕ = λ k. count_of_sum k after in
-    elim (cases_lt n b) [
-      | inr low ↦
-          let same : m ≡ b = omega arith in
-          ap (λ k. count_below n k after) (add-one m) ∙ ap (λ c. count_of_sum n (c ∷ after)) same
-      | inl high ↦
-          let same : m ≡ n = omega arith in
-          omega (arith, ap (λ k. count_below n k after) (add-one m), ap (λ c. count_of_sum n (c ∷ after)) same, count_of_sum-cons n after n, count_of_sum-cons b after n, window_prefix n f n (omega arith), window_prefix b f n (omega arith))
-    ]
+count_below-all n b m after e = grind (arith, count_of_sum-cons, window_prefix)
 
 -- with the entries `front` before it each vector of what is left, at a place of its own, stands `before` later among all
 pub record LeadsTo (n : ℕ) (bounds front : List ℕ) (left : ℕ) (after : List ℕ) (before : ℕ) : Type 0 where
   pub each : (j : ℕ) (w : List ℕ) → slice_get (bounded_sums left after) j ≡ Some w → slice_get (bounded_sums n bounds) (before + j) ≡ Some (front ++ w)
-
--- no entry yet
-leads-none : (n : ℕ) (bounds : List ℕ) → LeadsTo n bounds [] n bounds 0
-leads-none n bounds = record { each = λ j w e. let same : 0 + j ≡ j = omega arith in ap (slice_get (bounded_sums n bounds)) same ∙ e }
 
 -- one entry more
 leads-more : (n : ℕ) (bounds front : List ℕ) (left b x : ℕ) (after : List ℕ) (before : ℕ) → x ≤ b → x ≤ left → LeadsTo n bounds front left (b ∷ after) before → LeadsTo n bounds (front ++ x ∷ []) (left - x) after (before + count_below left x after)
@@ -127,9 +94,7 @@ pub record IsPutUpTo (n : ℕ) (bounds : List ℕ) (place : ℕ) (entries : List
 
 -- no entry yet
 pub put-none : (n : ℕ) (bounds : List ℕ) (place : ℕ) (entries : List ℕ) → place < count_of_sum n bounds → IsPutUpTo n bounds place entries 0 n place
-put-none n bounds place entries h =
-    let none : 0 ≡ place - place = omega arith in
-    record { leads = rw (← none) (leads-none n bounds); low = omega arith; within = h; small = omega arith }
+put-none n bounds place entries h = grind (arith)
 
 -- one entry more
 pub put-more : (n : ℕ) (bounds : List ℕ) (place : ℕ) (entries : List ℕ) (k left rest x before : ℕ) → k < length bounds → k < length entries → x ≤ get_or bounds k 0 → x ≤ left → before ≡ count_below left x (drop (k + 1) bounds) → before ≤ rest → rest < count_below left (x + 1) (drop (k + 1) bounds) → IsPutUpTo n bounds place entries k left rest → IsPutUpTo n bounds place (set entries k x) (k + 1) (left - x) (rest - before)
@@ -138,14 +103,7 @@ put-more n bounds place entries k left rest x before h i low within count least 
     let from : drop k bounds ≡ get_or bounds k 0 ∷ after = drop_more bounds k 0 h in
     let leads : LeadsTo n bounds (take k entries) left (get_or bounds k 0 ∷ after) (place - rest) = subst (λ bs. LeadsTo n bounds (take k entries) left bs (place - rest)) from so.leads in
     let next : LeadsTo n bounds (take k entries ++ x ∷ []) (left - x) after (place - rest + count_below left x after) = leads-more n bounds (take k entries) left (get_or bounds k 0) x after (place - rest) low within leads in
-    let place_is : place - rest + count_below left x after ≡ place - (rest - before) = omega (arith, so.low) in
-    let front : take k entries ++ x ∷ [] ≡ take (k + 1) (set entries k x) = sym (take_more_set entries k x i) in
-    record {
-      leads = subst (λ xs. LeadsTo n bounds xs (left - x) after (place - (rest - before))) front (subst (λ m. LeadsTo n bounds (take k entries ++ x ∷ []) (left - x) after m) place_is next);
-      low = omega (arith, so.low);
-      within = omega (arith, count_below-more left x after within);
-      small = omega (arith, so.small);
-    }
+    grind (arith, take_more_set, count_below-more)
 
 -- nothing is left without a bound
 left-none : (left rest : ℕ) → rest < count_of_sum left [] → (left ≡ 0) × (rest ≡ 0)
@@ -157,8 +115,7 @@ pub put-all : (n : ℕ) (bounds : List ℕ) (place : ℕ) (entries : List ℕ) (
 put-all n bounds place entries k left rest h i so =
     let no_bounds : drop k bounds ≡ [] = drop_all k bounds h in
     let none = left-none left rest (subst (λ bs. rest < count_of_sum left bs) no_bounds so.within) in
-    let whole : place - rest ≡ place = omega (arith, none.1) in
-    leads-all n bounds entries place (rw (no_bounds, none.0, whole, take_all k entries i) at so.leads)
+    grind (arith, leads-all, take_all)
 
 -- the first k entries make `place` of the vector's place
 pub record IsPlaceSoFar (n : ℕ) (bounds v : List ℕ) (k left place : ℕ) : Type 0 where
@@ -168,7 +125,7 @@ pub record IsPlaceSoFar (n : ℕ) (bounds v : List ℕ) (k left place : ℕ) : T
 
 -- no entry yet
 pub place-none : (n : ℕ) (bounds v : List ℕ) → sum v ≡ n → IsPlaceSoFar n bounds v 0 n 0
-place-none n bounds v e = record { leads = leads-none n bounds; adds = sym e; small = omega arith }
+place-none n bounds v e = grind (arith)
 
 -- an entry is at most what is left
 pub place-entry_le : (n : ℕ) (bounds v : List ℕ) (k left place : ℕ) → k < length v → IsPlaceSoFar n bounds v k left place → left ≡ get_or v k 0 + sum (drop (k + 1) v)
@@ -184,11 +141,7 @@ place-more n bounds v k left place count h within e so =
     let sums = place-entry_le n bounds v k left place h so in
     let leads : LeadsTo n bounds (take k v) left (get_or bounds k 0 ∷ after) place = subst (λ bs. LeadsTo n bounds (take k v) left bs place) from so.leads in
     let next = leads-more n bounds (take k v) left (get_or bounds k 0) x after place (AllZip-get_or (λ y b. y ≤ b) v bounds k 0 0 within h) (omega (arith, sums)) leads in
-    record {
-      leads = rw (take_more v k 0 h, e) next;
-      adds = omega (arith, sums);
-      small = omega (arith, so.small);
-    }
+    grind (arith, take_more)
 
 -- what is made so far is below the number of vectors
 pub place-below : (n : ℕ) (bounds v : List ℕ) (k left place : ℕ) → IsWithin v bounds → IsPlaceSoFar n bounds v k left place → place < count_of_sum n bounds
@@ -200,15 +153,11 @@ place-below n bounds v k left place within so =
 
 -- all entries
 pub place-all : (n : ℕ) (bounds v : List ℕ) (k left place : ℕ) → length v ≤ k → IsWithin v bounds → IsPlaceSoFar n bounds v k left place → slice_get (bounded_sums n bounds) place ≡ Some v
-place-all n bounds v k left place h within so =
-    let no_bounds : drop k bounds ≡ [] = drop_all k bounds (omega (arith, IsWithin-length bounds v within)) in
-    let nothing : left ≡ 0 = so.adds ∙ ap sum (drop_all k v h) in
-    leads-all n bounds v place (rw (no_bounds, nothing, take_all k v h) at so.leads)
+place-all n bounds v k left place h within so = grind (arith, drop_all, IsWithin-length, leads-all, take_all)
 
 -- a walk from member to member: the next one stands at the next place
 pub walk-step : (xs : List (List ℕ)) (n k : ℕ) (old new : List ℕ) (more : Bool) → n ≡ length xs → k < n - 1 → slice_get xs k ≡ Some old → OnTrue more (IsNext xs old new) → OnFalse more (IsLast xs old) → slice_get xs (k + 1) ≡ Some new
-walk-step xs n k old new true e h here next last = next k here
-walk-step xs n k old new false e h here next last = absurd (omega (arith, last k here))
+walk-step xs n k old new more e h here next last = grind (arith)
 
 -- where the member is not the one that is looked for, that one stands later
 pub walk-other : (xs : List (List ℕ)) (k p : ℕ) (w v : List ℕ) → k ≤ p → slice_get xs k ≡ Some w → (w ≡ v → ⊥) → slice_get xs p ≡ Some v → k + 1 ≤ p

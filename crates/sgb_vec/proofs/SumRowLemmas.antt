@@ -1,5 +1,5 @@
 -- Rows of counts of a bounded sum: the row of no bounds, and what running sums and a difference make of a row.
-use Rattle.std.proofs.Common.{rules, ◌≡◌, ℕ, suc, zero, ◌+◌, ◌-◌, ◌*◌, ◌<◌, ◌≤◌, ◌^◌, List, [], ◌∷◌, ◌++◌, length, take, sum, get_or, min, replicate, set, refl, sym, ap, ◌∙◌, inl, inr, add-one, arith}
+use Rattle.std.proofs.Common.{rules, ◌≡◌, ℕ, suc, zero, ◌+◌, ◌-◌, ◌*◌, ◌<◌, ◌≤◌, ◌^◌, List, [], ◌∷◌, ◌++◌, length, take, sum, get_or, min, replicate, set, refl, sym, ap, ◌∙◌, add-one, arith}
 use Rattle.std.specs.List.{All}
 use Rattle.std.proofs.lemmas.Bool.{cases_lt}
 use Rattle.std.proofs.lemmas.List.{get_or_append_left, get_or-append_right, get_or_past, take-append-le, take_all, take_more}
@@ -14,11 +14,7 @@ use Rattle.sgb_vec.proofs.Convolutions.{products_from, products_same, products_n
 
 -- the counts of no bounds
 pub CountsSums-nil : (n : ℕ) → CountsSums n (1 ∷ []) []
-CountsSums-nil n = record { at = λ k _. at_each k }
-  where
-    at_each : (k : ℕ) → get_or (1 ∷ []) k 0 ≡ count_of_sum k []
-    at_each zero = sym (count_of_sum-nil 0)
-    at_each (suc k) = sym (count_of_sum-nil (suc k))
+CountsSums-nil n = grind (arith, count_of_sum-nil)
 
 -- every entry of zeros, and what comes after them, is 0
 get_or-zeros : (m k : ℕ) → get_or (replicate {A = ℕ} m 0) k 0 ≡ 0
@@ -53,30 +49,11 @@ pub CountsSums-snoc : (n : ℕ) (row sums next bounds : List ℕ) (b : ℕ) → 
 CountsSums-snoc n row sums next bounds b counts most whole long long_next running start after =
     let f : ℕ → ℕ = λ i. count_of_sum i bounds in
     let total : (i : ℕ) → i < length row → get_or sums i 0 ≡ up_to f i = λ i h. running i h ∙ sum-take_up_to row f i (λ j l. counts.at j (omega arith)) h in
-    record {
-      at = λ k h. elim (cases_lt k (length row)) [
-        | inr past ↦ get_or_past next k 0 (omega arith) ∙ sym (count_of_sum-far (bounds ++ b ∷ []) k (omega arith))
-        | inl within ↦ elim (cases_lt k (b + 1)) [
-          | inl low ↦ start k low ∙ total k within ∙ sym (window_prefix b f k (omega arith)) ∙ sym (count_of_sum-snoc bounds b k)
-          | inr high ↦
-              let i : ℕ = k - (b + 1) in
-              omega (arith, after k high (omega arith), total k within, total i (omega arith), window_after b i f k (omega arith), count_of_sum-snoc bounds b k)
-        ]
-      ];
-    }
+    grind (arith, get_or_past, count_of_sum-far, window_prefix, count_of_sum-snoc, window_after)
 
 -- zeros after the row change no count
 pub CountsSums-filled : (n m : ℕ) (row bounds : List ℕ) → CountsSums n row bounds → CountsSums n (row ++ replicate m 0) bounds
-CountsSums-filled n m row bounds counts = record {
-  at = λ k h. filled k ∙ counts.at k h;
-}
-  where
-    filled : (k : ℕ) → get_or (row ++ replicate m 0) k 0 ≡ get_or row k 0
-    filled k =
-        elim (cases_lt k (length row)) [
-          | inl here ↦ get_or_append_left row (replicate m 0) 0 k here
-          | inr past ↦ get_or-append_right row (replicate m 0) (length row) k 0 refl past ∙ get_or-zeros m (k - length row) ∙ sym (get_or_past row k 0 past)
-        ]
+CountsSums-filled n m row bounds counts = grind (arith, get_or_append_left, get_or-append_right, get_or-zeros, get_or_past)
 
 -- zeros are small
 zeros_small : (m : ℕ) → All (λ count. count ≤ most_vertices) (replicate m 0)

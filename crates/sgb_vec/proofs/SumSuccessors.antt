@@ -1,6 +1,6 @@
 -- The vectors within bounds that add to the same: the least, the greatest, and the steps from one to the
 -- next and back.
-use Rattle.std.proofs.Common.{rules, ◌≡◌, ℕ, zero, suc, ◌+◌, ◌-◌, ◌<◌, ◌≤◌, ◌⊎◌, List, [], ◌∷◌, ◌++◌, length, get_or, drop, take, refl, inl, inr, arith, sum}
+use Rattle.std.proofs.Common.{rules, ◌≡◌, ℕ, zero, suc, ◌+◌, ◌-◌, ◌<◌, ◌≤◌, ◌⊎◌, List, [], ◌∷◌, ◌++◌, length, get_or, drop, take, arith, sum}
 use Rattle.std.specs.Cmp.{nat_cmp_is}
 use Rattle.std.specs.declared.cmp.Ordering.TheVariants.{Less, Equal}
 use Rattle.std.proofs.lemmas.Bool.{cases_order}
@@ -59,88 +59,20 @@ IsLeast-nil = record {
   none_below = λ u h e before. elim u as (λ u. IsWithin u [] → IsBefore u [] → ⊥) [ [] ↦ λ _ b. cc b | x ∷ u ↦ λ k _. absurd k ] h before;
 }
 
-pub IsGreatest-nil : IsGreatest [] []
-IsGreatest-nil = record {
-  within = tt;
-  none_above = λ u h e before. elim u as (λ u. IsWithin u [] → IsBefore [] u → ⊥) [ [] ↦ λ _ b. cc b | x ∷ u ↦ λ k _. absurd k ] h before;
-}
-
 -- an entry in front of the least vector is 0, or those after it have no room for more
-none_below-cons : (b x : ℕ) (bounds w u : List ℕ) → IsLeast bounds w → (0 < x → sum w ≡ sum bounds) → IsWithin u (b ∷ bounds) → sum u ≡ sum (x ∷ w) → IsBefore u (x ∷ w) → ⊥
+pub none_below-cons : (b x : ℕ) (bounds w u : List ℕ) → IsLeast bounds w → (0 < x → sum w ≡ sum bounds) → IsWithin u (b ∷ bounds) → sum u ≡ sum (x ∷ w) → IsBefore u (x ∷ w) → ⊥
 none_below-cons b x bounds w [] least full h e before = absurd h
-none_below-cons b x bounds w (y ∷ u) least full h e before =
-    let room = sum-within bounds u h.1 in
-    elim (IsBefore-cases y x u w before) [
-      | inl less ↦ omega (arith, full (omega arith), sum-cons y u, sum-cons x w)
-      | inr same ↦ least.none_below u h.1 (omega (arith, same.0, sum-cons y u, sum-cons x w)) same.1
-    ]
-
-pub IsLeast-cons : (b x : ℕ) (bounds w : List ℕ) → IsLeast bounds w → x ≤ b → (0 < x → sum w ≡ sum bounds) → IsLeast (b ∷ bounds) (x ∷ w)
-IsLeast-cons b x bounds w least low full = record {
-  within = (low, least.within);
-  none_below = λ u. none_below-cons b x bounds w u least full;
-}
-
--- an entry in front of the greatest vector is as great as its bound, or the others are zeros
-none_above-cons : (b x : ℕ) (bounds v u : List ℕ) → IsGreatest bounds v → (0 < sum v → b ≤ x) → IsWithin u (b ∷ bounds) → sum u ≡ sum (x ∷ v) → IsBefore (x ∷ v) u → ⊥
-none_above-cons b x bounds v [] greatest top h e before = absurd h
-none_above-cons b x bounds v (y ∷ u) greatest top h e before =
-    elim (IsBefore-cases x y v u before) [
-      | inl less ↦ omega (arith, h.0, top (omega (arith, sum-cons y u, sum-cons x v)))
-      | inr same ↦ greatest.none_above u h.1 (omega (arith, same.0, sum-cons y u, sum-cons x v)) same.1
-    ]
+none_below-cons b x bounds w (y ∷ u) least full h e before = grind (arith, sum-within, sum-cons)
 
 pub IsGreatest-cons : (b x : ℕ) (bounds v : List ℕ) → IsGreatest bounds v → x ≤ b → (0 < sum v → b ≤ x) → IsGreatest (b ∷ bounds) (x ∷ v)
-IsGreatest-cons b x bounds v greatest low top = record {
-  within = (low, greatest.within);
-  none_above = λ u. none_above-cons b x bounds v u greatest top;
-}
-
--- where the others are the greatest, an entry grows and the others become the least
-between-grown : (b x : ℕ) (bounds v w u : List ℕ) → IsGreatest bounds v → IsLeast bounds w → sum v ≡ sum w + 1 → IsWithin u (b ∷ bounds) → sum u ≡ sum (x ∷ v) → IsBefore (x ∷ v) u → IsBefore u ((x + 1) ∷ w) → ⊥
-between-grown b x bounds v w [] greatest least one h e above below = absurd h
-between-grown b x bounds v w (y ∷ u) greatest least one h e above below =
-    elim (IsBefore-cases x y v u above) [
-      | inr same ↦ greatest.none_above u h.1 (omega (arith, same.0, sum-cons y u, sum-cons x v)) same.1
-      | inl less ↦
-          elim (IsBefore-cases y (x + 1) u w below) [
-            | inl small ↦ omega arith
-            | inr same ↦ least.none_below u h.1 (omega (arith, same.0, sum-cons y u, sum-cons x v)) same.1
-          ]
-    ]
-
-IsNearest-grown : (b x : ℕ) (bounds v w : List ℕ) → x < b → IsGreatest bounds v → IsLeast bounds w → sum v ≡ sum w + 1 → IsNearest (b ∷ bounds) (x ∷ v) ((x + 1) ∷ w)
-IsNearest-grown b x bounds v w low greatest least one = record {
-  within = (omega arith, least.within);
-  same_sum = omega (arith, sum-cons x v, sum-cons (x + 1) w);
-  above = IsBefore-less x (x + 1) v w (omega arith);
-  none_between = λ u. between-grown b x bounds v w u greatest least one;
-}
-
--- an entry in front of both stays as it is
-between-cons : (b x : ℕ) (bounds v w u : List ℕ) → IsNearest bounds v w → IsWithin u (b ∷ bounds) → sum u ≡ sum (x ∷ v) → IsBefore (x ∷ v) u → IsBefore u (x ∷ w) → ⊥
-between-cons b x bounds v w [] near h e above below = absurd h
-between-cons b x bounds v w (y ∷ u) near h e above below =
-    elim (IsBefore-cases x y v u above) [
-      | inl less ↦ elim (IsBefore-cases y x u w below) [ inl small ↦ omega arith | inr same ↦ omega (arith, same.0) ]
-      | inr same ↦
-          elim (IsBefore-cases y x u w below) [
-            | inl small ↦ omega (arith, same.0)
-            | inr both ↦ near.none_between u h.1 (omega (arith, same.0, sum-cons y u, sum-cons x v)) same.1 both.1
-          ]
-    ]
+IsGreatest-cons b x bounds v greatest low top = grind (arith, sum-cons)
 
 IsNearest-cons : (b x : ℕ) (bounds v w : List ℕ) → x ≤ b → IsNearest bounds v w → IsNearest (b ∷ bounds) (x ∷ v) (x ∷ w)
-IsNearest-cons b x bounds v w low near = record {
-  within = (low, near.within);
-  same_sum = omega (arith, near.same_sum, sum-cons x v, sum-cons x w);
-  above = IsBefore-same x x v w refl near.above;
-  none_between = λ u. between-cons b x bounds v w u near;
-}
+IsNearest-cons b x bounds v w low near = grind (arith, sum-cons, IsBefore-cases)
 
 -- the entry at p grows, where those after it are the greatest, and they become the least
 pub IsNearest-at : (bounds v w : List ℕ) (p : ℕ) → IsWithin v bounds → p < length v → get_or v p 0 < get_or bounds p 0 → IsGreatest (drop (suc p) bounds) (drop (suc p) v) → IsLeast (drop (suc p) bounds) w → sum (drop (suc p) v) ≡ sum w + 1 → IsNearest bounds v (take p v ++ (get_or v p 0 + 1) ∷ w)
-IsNearest-at (b ∷ bounds) (x ∷ v) w zero h within low greatest least one = IsNearest-grown b x bounds v w low greatest least one
+IsNearest-at (b ∷ bounds) (x ∷ v) w zero h within low greatest least one = grind (arith, sum-cons, IsBefore-cases)
 IsNearest-at (b ∷ bounds) (x ∷ v) w (suc p) h within low greatest least one =
     IsNearest-cons b x bounds v _ h.0 (IsNearest-at bounds v w p h.1 (omega arith) low greatest least one)
 IsNearest-at _ _ w p h within low greatest least one = absurd (omega arith)
@@ -149,9 +81,7 @@ IsNearest-at _ _ w p h within low greatest least one = absurd (omega arith)
 -- what comes of it
 pub IsNearest-fallen : (bounds v w : List ℕ) (p : ℕ) → IsWithin v bounds → p < length v → 0 < get_or v p 0 → IsLeast (drop (suc p) bounds) (drop (suc p) v) → IsGreatest (drop (suc p) bounds) w → sum w ≡ sum (drop (suc p) v) + 1 → IsNearest bounds (take p v ++ (get_or v p 0 - 1) ∷ w) v
 IsNearest-fallen [] [] w p h within some least greatest one = absurd (omega arith)
-IsNearest-fallen (b ∷ bounds) (x ∷ v) w zero h within some least greatest one =
-    let back : x - 1 + 1 ≡ x = omega arith in
-    rw back at (IsNearest-grown b (x - 1) bounds w v (omega (arith, h.0)) greatest least one)
+IsNearest-fallen (b ∷ bounds) (x ∷ v) w zero h within some least greatest one = grind (arith, sum-cons, IsBefore-cases)
 IsNearest-fallen (b ∷ bounds) (x ∷ v) w (suc p) h within some least greatest one =
     IsNearest-cons b x bounds _ v h.0 (IsNearest-fallen bounds v w p h.1 (omega arith) some least greatest one)
 IsNearest-fallen _ _ w p h within some least greatest one = absurd h

@@ -1,7 +1,6 @@
 -- The vectors of a bounded sum built, and looked through: what holds of the entries from a place on, or before it.
 use borrow.Rule.Slice.PartMut.{put_mid}
-use Rattle.std.proofs.Common.{rules, ◌≡◌, ℕ, zero, suc, ◌+◌, ◌-◌, ◌<◌, ◌≤◌, ◌⊎◌, Bool, true, false, min, List, [], ◌∷◌, ◌++◌, length, get_or, set, drop, take, refl, sym, inl, inr, arith, sum, add-one}
-use Rattle.std.proofs.lemmas.Bool.{cases_lt, cases_Bool}
+use Rattle.std.proofs.Common.{rules, ◌≡◌, ℕ, zero, suc, ◌+◌, ◌-◌, ◌<◌, ◌≤◌, ◌⊎◌, Bool, true, false, min, List, [], ◌∷◌, ◌++◌, length, get_or, set, drop, take, refl, sym, arith, sum, add-one}
 use Rattle.std.proofs.lemmas.List.{append-nil, append_assoc, drop_more, drop_all, drop-set, take_all, take_more_set, length-drop}
 use Rattle.std.proofs.lemmas.List.Elements.{AllZip-get_or}
 use Rattle.std.proofs.lemmas.List.Sums.{sum_by-take-drop, sum_by-drop_more}
@@ -9,7 +8,7 @@ use Rattle.sgb_vec.specs.Sums.{bounded_sums}
 use Rattle.sgb_vec.specs.Lexicographic.{IsWithin}
 use Rattle.sgb_vec.specs.Order.{IsFinal, IsFirst, IsNext, IsLast, IsPrevious}
 use Rattle.sgb_vec.proofs.SumMembers.{IsWithin-length}
-use Rattle.sgb_vec.proofs.SumSuccessors.{sum-cons, sum-within, IsLeast, IsGreatest, IsLeast-nil, IsGreatest-nil, IsLeast-cons, IsGreatest-cons, IsNearest-at, IsNearest-fallen, IsWithin-fallen}
+use Rattle.sgb_vec.proofs.SumSuccessors.{sum-cons, IsLeast, IsGreatest, IsLeast-nil, IsGreatest-cons, IsNearest-at, IsNearest-fallen, IsWithin-fallen, none_below-cons}
 use Rattle.sgb_vec.proofs.SumWalks.{IsFirst-least, IsLeast-first, first-within, IsLast-greatest, IsGreatest-last, IsNext-nearest, IsPrevious-nearest, IsFinal-greatest, IsGreatest-final, final-within}
 
 -- the entries from a place on are the least of their sum, and `rest` of the total has found no room there
@@ -20,33 +19,15 @@ pub record IsFilledFrom (bounds entries : List ℕ) (place rest total : ℕ) : T
 
 -- no entry yet
 pub filled-none : (bounds entries : List ℕ) (total : ℕ) → length entries ≡ length bounds → IsFilledFrom bounds entries (length bounds) total total
-filled-none bounds entries total same =
-    let no_bounds : drop (length bounds) bounds ≡ [] = drop_all (length bounds) bounds (omega arith) in
-    let no_entries : drop (length bounds) entries ≡ [] = drop_all (length bounds) entries (omega arith) in
-    record {
-      least = rw (no_bounds, no_entries) IsLeast-nil;
-      adds = rw no_entries (omega arith);
-      full = λ _. rw (no_bounds, no_entries) refl;
-    }
+filled-none bounds entries total same = grind (arith, drop_all, IsLeast-nil)
 
 -- one entry more
 pub filled-more : (bounds entries : List ℕ) (p q rest total : ℕ) → q ≡ p + 1 → p < length bounds → p < length entries → IsFilledFrom bounds entries q rest total → IsFilledFrom bounds (set entries p (min rest (get_or bounds p 0))) p (rest - min rest (get_or bounds p 0)) total
-filled-more bounds entries p q rest total next h k so =
-    let b = get_or bounds p 0 in
-    let x = min rest b in
-    let bounds_from : drop p bounds ≡ b ∷ drop q bounds = rw next (drop_more bounds p 0 h) in
-    let entries_from : drop p (set entries p x) ≡ x ∷ drop q entries = rw next (drop-set entries p x k) in
-    record {
-      least = rw (bounds_from, entries_from) (IsLeast-cons b x (drop q bounds) (drop q entries) so.least (omega arith) (λ some. so.full (omega arith)));
-      adds = rw entries_from (omega (arith, so.adds, sum-cons x (drop q entries)));
-      full = λ some. rw (bounds_from, entries_from) (omega (arith, so.full (omega arith), sum-cons x (drop q entries), sum-cons b (drop q bounds)));
-    }
+filled-more bounds entries p q rest total next h k so = grind (arith, drop_more, drop-set, sum-cons, none_below-cons)
 
 -- all entries are the first vector, where there is room for the total
 pub filled-all : (bounds entries : List ℕ) (rest total : ℕ) → total ≤ sum bounds → IsFilledFrom bounds entries 0 rest total → IsFirst (bounded_sums total bounds) entries
-filled-all bounds entries rest total room so =
-    let no_rest : rest ≡ 0 = elim (cases_lt 0 rest) [ inl some ↦ absurd (omega (arith, so.adds, so.full some)) | inr none ↦ omega arith ] in
-    IsFirst-least total bounds entries so.least (omega (arith, so.adds))
+filled-all bounds entries rest total room so = grind (arith, IsFirst-least)
 
 -- the entries before a place are such that, with the greatest vector of what is left for the others, all are the
 -- greatest of the total
@@ -76,12 +57,7 @@ filled_up-more bounds entries p rest total h k so =
 
 -- all entries are the last vector
 pub filled_up-all : (bounds entries : List ℕ) (place rest total : ℕ) → length bounds ≤ place → length entries ≤ place → IsFilledUpTo bounds entries place rest total → IsFinal (bounded_sums total bounds) entries
-filled_up-all bounds entries place rest total high all so =
-    let no_bounds : drop place bounds ≡ [] = drop_all place bounds high in
-    let none_left : rest ≤ 0 = rw no_bounds at so.room in
-    let whole : take place entries ++ [] ≡ entries = rw (take_all place entries all) (append-nil entries) in
-    let parts = rw whole at (so.greatest [] (rw no_bounds IsGreatest-nil) (omega arith)) in
-    IsFinal-greatest total bounds entries parts.0 parts.1
+filled_up-all bounds entries place rest total high all so = grind (arith, drop_all, take_all, append-nil, IsFinal-greatest)
 
 -- the entries from a place on are the greatest of their sum, which is `after`
 pub record IsGreatestFrom (bounds entries : List ℕ) (place after : ℕ) : Type 0 where
@@ -90,23 +66,15 @@ pub record IsGreatestFrom (bounds entries : List ℕ) (place after : ℕ) : Type
 
 -- no entry yet
 pub greatest-none : (bounds entries : List ℕ) → IsWithin entries bounds → IsGreatestFrom bounds entries (length entries) 0
-greatest-none bounds entries within =
-    let no_bounds : drop (length entries) bounds ≡ [] = drop_all (length entries) bounds (omega (arith, IsWithin-length bounds entries within)) in
-    let no_entries : drop (length entries) entries ≡ [] = drop_all (length entries) entries (omega arith) in
-    record { greatest = rw (no_bounds, no_entries) IsGreatest-nil; adds = rw no_entries refl }
+greatest-none bounds entries within = grind (arith, drop_all, IsWithin-length)
 
 -- one entry more, which cannot grow at the cost of those after it
 pub greatest-more : (bounds entries : List ℕ) (p q after : ℕ) → q ≡ p + 1 → IsWithin entries bounds → p < length entries → (0 < after → get_or bounds p 0 ≤ get_or entries p 0) → IsGreatestFrom bounds entries q after → IsGreatestFrom bounds entries p (after + get_or entries p 0)
 greatest-more bounds entries p q after next within k top so =
     let b = get_or bounds p 0 in
-    let x = get_or entries p 0 in
     let h : p < length bounds = omega (arith, IsWithin-length bounds entries within) in
     let bounds_from : drop p bounds ≡ b ∷ drop q bounds = rw next (drop_more bounds p 0 h) in
-    let entries_from : drop p entries ≡ x ∷ drop q entries = rw next (drop_more entries p 0 k) in
-    record {
-      greatest = rw (bounds_from, entries_from) (IsGreatest-cons b x (drop q bounds) (drop q entries) so.greatest (AllZip-get_or (λ x b. x ≤ b) entries bounds p 0 0 within k) (λ some. top (omega (arith, so.adds))));
-      adds = rw entries_from (omega (arith, so.adds, sum-cons x (drop q entries)));
-    }
+    grind (arith, drop_more, AllZip-get_or, sum-cons)
 
 -- what one entry more makes of it is at most what all entries add to
 pub after-more_le : (entries : List ℕ) (p q after : ℕ) → q ≡ p + 1 → p < length entries → after ≡ sum (drop q entries) → after + get_or entries p 0 ≤ sum entries
@@ -127,31 +95,11 @@ pub record IsLeastFrom (bounds entries : List ℕ) (place after : ℕ) (has_room
 
 -- no entry yet
 pub least-none : (bounds entries : List ℕ) → IsWithin entries bounds → IsLeastFrom bounds entries (length entries) 0 false
-least-none bounds entries within =
-    let no_bounds : drop (length entries) bounds ≡ [] = drop_all (length entries) bounds (omega (arith, IsWithin-length bounds entries within)) in
-    let no_entries : drop (length entries) entries ≡ [] = drop_all (length entries) entries (omega arith) in
-    record { least = rw (no_bounds, no_entries) IsLeast-nil; adds = rw no_entries refl; room = λ some. absurd (cc some); full = λ _. rw (no_bounds, no_entries) refl }
+least-none bounds entries within = grind (arith, drop_all, IsWithin-length)
 
 -- one entry more, which is 0 or has no room after it
 pub least-more : (bounds entries : List ℕ) (p q after : ℕ) (has_room now : Bool) → q ≡ p + 1 → IsWithin entries bounds → p < length entries → (has_room ≡ true → get_or entries p 0 ≡ 0) → (now ≡ true → (has_room ≡ true) ⊎ (get_or entries p 0 < get_or bounds p 0)) → (now ≡ false → (has_room ≡ false) × (get_or bounds p 0 ≤ get_or entries p 0)) → IsLeastFrom bounds entries q after has_room → IsLeastFrom bounds entries p (after + get_or entries p 0) now
-least-more bounds entries p q after has_room now next within k zero_entry some_room no_room so =
-    let b = get_or bounds p 0 in
-    let x = get_or entries p 0 in
-    let h : p < length bounds = omega (arith, IsWithin-length bounds entries within) in
-    let bounds_from : drop p bounds ≡ b ∷ drop q bounds = rw next (drop_more bounds p 0 h) in
-    let entries_from : drop p entries ≡ x ∷ drop q entries = rw next (drop_more entries p 0 k) in
-    let low : x ≤ b = AllZip-get_or (λ x b. x ≤ b) entries bounds p 0 0 within k in
-    let after_low : sum (drop q entries) ≤ sum (drop q bounds) = sum-within (drop q bounds) (drop q entries) so.least.within in
-    let full_where_some : 0 < x → sum (drop q entries) ≡ sum (drop q bounds) = λ above. elim (cases_Bool has_room) [ inl some ↦ absurd (omega (arith, zero_entry some)) | inr none ↦ so.full none ] in
-    record {
-      least = rw (bounds_from, entries_from) (IsLeast-cons b x (drop q bounds) (drop q entries) so.least low full_where_some);
-      adds = rw entries_from (omega (arith, so.adds, sum-cons x (drop q entries)));
-      room = λ some. rw (bounds_from, entries_from) (elim (some_room some) [
-        | inl before ↦ omega (arith, low, so.room before, sum-cons x (drop q entries), sum-cons b (drop q bounds))
-        | inr here ↦ omega (arith, here, after_low, sum-cons x (drop q entries), sum-cons b (drop q bounds))
-      ]);
-      full = λ none. let parts = no_room none in rw (bounds_from, entries_from) (omega (arith, low, parts.1, so.full parts.0, sum-cons x (drop q entries), sum-cons b (drop q bounds)));
-    }
+least-more bounds entries p q after has_room now next within k zero_entry some_room no_room so = grind (arith, IsWithin-length, drop_more, AllZip-get_or, sum-cons, none_below-cons)
 
 -- all entries are the first vector
 pub least-all : (bounds entries : List ℕ) (after : ℕ) (has_room : Bool) → IsLeastFrom bounds entries 0 after has_room → IsFirst (bounded_sums (sum entries) bounds) entries

@@ -51,26 +51,20 @@ up_to-window (suc a) f (suc (suc k)) = omega (arith, up_to-window (suc a) f (suc
 pairs_up_to : (a b k : ℕ) → up_to (window a (window b one_at_zero)) k + triangle (k - a) + triangle (k - b) ≡ triangle (k + 1) + triangle (k - a - 1 - b)
 pairs_up_to a b k = search (rules, window, one_at_zero, cases_lt, up_to-window, window_prefix, up_to, up_to-ones_twice, window_after)
 
--- with a third number that makes up for the rest
-pairs-count : (a b k : ℕ) → count_of_sum k (k ∷ a ∷ b ∷ []) ≡ up_to (window a (window b one_at_zero)) k
-pairs-count a b k = search (rules, window, one_at_zero, count_of_sum-cons, window_same, count_of_sum-two, window_prefix)
-
 -- such pairs by the sums of the numbers up to four others
 pub pairs-closed : (a b k : ℕ) → count_of_sum k (k ∷ a ∷ b ∷ []) + triangle (k - a) + triangle (k - b) ≡ triangle (k + 1) + triangle (k - a - 1 - b)
-pairs-closed a b k = omega (arith, pairs-count a b k, pairs_up_to a b k)
+pairs-closed a b k = grind (arith, pairs_up_to, count_of_sum-cons, count_of_sum-two, window_prefix)
 
 -- triples: up to the first bound it bounds nothing
 triples-window : (a b c k : ℕ) → count_of_sum k (a ∷ b ∷ c ∷ []) ≡ window a (window b (window c one_at_zero)) k
 triples-window a b c k = search (rules, count_of_sum-cons, window_same, window, one_at_zero, count_of_sum-two)
 
 pub triples-near : (a b c k : ℕ) → k ≤ a → count_of_sum k (a ∷ b ∷ c ∷ []) ≡ count_of_sum k (k ∷ b ∷ c ∷ [])
-triples-near a b c k near =
-    triples-window a b c k ∙ window_prefix a (window b (window c one_at_zero)) k near ∙ sym (pairs-count b c k)
+triples-near a b c k near = grind (arith, triples-window, window_prefix)
 
 -- above it, those that leave more than it are taken off
 pub triples-far : (a b c i k : ℕ) → k ≡ a + 1 + i → count_of_sum k (a ∷ b ∷ c ∷ []) + count_of_sum i (i ∷ b ∷ c ∷ []) ≡ count_of_sum k (k ∷ b ∷ c ∷ [])
-triples-far a b c i k e =
-    omega (arith, triples-window a b c k, pairs-count b c i, pairs-count b c k, window_after a i (window b (window c one_at_zero)) k e)
+triples-far a b c i k e = grind (arith, triples-window, window_after, window_prefix)
 
 -- products with a sum of two sequences
 products-add : (f v w : ℕ → ℕ) (m n : ℕ) → products_from f (λ i. v i + w i) n m ≡ products_from f v n m + products_from f w n m

@@ -1,5 +1,5 @@
 -- The first vector of a bounded sum, the next, the previous and the last, by the order of its vectors.
-use Rattle.std.proofs.Common.{◌≡◌, ℕ, ◌-◌, ◌<◌, ◌≤◌, List, [], length, get_or, arith, sum}
+use Rattle.std.proofs.Common.{◌≡◌, ℕ, ◌<◌, ◌≤◌, List, [], length, get_or, arith, sum}
 use Rattle.std.specs.List.{Contains}
 use Rattle.std.proofs.lemmas.Option.{slice_get_within, get_or_from_slice_get}
 use Rattle.std.proofs.lemmas.List.Elements.{Contains-get_or}
@@ -60,8 +60,7 @@ pub room_from_member : (n : ℕ) (bounds : List ℕ) → 0 < length (bounded_sum
 room_from_member n bounds some =
     let v = get_or (bounded_sums n bounds) 0 [] in
     let both = Contains-bounded_sums n bounds v in
-    let parts = both.0 (Contains-get_or (bounded_sums n bounds) 0 [] some) in
-    omega (arith, parts.1, sum-within bounds v parts.0)
+    grind (arith, Contains-get_or, sum-within)
 
 -- none comes before the first vector
 pub HasNoneBefore-first : (n : ℕ) (bounds v : List ℕ) → IsFirst (bounded_sums n bounds) v → HasNoneBefore (bounded_sums n bounds) v
@@ -84,8 +83,7 @@ IsFinal-greatest n bounds v greatest adds =
 pub final-within : (n : ℕ) (bounds v : List ℕ) → IsFinal (bounded_sums n bounds) v → IsWithin v bounds × (sum v ≡ n)
 final-within n bounds v end =
     let both = Contains-bounded_sums n bounds v in
-    let vectors = bounded_sums n bounds in
-    both.0 (length vectors - 1, slice_get_within vectors (length vectors - 1) v end, get_or_from_slice_get vectors (length vectors - 1) v v end)
+    grind (arith, slice_get_within, get_or_from_slice_get)
 
 pub IsGreatest-final : (n : ℕ) (bounds v : List ℕ) → IsFinal (bounded_sums n bounds) v → IsGreatest bounds v
 IsGreatest-final n bounds v end =

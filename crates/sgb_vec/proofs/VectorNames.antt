@@ -64,8 +64,7 @@ length-name_of_vector-le [] h = rw name_of_none (omega arith)
 length-name_of_vector-le (x ∷ []) h = rw name_of_one (omega (arith, length-decimal-le 10 x (omega arith) (omega (arith, h 0 0 (omega arith))) (omega (arith, h 0 0 (omega arith)))))
 length-name_of_vector-le (x ∷ y ∷ rest) h =
     let first = length-decimal-le 10 x (omega arith) (omega (arith, h 0 0 (omega arith))) (omega (arith, h 0 0 (omega arith))) in
-    let others = length-name_of_vector-le (y ∷ rest) (All-tail (λ n. n < 2 ^ 32) x (y ∷ rest) h) in
-    rw (name_of_more, length-append) (omega arith)
+    grind (arith, name_of_more, length-append, length-name_of_vector-le (y ∷ rest) (All-tail (λ n. n < 2 ^ 32) x (y ∷ rest) h))
 
 -- the name of a vector of at most 251 entries is a text
 pub IsText-name_of_vector : (v : List ℕ) → length v ≤ 251 → All (λ n. n < 2 ^ 32) v → IsText (name_of_vector v)

@@ -1,17 +1,11 @@
 -- How many entries differ between two vectors that agree before some place.
-use Rattle.std.proofs.Common.{◌≡◌, ℕ, zero, suc, ◌+◌, ◌-◌, ◌<◌, ◌≤◌, Bool, true, not, List, [], ◌∷◌, length, get_or, eqb, cond, refl, ◌∙◌, arith, false}
-use Rattle.std.specs.List.{filter, zip}
+use Rattle.std.proofs.Common.{◌≡◌, ℕ, zero, suc, ◌+◌, ◌-◌, ◌<◌, ◌≤◌, true, List, [], ◌∷◌, length, get_or, eqb, refl, ◌∙◌, arith}
 use Rattle.std.proofs.lemmas.Bool.{eq-eqb}
 use Rattle.sgb_vec.specs.Visits.{HasVisited, changed_entries}
 
--- a kept or left out element makes the count at most one greater
-length-cond : {X : Type 0} (b : Bool) (x : X) (xs : List X) → length (cond b (x ∷ xs) xs) ≤ length xs + 1
-length-cond true x xs = omega arith
-length-cond false x xs = omega arith
-
 -- one entry more is at most one change more
 changed-more : (x y : ℕ) (v w : List ℕ) → changed_entries (x ∷ v) (y ∷ w) ≤ changed_entries v w + 1
-changed-more x y v w = length-cond (not (eqb x y)) (x, y) (filter (λ p. not (eqb p.0 p.1)) (zip v w))
+changed-more x y v w = grind arith
 
 -- one entry more that is the same is no change more
 changed-same : (x y : ℕ) (v w : List ℕ) → x ≡ y → changed_entries (x ∷ v) (y ∷ w) ≡ changed_entries v w
@@ -34,8 +28,7 @@ changed-from [] w (suc p) h same = absurd (omega arith)
 changed-from (x ∷ v) [] (suc p) h same = omega arith
 changed-from (x ∷ v) (y ∷ w) (suc p) h same =
     let here : y ≡ x = same 0 (omega arith) in
-    let rest = changed-from v w p (omega arith) (λ k m. same (suc k) (omega arith)) in
-    omega (arith, changed-same x y v w (omega arith), rest)
+    grind (arith, changed-from v w p (omega arith) (λ k m. same (suc k) (omega arith)))
 
 -- a walk that looks from the end back to place p, and then writes what stands after it, has visited enough and not too much
 pub HasVisited-from : (v w : List ℕ) (p entries before middle after : ℕ) → length v ≡ entries → p < length v → ((k : ℕ) → k < p → get_or w k 0 ≡ get_or v k 0) → middle + p ≡ before + length v → after ≡ middle + (length v - (p + 1)) → HasVisited entries (changed_entries v w) before after

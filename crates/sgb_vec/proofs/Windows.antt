@@ -38,14 +38,8 @@ window-shifted _ f _ = refl
 -- two windows may be taken in either order
 pub window_comm : (a b : ℕ) (f : ℕ → ℕ) (k : ℕ) → window a (window b f) k ≡ window b (window a f) k
 window_comm zero b f k = refl
-window_comm (suc a) b f zero =
-    let whole : window b (window (suc a) f) 0 ≡ window b f 0 + window b (shifted (window a f)) 0 = window-add b f (shifted (window a f)) 0 in
-    let later : window b (shifted (window a f)) 0 ≡ 0 = window-shifted b (window a f) 0 in
-    omega arith
-window_comm (suc a) b f (suc k) =
-    let whole : window b (window (suc a) f) (suc k) ≡ window b f (suc k) + window b (shifted (window a f)) (suc k) = window-add b f (shifted (window a f)) (suc k) in
-    let later : window b (shifted (window a f)) (suc k) ≡ window b (window a f) k = window-shifted b (window a f) (suc k) in
-    omega (arith, window_comm a b f k)
+window_comm (suc a) b f zero = simp (window, shifted, window-add, window-shifted)
+window_comm (suc a) b f (suc k) = simp (window, shifted, window-add, window-shifted, window_comm a b f k)
 
 -- a multiple of a sequence
 pub window-multiple : (b q : ℕ) (f : ℕ → ℕ) (k : ℕ) → window b (λ i. q * f i) k ≡ q * window b f k
@@ -116,11 +110,7 @@ window-one_at_zero_far b k h = window_far b 0 one_at_zero after k (omega arith)
 -- the sum of such a window from 0 to k
 pub up_to-window_one : (b k : ℕ) → up_to (window b one_at_zero) k ≡ min k b + 1
 up_to-window_one b zero = omega (arith, window-one_at_zero_prefix b 0 (omega arith))
-up_to-window_one b (suc k) =
-    elim (cases_lt b (suc k)) [
-      | inl far ↦ omega (arith, up_to-window_one b k, window-one_at_zero_far b (suc k) far)
-      | inr near ↦ omega (arith, up_to-window_one b k, window-one_at_zero_prefix b (suc k) near)
-    ]
+up_to-window_one b (suc k) = grind (arith, window-one_at_zero_far, window-one_at_zero_prefix, up_to-window_one b k)
 
 -- how many pairs of a number up to a and one up to b add to k: the second is from k - a up to the lesser of k and b
 pub window-window_one : (a b k : ℕ) → window a (window b one_at_zero) k ≡ (min k b + 1) - (k - a)

@@ -1,4 +1,4 @@
-use Rattle.std.proofs.Common.{rules, arith}
+use Rattle.std.proofs.Common.{rules}
 use Rattle.std.proofs.lemmas.List.{places}
 use Rattle.sgb_vec.proofs.BoxPlaces.{IsBelow-from_Contains, IsBelow-length}
 use Rattle.sgb_vec.proofs.BoxSuccessors.{GrownAt-put_mid, IsNext-grown, IsLast-top}
@@ -21,9 +21,7 @@ returns-in_default-clause-visits c =
 pub returns-clause-found : goal.returns-clause-found
 returns-clause-found c =
     let below = IsBelow-from_Contains c.args.sizes.now c.args.entries.now c.requires.member in
-    let here = c.in-Some.ensures.below in
-    let grown = GrownAt-put_mid c.args.entries.now c.clear.new.entries c.in-Some.place here.0 (search rules) in
-    IsNext-grown c.args.sizes.now c.args.entries.now _ c.in-Some.place below here.0 here.1 (λ k low high. c.in-Some.ensures.top_after k (omega arith) high) grown
+    search (rules, GrownAt-put_mid, IsNext-grown, below)
 
 pub returns-clause-visits : goal.returns-clause-visits
 returns-clause-visits c =

@@ -1,4 +1,4 @@
-use Rattle.std.proofs.Common.{rules, ◌≢◌, length, decimal, sym, ◌∙◌, nat_eq, eqb-true, arith}
+use Rattle.std.proofs.Common.{rules, decimal, nat_eq, eqb-true}
 use Rattle.std.specs.Cmp.Lexicographic.{pointwise, bytes_decides}
 use Rattle.std.proofs.lemmas.Bool.{eqb-false}
 use Rattle.std.specs.Str.Parse.{digits_value}
@@ -12,8 +12,7 @@ returns-then-is_empty-clause-none c = search (rules, decimal_is_read_back, decim
 pub digits_value-requires-clause-numeral : goal.digits_value-requires-clause-numeral
 digits_value-requires-clause-numeral c =
     let are : AreDigits 10 10 c.leading_digits-digits.result.now = rw c.leading_digits-digits.ensures (leading_are_digits 10 10 c.args.text.now) in
-    let some : length c.leading_digits-digits.result.now ≢ 0 = eqb-false _ _ (sym c.is_empty.ensures ∙ c.if-is_empty.false) in
-    (omega (arith, some), are.all)
+    search (rules, eqb-false, are)
 
 pub digits_value-requires-clause-fits : goal.digits_value-requires-clause-fits
 digits_value-requires-clause-fits c = rw c.leading_digits-digits.ensures (ten_digits_fit _ (leading_are_digits 10 10 c.args.text.now))

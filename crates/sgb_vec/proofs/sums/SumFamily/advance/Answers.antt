@@ -1,4 +1,4 @@
-use Rattle.std.proofs.Common.{◌≡◌, ◌+◌, ◌-◌, ◌<◌, ◌∙◌, length, drop, rules, ap, arith}
+use Rattle.std.proofs.Common.{◌≡◌, ◌-◌, ◌<◌, ◌∙◌, length, rules, ap, arith}
 use Rattle.std.proofs.lemmas.List.{take_rest, length-drop, length-set, places}
 use Rattle.sgb_vec.specs.Sums.{BoundedSum}
 use Rattle.sgb_vec.proofs.SumSuccessors.{sum-within}
@@ -47,9 +47,7 @@ returns-clause-visits c =
 pub put_least-requires-clause-room : goal.put_least-requires-clause-room
 put_least-requires-clause-room c =
     let within = (members_mean c.args.self.now _ _ (c.as_slice-bounds.ensures.value ∙ ap (λ (s : BoundedSum). s.bounds) c.self.view_is) c.requires.member).0 in
-    let q = c.in-Some.place + 1 in
-    let tail = IsWithin-drop c.as_slice-bounds.result.now c.args.entries.now q within in
-    rw take_rest (omega (arith, c.in-Some.ensures.after.1, sum-within (drop q c.as_slice-bounds.result.now) (drop q c.args.entries.now) tail))
+    search (rules, IsWithin-drop, take_rest, sum-within, within)
 
 pub returns-clause-found : goal.returns-clause-found
 returns-clause-found c =

@@ -1,11 +1,9 @@
-use Rattle.std.proofs.Common.{rules, ◌∙◌, drop, List, ℕ, sym, ap}
+use Rattle.std.proofs.Common.{rules, arith}
 use Rattle.sgb_vec.proofs.RangeSteps.{front_among, front_goes, one_left}
 use Rattle.sgb_vec.proofs.vectors.Vectors.advance.Goals as goal
 
 pub returns-then-eq-clause-rest : goal.returns-then-eq-clause-rest
-returns-then-eq-clause-rest g c =
-    let left = one_left _ (g.met.F.Family.rising c.self.inside.family.now) _ _ _ _ _ c.if-not-self.false c.self.invariant c.as_slice.ensures.value c.as_slice-2.ensures.value c.if-eq.ensures in
-    sym (ap (λ (xs : List (List ℕ)). drop 1 xs) (sym c.self.view_is ∙ left))
+returns-then-eq-clause-rest g c = grind (arith, one_left)
 
 pub next-more-requires-clause-member : goal.next-more-requires-clause-member
 next-more-requires-clause-member g c = front_among _ (g.met.F.Family.rising c.self.inside.family.now) _ _ _ c.if-not-self.false c.self.invariant
@@ -14,6 +12,4 @@ pub invariant_of-self-2 : goal.invariant_of-self-2
 invariant_of-self-2 g c = search (rules, front_goes)
 
 pub returns-clause-rest : goal.returns-clause-rest
-returns-clause-rest g c =
-    let step = front_goes _ (g.met.F.Family.rising c.self.inside.family.now) _ _ _ _ _ _ _ c.if-not-self.false c.self.invariant c.as_slice.ensures.value c.as_slice-2.ensures.value c.if-eq.ensures c.next-more.ensures.found c.next-more.ensures.last in
-    sym (ap (λ (xs : List (List ℕ)). drop 1 xs) (sym c.self.view_is ∙ step.1))
+returns-clause-rest g c = grind (arith, front_goes)

@@ -1,11 +1,9 @@
-use Rattle.std.proofs.Common.{rules, ◌∙◌, ◌-◌, take, length, List, ℕ, sym, ap}
+use Rattle.std.proofs.Common.{rules, arith}
 use Rattle.sgb_vec.proofs.RangeSteps.{back_among, back_goes, one_left, without_last}
 use Rattle.sgb_vec.proofs.vectors.Vectors.retreat.Goals as goal
 
 pub returns-then-eq-clause-rest : goal.returns-then-eq-clause-rest
-returns-then-eq-clause-rest g c =
-    let left = one_left _ (g.met.F.Family.rising c.self.inside.family.now) _ _ _ _ _ c.if-not-self.false c.self.invariant c.as_slice.ensures.value c.as_slice-2.ensures.value c.if-eq.ensures in
-    sym (ap (λ (xs : List (List ℕ)). take (length xs - 1) xs) (sym c.self.view_is ∙ left))
+returns-then-eq-clause-rest g c = grind (arith, one_left)
 
 pub prev-more-requires-clause-member : goal.prev-more-requires-clause-member
 prev-more-requires-clause-member g c = back_among _ (g.met.F.Family.rising c.self.inside.family.now) _ _ _ c.if-not-self.false c.self.invariant
