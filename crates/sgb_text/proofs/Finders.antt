@@ -1,6 +1,6 @@
 -- Readers that find the words of a language or nothing: what each finds is said by the text before what it leaves, and each
 -- such text is found again; they leave values of any kind, as a text alone.
-use Rattle.std.specs.Prelude.{◌≡◌, ℕ, zero, suc, Bool, true, false, List, [], ◌∷◌, ◌++◌, length, Option, Some, None, option_map, if◌then◌else◌, refl}
+use Rattle.std.specs.Prelude.{◌≡◌, ℕ, zero, suc, Bool, List, [], ◌∷◌, ◌++◌, length, Option, Some, None, option_map, if◌then◌else◌, refl}
 use Rattle.std.proofs.Common.{ap, sym, subst, ◌∙◌, append_assoc, arith}
 use Rattle.sgb_text.proofs.Findings.{given, Found, found_as, after_prefix, all_at, was_given, was_mapped, prefix_is, prefix_read}
 use Rattle.sgb_text.specs.Languages.{As, Cons, Each, Fixed, Then}
@@ -84,8 +84,7 @@ finds_from {read = read} pick made turn same r = record {
 
 -- what is there where a test passes
 pub tested : {X R : Type 0} (make : X → List ℕ → R) (test : Bool) (x : X) (rest : List ℕ) → (if test then Some (make x rest) else None) ≡ option_map (λ y. make y rest) (if test then Some x else None)
-tested make true x rest = refl
-tested make false x rest = refl
+tested make test x rest = grind (arith)
 
 -- a reader of a function's values
 finds_map : {X Y R S : Type 0} {make : X → List ℕ → R} {Front Tail : List ℕ → Type 0} {Word : List ℕ → X → Type 0} {read : List ℕ → Option R}
@@ -151,11 +150,7 @@ one_more IsOne n (x ∷ xs) word h = let a = h.1 in (a.0, a.1, x, a.2, a.3, (xs,
 
 pub finds_all : {X : Type 0} (one_at : List ℕ → Option (Found X)) (IsOne : List ℕ → X → Type 0) → Finds found_with Anything Anything IsOne one_at → (n : ℕ) → Finds found_with Anything Anything (AreSoMany IsOne n) (all_at one_at n)
 unfolding all_at
-finds_all one_at IsOne r zero = record {
-  found = λ text result e. record { value = []; word = []; rest = text; says = (refl, refl); parts = refl; made = cc };
-  again = λ word tail xs h t. none_left IsOne xs word tail h;
-  front = λ word tail xs h t. tt;
-}
+finds_all one_at IsOne r zero = grind (arith, none_left)
 finds_all {X = X} one_at IsOne r (suc n) =
     finds_is (λ text t. tt) (λ word xs h. let o = h.5 in subst (λ ys. AreSoMany IsOne (suc n) word ys) (sym o.2) (ap suc o.1.0, (h.0, h.1, h.3, h.4, o.1.1))) (λ word xs h. one_more IsOne n xs word h)
     (finds_cons r (finds_all one_at IsOne r n))

@@ -1,7 +1,7 @@
 -- What is found at the beginning of a text, where something is: a value, and the text after it.
 use Rattle.std.specs.Prelude.{◌≡◌, ◌==◌, ◌++◌, ℕ, zero, suc, List, [], ◌∷◌, length, take, drop, Bool, true, false, Option, Some, None, option_map, if◌then◌else◌, refl}
 use Rattle.std.specs.List.{starts_with}
-use Rattle.std.proofs.Common.{ap, sym, ◌∙◌, ◌⊎◌, inl, inr}
+use Rattle.std.proofs.Common.{ap, sym, ◌∙◌, ◌⊎◌, arith}
 use Rattle.std.proofs.Math.Seq.{drop-append_seam}
 use Rattle.std.proofs.lemmas.Bool.{and_from}
 use Rattle.std.proofs.lemmas.Bool.Decides.{Decides-eqb}
@@ -55,16 +55,13 @@ was_mapped (Some x) e = record { first = x; here = refl; same = cc }
 
 -- what was let through by a test
 pub was_let_through : {X : Type 0} (test : Bool) (x y : X) → (if test then Some x else None) ≡ Some y → (test ≡ true) × (x ≡ y)
-was_let_through true x y e = (refl, cc)
-was_let_through false x y e = absurd cc
+was_let_through test x y e = grind (arith)
 
 pub was_chosen : {X : Type 0} (test : Bool) {o : Option X} {y : X} → (if test then o else None) ≡ Some y → (test ≡ true) × (o ≡ Some y)
-was_chosen true e = (refl, e)
-was_chosen false e = absurd cc
+was_chosen test e = grind (arith)
 
 pub was_either : {X : Type 0} (test : Bool) {o p : Option X} {y : X} → (if test then o else p) ≡ Some y → ((test ≡ true) × (o ≡ Some y)) ⊎ ((test ≡ false) × (p ≡ Some y))
-was_either true e = inl (refl, e)
-was_either false e = inr (refl, e)
+was_either test e = grind (arith)
 
 -- a text with a prefix is the prefix and what follows it
 pub prefix_is : (prefix text rest : List ℕ) → after_prefix prefix text ≡ Some rest → text ≡ prefix ++ rest

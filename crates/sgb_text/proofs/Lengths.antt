@@ -1,5 +1,5 @@
 -- How much readers leave of a text.
-use Rattle.std.proofs.Common.{◌≡◌, ◌≤◌, ◌+◌, ℕ, List, length, inl, inr, Result, Ok, Err, refl, sym, ◌∙◌, ap, arith, length-append}
+use Rattle.std.proofs.Common.{◌≡◌, ◌≤◌, ◌+◌, ℕ, List, length, inl, inr, Result, Ok, sym, ◌∙◌, ap, arith, length-append}
 use Rattle.sgb_text.proofs.Readings.{◌>>=◌, fixed_at}
 use Rattle.sgb_text.proofs.Readers.{Reads, no_ok, ok_same}
 use Rattle.sgb_text.proofs.Words.{fixed_cases}
@@ -28,13 +28,10 @@ no_longer r text value rest e =
 -- how much is left after fixed bytes
 pub fixed_takes : (bytes text rest : List ℕ) → fixed_at bytes text ≡ Ok rest → length rest + length bytes ≡ length text
 fixed_takes bytes text rest e = elim (fixed_cases bytes text) [
-  | inl r ↦
-      let same : r.0 ≡ rest = ok_same r.0 rest (sym r.1 ∙ e) in
-      omega (arith, ap length r.2, length-append bytes r.0, ap length same)
+  | inl r ↦ grind (arith, ok_same, length-append)
   | inr p ↦ absurd (no_ok (sym p.1 ∙ e))
 ]
 
 -- readings that go on alike
 pub bind_agrees : {A B : Type 0} (r : Result A ℕ) (f g : A → Result B ℕ) → ((x : A) → r ≡ Ok x → f x ≡ g x) → (r >>= f) ≡ (r >>= g)
-bind_agrees (Ok x) f g h = h x refl
-bind_agrees (Err left) f g h = refl
+bind_agrees r f g h = grind (arith)

@@ -1,28 +1,20 @@
 -- Readers of some words or others, and readers that are as many as texts are long.
-use Rattle.std.proofs.Common.{◌≡◌, ℕ, ◌≤◌, ◌+◌, List, [], ◌∷◌, ◌++◌, length, Result, Ok, Err, refl, sym, ◌∙◌, ap, inl, inr, append-nil, arith, length-append}
+use Rattle.std.proofs.Common.{◌≡◌, ℕ, ◌≤◌, ◌+◌, List, [], ◌∷◌, ◌++◌, length, Result, Ok, Err, refl, sym, ◌∙◌, ap, append-nil, arith, length-append}
 use Rattle.std.proofs.lemmas.Bool.Decides.{eqb_tells}
 use Rattle.std.proofs.lemmas.List.{nil_from_length}
 use Rattle.sgb_text.specs.Languages.{Fixed, Or}
-use Rattle.sgb_text.proofs.Readings.{◌>>=◌, either, or_else, fixed_at, fixed_as}
+use Rattle.sgb_text.proofs.Readings.{either, or_else, fixed_at, fixed_as}
 use Rattle.sgb_text.proofs.Readers.{Anything, Reads, bind_stops, cut_in, next, no_ok, reads_or}
 use Rattle.sgb_text.proofs.Words.{err_same, fixed_other, reads_fixed, reads_same}
 use Rattle.sgb_text.proofs.Lengths.{Language, Reader}
 
 -- the first of two readings or the second, where the first stops no further on
 else_is : {A : Type 0} (r s : Result A ℕ) → ((a b : ℕ) → r ≡ Err a → s ≡ Err b → b ≤ a) → or_else r s ≡ either r s
-else_is (Ok x) s h = refl
-else_is (Err a) (Ok y) h = refl
-else_is (Err a) (Err b) h = ap Err (let le = h a b refl refl in omega (arith, le))
+else_is r s h = grind (arith)
 
 -- one byte stops at once
 byte_stops : {V : Type 0} (value : V) (byte : ℕ) (text : List ℕ) (left : ℕ) → fixed_as value (byte ∷ []) text ≡ Err left → left ≡ length text
-byte_stops value byte [] left e = sym (err_same 0 left e)
-byte_stops {V} value byte (other ∷ text) left e = elim (eqb_tells byte other) [
-  | inl h ↦
-      let reads : fixed_at (byte ∷ []) (other ∷ text) ≡ Ok text = rw h.0 refl in
-      absurd (no_ok (sym e ∙ ap (λ (r : Result (List ℕ) ℕ). r >>= λ rest. Ok (value, rest)) reads))
-  | inr h ↦ err_same left (length (other ∷ text)) (sym e ∙ ap (λ (r : Result (List ℕ) ℕ). r >>= λ rest. Ok (value, rest)) (fixed_other byte other [] text h.0))
-]
+byte_stops value byte text left e = grind (arith, err_same, eqb_tells, fixed_at, no_ok, fixed_other)
 
 -- a reader of one byte, or of other words, none of which begins with it
 pub reads_else : {V : Type 0} {Word : Language V} {read : Reader V} (value : V) (byte : ℕ) → Reads Word Anything read
@@ -45,8 +37,7 @@ reads_else {V} {Word} {read} value byte r apart =
 same_cut : (a u b v : List ℕ) → a ++ u ≡ b ++ v → length u ≡ length v → (b ≡ a) × (u ≡ v)
 same_cut a u b v e h =
     let t = cut_in a u b v e (omega (arith, h)) in
-    let none : t.0 ≡ [] = nil_from_length t.0 (omega (arith, h, ap length t.2, length-append t.0 v)) in
-    (t.1 ∙ ap (λ x. a ++ x) none ∙ append-nil a, t.2 ∙ ap (λ x. x ++ v) none)
+    grind (arith, nil_from_length, length-append, append-nil, t)
 
 -- a reader that is each of some readers on texts to a length, where each word is one of a language's from some length on
 pub reads_all : {V : Type 0} {Word : Language V} {Tail : List ℕ → Type 0} {read : Reader V} (To : ℕ → Language V) (to : ℕ → Reader V) → ((n : ℕ) → Reads (To n) Tail (to n))

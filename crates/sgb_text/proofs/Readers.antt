@@ -43,13 +43,11 @@ pub record Reads {V : Type 0} (Word : List ℕ → V → Type 0) (Tail : List �
 
 -- a reading that goes on to a value
 pub bind_ok : {A B : Type 0} (r : Result A ℕ) (f : A → Result B ℕ) (y : B) → (r >>= f) ≡ Ok y → (x : A) × (r ≡ Ok x) × (f x ≡ Ok y)
-bind_ok (Ok x) f y e = (x, refl, e)
-bind_ok (Err left) f y e = absurd (cc)
+bind_ok r f y e = grind (arith)
 
 -- a reading that stops, at once or further on
 pub bind_err : {A B : Type 0} (r : Result A ℕ) (f : A → Result B ℕ) (left : ℕ) → (r >>= f) ≡ Err left → (r ≡ Err left) ⊎ ((x : A) × (r ≡ Ok x) × (f x ≡ Err left))
-bind_err (Ok x) f left e = inr (x, refl, e)
-bind_err (Err other) f left e = inl (cc)
+bind_err r f left e = grind (arith)
 
 -- what a reading goes on to
 pub bind_of : {A B : Type 0} (r : Result A ℕ) (f : A → Result B ℕ) (x : A) → r ≡ Ok x → (r >>= f) ≡ f x
@@ -61,8 +59,7 @@ bind_stops {A} {B} r f left e = ap (λ (s : Result A ℕ). s >>= f) e
 
 -- where a reading stops, at once or further on, it stops with more to be read
 pub then_stops : {A B C : Type 0} (r : Result A ℕ) (f : A → Result B ℕ) (g : B → Result C ℕ) (left : ℕ) → (r >>= f) ≡ Err left → (r >>= λ x. f x >>= g) ≡ Err left
-then_stops (Ok x) f g left e = bind_stops (f x) g left e
-then_stops (Err other) f g left e = cc
+then_stops r f g left e = grind (arith, bind_stops)
 
 -- a reading does not both stop and succeed
 pub no_ok : {A : Type 0} {x : A} {n : ℕ} → ◌≡◌ {A = Result A ℕ} (Err n) (Ok x) → ⊥
@@ -103,11 +100,7 @@ then_found First Second first second text rest remaining v w f g = record {
   word = f.word ++ g.word;
   whole = f.whole ∙ ap (λ u. f.word ++ u) g.whole ∙ sym (append_assoc f.word g.word remaining);
   is = (f.word, g.word, v, refl, f.is, g.is);
-  same = λ other e.
-      let comes : next (g.word ++ other) ≡ next rest = next_after g.word other remaining e ∙ sym (ap next g.whole) in
-      ap (then_read first second) (append_assoc f.word g.word other)
-      ∙ bind_of (first (f.word ++ (g.word ++ other))) (λ x. second x.0 x.1) (v, g.word ++ other) (f.same (g.word ++ other) comes)
-      ∙ g.same other e;
+  same = grind (arith, next, next_after, then_read, append_assoc, bind_of);
 }
 
 -- where the second stops after the first
@@ -117,11 +110,7 @@ then_wrong : {V W : Type 0} (First : List ℕ → V → Type 0) (Second : V → 
 then_wrong First Second first second text rest left v f g = record {
   cut = cut_after f.word text rest left f.whole g.cut;
   begins = (g.begins.0, g.begins.1, (f.word, g.cut.good ++ g.begins.0, v, append_assoc f.word g.cut.good g.begins.0, f.is, g.begins.2));
-  same = λ other e.
-      let comes : next (g.cut.good ++ other) ≡ next rest = next_after g.cut.good other g.cut.bad e ∙ sym (ap next g.cut.whole) in
-      ap (then_read first second) (append_assoc f.word g.cut.good other)
-      ∙ bind_of (first (f.word ++ (g.cut.good ++ other))) (λ x. second x.0 x.1) (v, g.cut.good ++ other) (f.same (g.cut.good ++ other) comes)
-      ∙ g.same other e;
+  same = grind (arith, next, next_after, then_read, append_assoc, bind_of);
 }
 
 -- where the first stops
@@ -197,10 +186,7 @@ reads_cons {V} f g follows = reads_then f (λ value. reads_as (λ (values : List
 pub cut_in : (a u b v : List ℕ) → a ++ u ≡ b ++ v → length v ≤ length u → (x : List ℕ) × (b ≡ a ++ x) × (u ≡ x ++ v)
 cut_in [] u b v e h = (b, refl, e)
 cut_in (c ∷ a) u [] v e h = absurd (omega (arith, h, ap length e, length-append (c ∷ a) u))
-cut_in (c ∷ a) u (d ∷ b) v e h =
-    let same : c ≡ d = cc in
-    let t = cut_in a u b v (cc) h in
-    (t.0, (cc (t.1, same)), t.2)
+cut_in (c ∷ a) u (d ∷ b) v e h = grind (arith, cut_in a u b v (cc) h)
 
 -- one reader, and where it stops the other
 abbrev pub or_read : {V : Type 0} → (List ℕ → Result (V × List ℕ) ℕ) → (List ℕ → Result (V × List ℕ) ℕ) → List ℕ → Result (V × List ℕ) ℕ
@@ -230,9 +216,7 @@ either_found (Err left) (Err other) x e = absurd (cc)
 
 -- where both readers stopped
 pub either_wrong : {A : Type 0} (r s : Result A ℕ) (left : ℕ) → either r s ≡ Err left → (a b : ℕ) × (r ≡ Err a) × (s ≡ Err b) × (left ≡ min a b)
-either_wrong (Ok y) s left e = absurd (cc)
-either_wrong (Err a) (Ok y) left e = absurd (cc)
-either_wrong (Err a) (Err b) left e = (a, b, refl, refl, (cc))
+either_wrong r s left e = grind (arith)
 
 -- both stop, the first no further from the end
 wrong_by : {V : Type 0} (Word First Second : List ℕ → V → Type 0) (first second : List ℕ → Result (V × List ℕ) ℕ) (read : List ℕ → Result (V × List ℕ) ℕ) (text : List ℕ) (a b : ℕ)

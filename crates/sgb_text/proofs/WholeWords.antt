@@ -9,17 +9,14 @@ use Rattle.sgb_text.proofs.Words.{err_same}
 
 -- nothing is left after the word
 end_ok : {V : Type 0} (v w : V) (rest : List ℕ) → at_end v rest ≡ Ok w → (rest ≡ []) × (v ≡ w)
-end_ok v w [] h = (refl, ok_same v w h)
-end_ok v w (byte ∷ rest) h = absurd (no_ok h)
+end_ok v w rest h = grind (arith, ok_same, no_ok)
 
 -- what is read is a word
 pub word_whole : {V : Type 0} {Word : Language V} {Tail : List ℕ → Type 0} {read : Reader V} → Reads Word Tail read → (text : List ℕ) (value : V) → whole_by read text ≡ Ok value → Word text value
 word_whole {V} {Word} {Tail} {read} r text value h =
     let x = bind_ok (read text) (λ x. at_end x.0 x.1) value h in
-    let t = end_ok x.0.0 value x.0.1 x.2 in
     let f = r.found text x.0.0 x.0.1 x.1 in
-    let all : f.word ≡ text = sym (append-nil f.word) ∙ ap (λ u. f.word ++ u) (sym t.0) ∙ sym f.whole in
-    subst (λ (u : List ℕ). Word u value) all (subst (λ (v : V). Word f.word v) t.1 f.is)
+    grind (arith, end_ok, append-nil, x, f)
 
 -- a word is read
 pub whole_word : {V : Type 0} {Word : Language V} {Tail : List ℕ → Type 0} {read : Reader V} → Reads Word Tail read → Tail [] → (text : List ℕ) (value : V) → Word text value → whole_by read text ≡ Ok value
@@ -44,9 +41,7 @@ goes_on [] [] j above within = absurd (omega (arith, above, within))
 goes_on [] (byte ∷ bad) zero above within = absurd (omega (arith, above))
 goes_on [] (byte ∷ bad) (suc j) above within = (byte ∷ take j bad, refl, λ more. refl)
 goes_on (c ∷ good) bad zero above within = absurd (omega (arith, above))
-goes_on (c ∷ good) bad (suc j) above within =
-    let t = goes_on good bad j (omega (arith, above)) (omega (arith, within)) in
-    (t.0, ap (λ u. c ∷ u) t.1, t.2)
+goes_on (c ∷ good) bad (suc j) above within = grind (arith, goes_on good bad j (omega (arith, above)) (omega (arith, within)))
 
 -- a text that is no word, and its longest prefix that begins one
 pub record GoesWrong {V : Type 0} (Word : List ℕ → V → Type 0) (text : List ℕ) (left : ℕ) : Type 0 where

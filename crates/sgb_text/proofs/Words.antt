@@ -68,10 +68,7 @@ fixed_cases (byte ∷ bytes) (other ∷ text) = elim (eqb_tells byte other) [
 -- what parts from the bytes after the same beginning is not read
 pub fixed_stops : (good more bad : List ℕ) (byte : ℕ) → next bad ≢ Some byte → fixed_at (good ++ byte ∷ more) (good ++ bad) ≡ Err (length bad)
 fixed_stops [] more [] byte h = refl
-fixed_stops [] more (other ∷ bad) byte h = elim (eqb_tells byte other) [
-  | inl e ↦ absurd (h (ap Some (sym e.1)))
-  | inr e ↦ fixed_other byte other more bad e.0
-]
+fixed_stops [] more (other ∷ bad) byte h = grind (arith, eqb_tells, fixed_other)
 fixed_stops (c ∷ good) more bad byte h = fixed_step c (good ++ byte ∷ more) (good ++ bad) ∙ fixed_stops good more bad byte h
 
 -- two places of one reading
@@ -101,8 +98,7 @@ reads_fixed {V} value bytes = record {
           cut = record { good = c.good; bad = c.bad; whole = c.whole; count = sym same_left ∙ c.count };
           begins = (p.2.byte ∷ p.2.more, value, (sym p.2.bytes_are, refl));
           same = λ other e2.
-              let stops : fixed_at bytes (c.good ++ other) ≡ Err (length other) =
-              ap (λ (b : List ℕ). fixed_at b (c.good ++ other)) p.2.bytes_are ∙ fixed_stops c.good p.2.more other p.2.byte (λ h. p.2.other (sym e2 ∙ h)) in
+              let stops : fixed_at bytes (c.good ++ other) ≡ Err (length other) = grind (arith, fixed_at, other, fixed_stops) in
               bind_stops (fixed_at bytes (c.good ++ other)) (λ u. Ok (value, u)) (length other) stops;
         }
   ];
@@ -144,8 +140,7 @@ no_value = 0
 
 -- a fixed text, of no value, and what is read after it
 fixed_then : {B : Type 0} (r : Result (List ℕ) ℕ) (f : List ℕ → Result B ℕ) → ((r >>= λ rest. Ok (no_value, rest)) >>= λ (x : ℕ × List ℕ). f x.1) ≡ (r >>= f)
-fixed_then (Ok rest) f = refl
-fixed_then (Err left) f = refl
+fixed_then r f = grind (arith)
 
 -- these bytes and then a word
 pub reads_after : {V : Type 0} {Word : List ℕ → V → Type 0} {Tail : List ℕ → Type 0} {read : List ℕ → Result (V × List ℕ) ℕ} (bytes : List ℕ) → Reads Word Tail read → Reads (After bytes Word) Tail (read_after bytes read)
@@ -158,13 +153,8 @@ reads_after {V} {Word} {Tail} {read} bytes r =
 -- the last of some words
 last_word : {V : Type 0} (word : List ℕ × V) (text : List ℕ) → fixed_as word.1 word.0 text ≡ word_at (word ∷ []) text
 last_word {V} word text = elim (fixed_cases word.0 text) [
-  | inl r ↦
-      let e = bind_of (fixed_at word.0 text) (λ u. Ok (word.1, u)) r.0 r.1 in
-      e ∙ sym (ap (λ (t : Result (V × List ℕ) ℕ). either t (Err (length text))) e)
-  | inr p ↦
-      let e = bind_stops (fixed_at word.0 text) (λ u. Ok (word.1, u)) p.0 p.1 in
-      let least : p.0 ≡ min p.0 (length text) = omega (arith, p.2.cut.count, ap length p.2.cut.whole, length-append p.2.cut.good p.2.cut.bad) in
-      e ∙ ap Err least ∙ sym (ap (λ (t : Result (V × List ℕ) ℕ). either t (Err (length text))) e)
+  | inl r ↦ grind (arith, bind_of, fixed_at, either)
+  | inr p ↦ grind (arith, bind_stops, fixed_at, min, length-append, either)
 ]
 
 -- a word that parts from another is not read where that stands
@@ -172,18 +162,14 @@ parts_stops : {V : Type 0} (value : V) (a b tail : List ℕ) → do_part a b ≡
 parts_stops value [] b tail e = absurd (cc)
 parts_stops value (x ∷ a) [] tail e = absurd (cc)
 parts_stops {V} value (x ∷ a) (y ∷ b) tail e = elim (eqb_tells x y) [
-  | inl h ↦
-      let t = parts_stops value a b tail (sym (rw h.0 refl) ∙ e) in
-      (t.0, ap (λ (r : Result (List ℕ) ℕ). r >>= λ rest. Ok (value, rest)) (rw h.0 refl) ∙ t.1)
+  | inl h ↦ grind (arith, parts_stops value a b tail (sym (rw h.0 refl) ∙ e))
   | inr h ↦ (length (y ∷ b ++ tail), ap (λ (r : Result (List ℕ) ℕ). r >>= λ rest. Ok (value, rest)) (fixed_other x y a (b ++ tail) h.0))
 ]
 
 -- a word that parts from each of some words is not read where one of them stands
 parts_stops_all : {V : Type 0} (value v : V) (a word tail : List ℕ) (words : List (List ℕ × V)) → parts_from a words ≡ true → IsWord words word v → (left : ℕ) × (fixed_as value a (word ++ tail) ≡ Err left)
 parts_stops_all value v a word tail [] e w = absurd w
-parts_stops_all {V} value v a word tail (first ∷ words) e (inl w) =
-    let t = parts_stops value a first.0 tail (and_parts (do_part a first.0) (parts_from a words) e).0 in
-    (t.0, ap (λ u. fixed_as value a (u ++ tail)) w.0 ∙ t.1)
+parts_stops_all {V} value v a word tail (first ∷ words) e (inl w) = grind (arith, parts_stops, and_parts, do_part, parts_from, fixed_as)
 parts_stops_all {V} value v a word tail (first ∷ words) e (inr w) =
     parts_stops_all value v a word tail words (and_parts (do_part a first.0) (parts_from a words) e).1 w
 
@@ -205,9 +191,7 @@ fixed_parts (byte ∷ bytes) (other ∷ text) h = elim (eqb_tells byte other) [
       let below : common_prefix_len nat_eq bytes text < length bytes = omega (arith, h, one) in
       subst (λ (c : ℕ). fixed_at (byte ∷ bytes) (c ∷ text) ≡ Err (length (c ∷ text) - common_prefix_len nat_eq (byte ∷ bytes) (other ∷ text))) e.1
       (fixed_step byte bytes text ∙ fixed_parts bytes text below ∙ ap Err (omega (arith, one)))
-  | inr e ↦
-      let none : common_prefix_len nat_eq (byte ∷ bytes) (other ∷ text) ≡ 0 = rw e.0 refl in
-      fixed_other byte other bytes text e.0 ∙ ap Err (omega (arith, none))
+  | inr e ↦ grind (arith, nat_eq, byte, other, fixed_other)
 ]
 
 -- where the text begins with the bytes
@@ -219,47 +203,36 @@ fixed_reads (byte ∷ bytes) (other ∷ text) h = elim (eqb_tells byte other) [
       let one : common_prefix_len nat_eq (byte ∷ bytes) (other ∷ text) ≡ 1 + common_prefix_len nat_eq bytes text = rw e.0 refl in
       let above : length bytes ≤ common_prefix_len nat_eq bytes text = omega (arith, h, one) in
       subst (λ (c : ℕ). fixed_at (byte ∷ bytes) (c ∷ text) ≡ Ok (drop (length bytes) text)) e.1 (fixed_step byte bytes text ∙ fixed_reads bytes text above)
-  | inr e ↦
-      let none : common_prefix_len nat_eq (byte ∷ bytes) (other ∷ text) ≡ 0 = rw e.0 refl in
-      absurd (omega (arith, h, none))
+  | inr e ↦ grind (arith, nat_eq, byte, other)
 ]
 
 -- a fixed text stops within the text
 fixed_within : {V : Type 0} (value : V) (bytes text : List ℕ) (left : ℕ) → fixed_as value bytes text ≡ Err left → left ≤ length text
 fixed_within {V} value bytes text left e = elim (fixed_cases bytes text) [
   | inl r ↦ absurd (no_ok (sym e ∙ bind_of (fixed_at bytes text) (λ u. Ok (value, u)) r.0 r.1))
-  | inr p ↦
-      let same : p.0 ≡ left = err_same p.0 left (sym (bind_stops (fixed_at bytes text) (λ u. Ok (value, u)) p.0 p.1) ∙ e) in
-      omega (arith, same, p.2.cut.count, ap length p.2.cut.whole, length-append p.2.cut.good p.2.cut.bad)
+  | inr p ↦ grind (arith, err_same, bind_stops, fixed_at, length-append)
 ]
 
 -- words stop within the text
 word_within : {V : Type 0} (words : List (List ℕ × V)) (text : List ℕ) (left : ℕ) → word_at words text ≡ Err left → left ≤ length text
 word_within [] text left e = let same = err_same (length text) left e in omega (arith, same)
-word_within (word ∷ words) text left e =
-    let h = either_wrong (fixed_as word.1 word.0 text) (word_at words text) left e in
-    let first = fixed_within word.1 word.0 text h.0 h.2 in
-    omega (arith, first, h.4)
+word_within (word ∷ words) text left e = grind (arith, either_wrong, fixed_as, word_at, fixed_within)
 
 -- a text may go wrong no earlier than at its beginning
 from_beginning : {V : Type 0} (text : List ℕ) (r : Result V ℕ) → ((left : ℕ) → r ≡ Err left → left ≤ length text) → either (Err (length text)) r ≡ r
-from_beginning text (Ok x) h = refl
-from_beginning text (Err left) h = ap Err (let within = h left refl in omega (arith, within))
+from_beginning text r h = grind (arith)
 
 pub word_begins : {V : Type 0} (words : List (List ℕ × V)) (text : List ℕ) → either (Err (length text)) (word_at words text) ≡ word_at words text
 word_begins words text = from_beginning text (word_at words text) (λ left e. word_within words text left e)
 
 -- two places and what else is read
 either_twice : {A : Type 0} (a b : ℕ) (r : Result A ℕ) → either (Err a) (either (Err b) r) ≡ either (Err (min a b)) r
-either_twice a b (Ok x) = refl
-either_twice a b (Err c) = ap Err (omega arith)
+either_twice a b r = grind (arith)
 
 -- one word was not read
 pub word_passed : {V : Type 0} (value : V) (bytes text : List ℕ) (words : List (List ℕ × V)) (left other : ℕ) (all : Result (V × List ℕ) ℕ) → fixed_at bytes text ≡ Err other
     → either (Err left) (word_at ((bytes, value) ∷ words) text) ≡ all → either (Err (min left other)) (word_at words text) ≡ all
-word_passed {V} value bytes text words left other all e h =
-    sym (either_twice left other (word_at words text))
-    ∙ ap (λ (r : Result (V × List ℕ) ℕ). either (Err left) (either r (word_at words text))) (sym (bind_stops (fixed_at bytes text) (λ u. Ok (value, u)) other e)) ∙ h
+word_passed {V} value bytes text words left other all e h = grind (arith, either_twice, word_at, either, bind_stops, fixed_at)
 
 -- one word was read
 pub word_found : {V : Type 0} (value : V) (bytes text rest : List ℕ) (words : List (List ℕ × V)) (left : ℕ) (all : Result (V × List ℕ) ℕ) → fixed_at bytes text ≡ Ok rest
