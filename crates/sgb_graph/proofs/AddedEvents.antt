@@ -18,14 +18,7 @@ adds-none directed g = search (rules, append-nil, KeepsAll-same)
 
 -- first some and then others
 pub KeepsAll-then : (a b c : GraphData) → KeepsAllButArcs a b → KeepsAllButArcs b c → KeepsAllButArcs a c
-KeepsAll-then a b c h k = record {
-  id = k.id ∙ h.id;
-  kinds = k.kinds ∙ h.kinds;
-  util = k.util ∙ h.util;
-  size = k.size ∙ h.size;
-  names = k.names ∙ h.names;
-  fields = k.fields ∙ h.fields;
-}
+KeepsAll-then a b c h k = grind (arith)
 
 pub adds-then : (directed : Bool) (a b c : GraphData) (es fs : List Event) → AddsEvents directed a b es → AddsEvents directed b c fs → AddsEvents directed a c (es ++ fs)
 adds-then directed a b c es fs h k = grind (arith, append_assoc, KeepsAll-then)
@@ -33,18 +26,11 @@ adds-then directed a b c es fs h k = grind (arith, append_assoc, KeepsAll-then)
 -- the records of one event use no fields
 event_fields : (directed : Bool) (g : GraphData) (e : Event) → All HasNoFields g.records → All HasNoFields (with_event directed g e).records
 event_fields true g e old = All-append HasNoFields g.records _ old (All-cons HasNoFields _ [] (refl, refl) (All-nil HasNoFields))
-event_fields false g e old =
-    let lower = arc_record (max e.from e.to) (after_lower (length g.records) g.vertices e.from e.to) e.len in
-    let higher = arc_record (min e.from e.to) (first_arc g.vertices (max e.from e.to)) e.len in
-    All-append HasNoFields g.records (lower ∷ higher ∷ []) old (All-cons HasNoFields lower (higher ∷ []) (refl, refl) (All-cons HasNoFields higher [] (refl, refl) (All-nil HasNoFields)))
+event_fields false g e old = search (rules, max, min, All-append, All-cons, All-nil, arc_record, after_lower, first_arc, HasNoFields)
 
 -- one event
 pub adds-event : (directed : Bool) (g : GraphData) (e : Event) → HasEndsBelow (length g.vertices) e → AddsEvents directed g (with_event directed g e) (e ∷ [])
-adds-event directed g e below = record {
-  arcs = λ before has. event_more directed before e g has below;
-  arc_fields = event_fields directed g e;
-  rest = event_keeps directed g e;
-}
+adds-event directed g e below = grind (arith, event_more, event_fields, event_keeps)
 
 -- a graph that has some of the events already, where the others are still to come
 pub record AddsUpTo (directed : Bool) (old now : GraphData) (coming all : List Event) : Type 0 where

@@ -2,7 +2,6 @@
 use Rattle.std.proofs.Common.{rules, ◌≡◌, ◌≢◌, ◌+◌, ◌≤◌, ◌<◌, ℕ, zero, suc, ℤ, true, List, [], ◌∷◌, ◌++◌, length, Option, Some, None, refl, ap, sym, ◌∙◌, arith}
 use Rattle.std.specs.Prelude.{slice_get}
 use Rattle.std.specs.List.{list_all}
-use Rattle.std.specs.Option.{option_and_then}
 use Rattle.std.proofs.lemmas.Bool.{and_parts, and_from, lt-ltb}
 use Rattle.std.proofs.lemmas.List.{length-append}
 use Rattle.std.proofs.lemmas.List.Sums.{AllPass-from_list_all}
@@ -48,14 +47,7 @@ first_fits records (Some k) ends = let step = step_of records k ends in lt-ltb k
 pub chain_of_vertex : (g : GraphData) (u : ℕ) → ListsEnd g → u < length g.vertices → HasChain g u (first_arc g.vertices u)
 chain_of_vertex g u all below =
     let x = element_at g.vertices u below in
-    let same : first_arc g.vertices u ≡ x.element.arcs = ap (λ o. option_and_then (λ (v : Vertex). v.arcs) o) x.is in
-    let ends = end_at g u x.element all x.is in
-    rw same record {
-      fits = first_fits g.records x.element.arcs ends;
-      ends = ends;
-      leads = λ lead. list_all-get (λ (v : Vertex). lead_within (length g.records) g.records v.arcs) g.vertices u x.element lead x.is;
-      chain = chain_at g u x.element x.is;
-    }
+    grind (arith, end_at, first_fits, list_all-get, lead_within, chain_at, x)
 
 -- a new record fits, as those after it do
 pub plain_fit : (n m : ℕ) (kinds : List Kind) (v : ℕ) (after : Option ℕ) (far : ℤ) (more : List ArcRec) → v < n → chain_fits m after ≡ true → arc_kinds kinds ≡ Z ∷ Z ∷ [] → list_all (record_fits_in n m kinds) more ≡ true
@@ -76,18 +68,24 @@ pub record IsLead (g : GraphData) (steps : ℕ) (records : List ArcRec) (k v : �
   pub leads : lists_lead_to_vertices g.vertices g.records ≡ true → lead_within (suc steps) records (Some k) ≡ true
   pub links : links_within (suc steps) records (Some k) ≡ link k v far ∷ chain
 
--- a record that goes on with the old chain is in front of it
+-- a record that goes on with a way that ends is in front of the chain of that way
+pub lead_from : (g : GraphData) (steps : ℕ) (records : List ArcRec) (k v : ℕ) (next : Option ℕ) (far : ℤ) (chain : List Link) → slice_get records k ≡ Some (arc_record v next far) → ends_from steps records next ≡ true
+    → (lists_lead_to_vertices g.vertices g.records ≡ true → lead_within steps records next ≡ true) → links_within steps records next ≡ chain → IsLead g steps records k v far chain
+lead_from g steps records k v next far chain is ends leads links =
+    let new = arc_record v next far in
+    record {
+      ends = ends_step steps records k new is ∙ ends;
+      leads = λ all. leads_step steps records k new is refl (leads all);
+      links = links_step steps records k new is ∙ ap (λ ls. link k v far ∷ ls) links;
+    }
+
+-- so is one that goes on with an old chain
 pub lead_of : (steps : ℕ) (g : GraphData) (more : List ArcRec) (u k v : ℕ) (far : ℤ) → ListsEnd g → u < length g.vertices → length g.records ≤ steps → slice_get (g.records ++ more) k ≡ Some (arc_record v (first_arc g.vertices u) far) → IsLead g steps (g.records ++ more) k v far (chain_of g u)
 lead_of steps g more u k v far all below le is =
     let old = chain_of_vertex g u all below in
     let first = first_arc g.vertices u in
-    let new = arc_record v first far in
-    let whole = g.records ++ more in
-    record {
-      ends = ends_step steps whole k new is ∙ ends_kept steps g.records more first le old.ends;
-      leads = λ lead. leads_step steps whole k new is refl (leads_kept steps g.records more first le old.ends (old.leads lead));
-      links = links_step steps whole k new is ∙ ap (λ ls. link k v far ∷ ls) (links_kept steps g.records more first le old.ends ∙ sym old.chain);
-    }
+    lead_from g steps (g.records ++ more) k v first far (chain_of g u) is (ends_kept steps g.records more first le old.ends)
+    (λ lead. leads_kept steps g.records more first le old.ends (old.leads lead)) (links_kept steps g.records more first le old.ends ∙ sym old.chain)
 
 -- vertices stay good where a record that leads to vertices becomes the first one of a vertex
 pub put_good : (n steps k u : ℕ) (kinds : List Kind) (records : List ArcRec) (vertices : List Vertex) → length records ≡ suc steps → k < length records → lead_within (suc steps) records (Some k) ≡ true
@@ -99,16 +97,14 @@ put_good n steps k u kinds records vertices long below leads good =
 -- lists still end where one from which the way ends does
 pub put_ends : (steps k u : ℕ) (records : List ArcRec) (vertices : List Vertex) → length records ≡ suc steps → ends_from (suc steps) records (Some k) ≡ true
     → list_all (λ x. ends_of records x.arcs) vertices ≡ true → list_all (λ x. ends_of records x.arcs) (with_first k u vertices) ≡ true
-put_ends steps k u records vertices long ends all =
-    list_all-at_place (λ (x : Vertex). ends_of records x.arcs) (led_by k) u vertices (λ x h. ap (λ s. ends_from s records (Some k)) long ∙ ends) all
+put_ends steps k u records vertices long ends all = grind (arith, list_all-at_place, led_by)
 
 -- the vertex has then the record and the chain after it
 pub put_chain : (g old : GraphData) (others : List Vertex) (steps k u v : ℕ) (far : ℤ) (chain : List Link) → u < length others → slice_get g.vertices u ≡ slice_get (with_first k u others) u
     → length g.records ≡ suc steps → IsLead old steps g.records k v far chain → chain_of g u ≡ link k v far ∷ chain
 put_chain g old others steps k u v far chain below is long lead =
     let x = element_at others u below in
-    chain_at g u (led_by k x.element) (is ∙ slice_get-at_place_same (led_by k) u others x.element x.is)
-    ∙ (ap (λ s. links_within s g.records (Some k)) long ∙ lead.links)
+    grind (arith, chain_at, led_by, slice_get-at_place_same, links_within, x)
 
 -- a graph with more records is kept
 pub grown_kept : (g : GraphData) (vertices : List Vertex) (more : List ArcRec) → IsKept g → length vertices ≡ length g.vertices → list_all (is_good (length g.vertices) g.kinds (g.records ++ more)) vertices ≡ true
@@ -129,9 +125,7 @@ arc_keeps g u v far = search (rules, length-at_place, map-at_place)
 
 -- the new record is in front of the list of u
 arc_leads : (g : GraphData) (u v : ℕ) (far : ℤ) → ListsEnd g → u < length g.vertices → IsLead g (length g.records) (with_arc g u v far).records (length g.records) v far (chain_of g u)
-arc_leads g u v far all u_in =
-    let new = arc_record v (first_arc g.vertices u) far in
-    lead_of (length g.records) g (new ∷ []) u (length g.records) v far all u_in (omega arith) (first_is g.records [] new)
+arc_leads g u v far all u_in = search (rules, lead_of, first_is, arc_record, first_arc)
 
 -- which lists the graph with one arc more has
 pub record HasArcPut (g : GraphData) (u v : ℕ) (far : ℤ) : Type 0 where

@@ -12,9 +12,8 @@ use Rattle.sgb_graph.specs.declared.fields.ArcRec.{ArcRec}
 use Rattle.sgb_graph.specs.declared.fields.Link.{Link}
 use Rattle.sgb_graph.proofs.Lists.{slice_get-at_place_other, slice_get-after, length-at_place, map-at_place}
 use Rattle.sgb_graph.proofs.Fitting.{chain_fits_more}
-use Rattle.sgb_graph.proofs.Chains.{ends_step, links_step, leads_step}
 use Rattle.sgb_graph.proofs.Growing.{parts_of, all_good_more, chain_kept, lists_end, lists_end_more}
-use Rattle.sgb_graph.proofs.AddingArcs.{IsLead, chain_of_vertex, first_is, grown_kept, lead_of, led_by, plain_fit, put_chain, put_ends, put_good}
+use Rattle.sgb_graph.proofs.AddingArcs.{IsLead, chain_of_vertex, first_is, grown_kept, lead_of, led_by, plain_fit, put_chain, put_ends, put_good, lead_from}
 
 -- all but the arcs stays where there is one edge more
 pub edge_keeps : (g : GraphData) (u v : ℕ) (far : ℤ) → KeepsAllButArcs g (with_edge g u v far)
@@ -31,16 +30,6 @@ higher g u v far = arc_record (min u v) (first_arc g.vertices (max u v)) far
 abbrev pub chain_after : GraphData → ℕ → ℕ → ℤ → List Link
 chain_after g u v far = if u == v then link (length g.records + 1) (min u v) far ∷ chain_of g (max u v) else chain_of g (min u v)
 
--- a record before one that is in front of a chain
-lead_before : (g : GraphData) (steps : ℕ) (records : List ArcRec) (k v next tip : ℕ) (far : ℤ) (chain : List Link) → slice_get records k ≡ Some (arc_record v (Some next) far) → IsLead g steps records next tip far chain → IsLead g (suc steps) records k v far (link next tip far ∷ chain)
-lead_before g steps records k v next tip far chain is lead =
-    let r = arc_record v (Some next) far in
-    record {
-      ends = ends_step (suc steps) records k r is ∙ lead.ends;
-      leads = λ all. leads_step (suc steps) records k r is refl (lead.leads all);
-      links = links_step (suc steps) records k r is ∙ ap (λ ls. link k v far ∷ ls) lead.links;
-    }
-
 -- the records of an edge, each in front of its chain
 record HasLeads (g : GraphData) (u v : ℕ) (far : ℤ) : Type 0 where
   long : length (with_edge g u v far).records ≡ suc (suc (length g.records))
@@ -56,16 +45,16 @@ edge_leads g u v far all u_in v_in =
     let whole = g.records ++ r ∷ s ∷ [] in
     let up : (steps : ℕ) → m ≤ steps → IsLead g steps whole (m + 1) (min u v) far (chain_of g (max u v)) =
     λ steps le. lead_of steps g (r ∷ s ∷ []) (max u v) (m + 1) (min u v) far all (omega arith) le (slice_get-after g.records (r ∷ s ∷ []) 1) in
-    let first : (o : Option ℕ) → r.next ≡ o → slice_get whole m ≡ Some (arc_record (max u v) o far) =
-    λ o after. first_is g.records (s ∷ []) r ∙ ap (λ t. Some (arc_record (max u v) t far)) after in
+    let first : (o : Option ℕ) → r.next ≡ o → slice_get whole m ≡ Some (arc_record (max u v) o far) = grind (arith, first_is, max) in
     let known : chain_fits (m + 2) r.next ≡ true → IsLead g (suc m) whole m (max u v) far (chain_after g u v far) → HasLeads g u v far =
     λ fits low. record { long = omega (arith, length-append g.records (r ∷ s ∷ [])); fits = fits; high = up (suc m) (omega arith); low = low } in
     elim (cases_eq u v) [
       | inl same ↦
           let after : r.next ≡ Some (m + 1) = rw (eq-eqb u v same) refl in
           let chain : link (m + 1) (min u v) far ∷ chain_of g (max u v) ≡ chain_after g u v far = rw (eq-eqb u v same) refl in
+          let next = up m (omega arith) in
           known (rw after (lt-ltb (m + 1) (m + 2) (omega arith)))
-          (subst (IsLead g (suc m) whole m (max u v) far) chain (lead_before g m whole m (max u v) (m + 1) (min u v) far (chain_of g (max u v)) (first (Some (m + 1)) after) (up m (omega arith))))
+          (lead_from g (suc m) whole m (max u v) (Some (m + 1)) far _ (first (Some (m + 1)) after) next.ends next.leads (next.links ∙ chain))
       | inr other ↦
           let start = first_arc g.vertices (min u v) in
           let after : r.next ≡ start = rw (ne_eqb u v other) refl in
@@ -121,8 +110,6 @@ edge_kept g u v far kept plain u_in v_in =
     let good = put_good n (suc m) (m + 1) (max u v) g.kinds whole g.vertices at.long (omega (arith, at.long)) (at.high.leads has.leads) (all_good_more g more has) in
     let after_higher = chain_fits_more m (length whole) (first_arc g.vertices (max u v)) (omega (arith, at.long)) (chain_of_vertex g (max u v) all (omega arith)).fits in
     let after_lower = chain_fits_more (m + 2) (length whole) r.next (omega (arith, at.long)) at.fits in
+    let fit = plain_fit n (length whole) g.kinds (max u v) r.next far (s ∷ []) (omega arith) after_lower plain (plain_fit n (length whole) g.kinds (min u v) s.next far [] (omega arith) after_higher plain refl) in
     grown_kept g (with_first m (min u v) half) more kept (length-at_place (led_by m) (min u v) half ∙ length-at_place (led_by (m + 1)) (max u v) g.vertices)
-    (put_good n (suc m) m (min u v) g.kinds whole half at.long (omega (arith, at.long)) (at.low.leads has.leads) good) (record {
-      fit = plain_fit n (length whole) g.kinds (max u v) r.next far (s ∷ []) (omega arith) after_lower plain (plain_fit n (length whole) g.kinds (min u v) s.next far [] (omega arith) after_higher plain refl);
-      ends = λ k low_k below. elim (cases_eq k m) [ inl here ↦ rw (here, at.long) at.low.ends | inr other ↦ let here : k ≡ m + 1 = omega (arith, at.long) in rw (here, at.long) at.high.ends ];
-    })
+    (put_good n (suc m) m (min u v) g.kinds whole half at.long (omega (arith, at.long)) (at.low.leads has.leads) good) (grind (arith, at, fit))

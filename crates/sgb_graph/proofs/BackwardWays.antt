@@ -1,9 +1,9 @@
 -- Records of which each leads back to an earlier one, and leads to a vertex: no way of theirs has to be walked.
-use Rattle.std.proofs.Common.{◌≡◌, ◌<◌, ◌∙◌, ◌&&◌, ℕ, zero, suc, Bool, true, false, true≢false, List, [], ◌∷◌, length, Option, Some, None, refl, sym, inl, inr, arith}
+use Rattle.std.proofs.Common.{◌≡◌, ◌<◌, ◌&&◌, ℕ, zero, suc, true, false, List, [], ◌∷◌, length, Option, Some, None, refl, arith, rules}
 use Rattle.std.specs.Prelude.{slice_get}
 use Rattle.std.specs.List.{list_all, range_with_len}
 use Rattle.std.specs.Option.{option_map_or}
-use Rattle.std.proofs.lemmas.Bool.{and_from, and_parts, cases_Bool}
+use Rattle.std.proofs.lemmas.Bool.{and_from, and_parts}
 use Rattle.std.proofs.lemmas.Bool.Decides.{nat_tests}
 use Rattle.sgb_graph.specs.Graphs.{GraphData, ends_from, numbers_of}
 use Rattle.sgb_graph.specs.Sound.{chain_fits, chains_end, is_sound, is_vertex, leads_to_vertex, lists_lead_to_vertices}
@@ -13,15 +13,8 @@ use Rattle.sgb_graph.specs.declared.fields.Vertex.{Vertex}
 use Rattle.sgb_graph.proofs.Chains.{ends_longer, ends_none, ends_step, is_record, numbers_are_records}
 use Rattle.sgb_graph.proofs.EndingWays.{record_within}
 use Rattle.sgb_graph.proofs.Lists.{list_all-weaker}
-use Rattle.sgb_graph.proofs.MarkedWays.{all_end, not_each_below}
-
--- what all numbers below n pass, each does
-passed_below : (p : ℕ → Bool) (n k : ℕ) → list_all p (range_with_len 0 n) ≡ true → k < n → p k ≡ true
-passed_below p n k all below =
-    elim (cases_Bool (p k)) [
-      | inl passes ↦ passes
-      | inr fails ↦ absurd (true≢false (sym all ∙ not_each_below p n k below fails))
-    ]
+use Rattle.sgb_graph.proofs.MarkedWays.{all_end}
+use Rattle.sgb_graph.proofs.TestLemmas.{at_each_below}
 
 -- a number below another
 is_below : (j k : ℕ) → chain_fits k (Some j) ≡ true → j < k
@@ -36,20 +29,17 @@ ends_back records back (suc bound) k low below =
   where
     by_next : ((j : ℕ) → j < k → ends_from (suc j) records (Some j) ≡ true) → (next : Option ℕ) → chain_fits k next ≡ true → ends_from k records next ≡ true
     by_next sooner None fits = ends_none k records
-    by_next sooner (Some j) fits =
-        let earlier = is_below j k fits in
-        ends_longer (suc j) k records (Some j) (omega (arith, earlier)) (sooner j earlier)
+    by_next sooner (Some j) fits = search (rules, is_below, ends_longer)
 
     by_record : ((j : ℕ) → j < k → ends_from (suc j) records (Some j) ≡ true) → (o : Option ArcRec) → slice_get records k ≡ o
         → option_map_or (λ (r : ArcRec). chain_fits k r.next && is_vertex r.tip) o false ≡ true → ends_from (suc k) records (Some k) ≡ true
-    by_record sooner None is fits = absurd cc
-    by_record sooner (Some r) is back = ends_step k records k r is ∙ by_next sooner r.next (and_parts (chain_fits k r.next) (is_vertex r.tip) back).0
+    by_record sooner o is fits = grind (arith, ends_step, by_next, and_parts)
 
 all_back : (records : List ArcRec) → list_all (leads_back records) (range_with_len 0 (length records)) ≡ true → chains_end records ≡ true
 all_back records all =
     all_end records (λ k below.
     ends_longer (suc k) (length records) records (Some k) (omega (arith, below))
-    (ends_back records (λ j there. passed_below (leads_back records) (length records) j all there) (suc k) k (omega arith) below))
+    (ends_back records (λ j there. at_each_below (leads_back records) (length records) all j there) (suc k) k (omega arith) below))
 
 -- where each record leads to a vertex, those on a list do
 list_leads : (records : List ArcRec) (first : Option ℕ) → ((k : ℕ) → k < length records → leads_to_vertex records k ≡ true) → leads_of records first ≡ true
@@ -65,14 +55,10 @@ all_lead (v ∷ vertices) records each =
 
 -- of a record that leads back, where it leads
 record_leads : (records : List ArcRec) (k : ℕ) → leads_back records k ≡ true → leads_to_vertex records k ≡ true
-record_leads records k back = by_record (slice_get records k) back
-  where
-    by_record : (o : Option ArcRec) → option_map_or (λ (r : ArcRec). chain_fits k r.next && is_vertex r.tip) o false ≡ true → option_map_or (λ (r : ArcRec). is_vertex r.tip) o false ≡ true
-    by_record None b = b
-    by_record (Some r) b = (and_parts (chain_fits k r.next) (is_vertex r.tip) b).1
+record_leads records k back = grind (arith, and_parts)
 
 -- records that lead back are sound lists, whatever vertices there are
 pub back_is_sound : (g : GraphData) → list_all (leads_back g.records) (range_with_len 0 (length g.records)) ≡ true → is_sound g ≡ true
 back_is_sound g all =
     and_from (chains_end g.records) (lists_lead_to_vertices g.vertices g.records) (all_back g.records all)
-    (all_lead g.vertices g.records (λ k below. record_leads g.records k (passed_below (leads_back g.records) (length g.records) k all below)))
+    (all_lead g.vertices g.records (λ k below. record_leads g.records k (at_each_below (leads_back g.records) (length g.records) all k below)))

@@ -44,11 +44,7 @@ pub record EndsAfter (fuel : ℕ) (records : List ArcRec) (k : ℕ) : Type 0 whe
 -- so it goes from there
 pub ends_after : (fuel : ℕ) (records : List ArcRec) (k : ℕ) → ends_from (suc fuel) records (Some k) ≡ true → EndsAfter fuel records k
 unfolding ends_from
-ends_after fuel records k e = by_record (slice_get records k) refl e
-  where
-    by_record : (o : Option ArcRec) → slice_get records k ≡ o → option_map_or (λ (x : ArcRec). ends_from fuel records x.next) o false ≡ true → EndsAfter fuel records k
-    by_record None is h = absurd cc
-    by_record (Some r) is h = record { here = r; is = is; ends = h }
+ends_after fuel records k e = grind (arith)
 
 -- a way that ends without a step starts from no record
 pub no_start : (records : List ArcRec) (k : ℕ) → ends_from zero records (Some k) ≡ true → ⊥
@@ -60,19 +56,14 @@ pub ends_more : (fuel steps : ℕ) (records more : List ArcRec) (first : Option 
 ends_more fuel steps records more None le e = ends_none steps (records ++ more)
 ends_more zero steps records more (Some k) le e = absurd (no_start records k e)
 ends_more (suc fuel) zero records more (Some k) le e = absurd (omega arith)
-ends_more (suc fuel) (suc steps) records more (Some k) le e =
-    let b = ends_after fuel records k e in
-    ends_step steps (records ++ more) k b.here (slice_get-left records more k b.here b.is) ∙ ends_more fuel steps records more b.here.next (omega arith) b.ends
+ends_more (suc fuel) (suc steps) records more (Some k) le e = grind (arith, ends_after, ends_step, slice_get-left, ends_more fuel steps records more (ends_after fuel records k e).here.next (omega arith) (ends_after fuel records k e).ends)
 
 -- and meets the same records
 pub numbers_more : (fuel steps : ℕ) (records more : List ArcRec) (first : Option ℕ) → fuel ≤ steps → ends_from fuel records first ≡ true → numbers_from steps (records ++ more) first ≡ numbers_from fuel records first
 numbers_more fuel steps records more None le e = numbers_none steps (records ++ more) ∙ sym (numbers_none fuel records)
 numbers_more zero steps records more (Some k) le e = absurd (no_start records k e)
 numbers_more (suc fuel) zero records more (Some k) le e = absurd (omega arith)
-numbers_more (suc fuel) (suc steps) records more (Some k) le e =
-    let b = ends_after fuel records k e in
-    numbers_step steps (records ++ more) k b.here (slice_get-left records more k b.here b.is)
-    ∙ (ap (λ ks. k ∷ ks) (numbers_more fuel steps records more b.here.next (omega arith) b.ends) ∙ sym (numbers_step fuel records k b.here b.is))
+numbers_more (suc fuel) (suc steps) records more (Some k) le e = grind (arith, ends_after, numbers_step, slice_get-left, numbers_more fuel steps records more (ends_after fuel records k e).here.next (omega arith) (ends_after fuel records k e).ends)
 
 -- each record on a way is one
 unfoldable pub is_record : List ArcRec → ℕ → Bool
@@ -82,22 +73,12 @@ is_record records k = is_some (slice_get records k)
 pub numbers_are_records : (fuel : ℕ) (records : List ArcRec) (first : Option ℕ) → list_all (is_record records) (numbers_from fuel records first) ≡ true
 unfolding numbers_from is_record
 numbers_are_records zero records first = refl
-numbers_are_records (suc fuel) records None = refl
-numbers_are_records (suc fuel) records (Some k) = by_record (numbers_are_records fuel records) (slice_get records k) refl
-  where
-    by_record : ((first : Option ℕ) → list_all (is_record records) (numbers_from fuel records first) ≡ true)
-        → (o : Option ArcRec) → slice_get records k ≡ o → list_all (is_record records) (option_map_or (λ (r : ArcRec). k ∷ numbers_from fuel records r.next) o []) ≡ true
-    by_record later None is = refl
-    by_record later (Some r) is = rw is (later r.next)
+numbers_are_records (suc fuel) records first = grind (arith, numbers_are_records fuel records)
 
 -- it is the same with more records
 record_more : (records more : List ArcRec) (k : ℕ) → is_record records k ≡ true → slice_get (records ++ more) k ≡ slice_get records k
 unfolding is_record
-record_more records more k e = by_record (slice_get records k) refl e
-  where
-    by_record : (o : Option ArcRec) → slice_get records k ≡ o → is_some o ≡ true → slice_get (records ++ more) k ≡ slice_get records k
-    by_record None is h = absurd cc
-    by_record (Some r) is h = slice_get-left records more k r is ∙ sym is
+record_more records more k e = grind (arith, slice_get-left)
 
 -- so is its arc
 link_more : (records more : List ArcRec) (k : ℕ) → is_record records k ≡ true → link_of (records ++ more) k ≡ link_of records k
@@ -130,11 +111,7 @@ pub leads_kept : (steps : ℕ) (records more : List ArcRec) (first : Option ℕ)
 leads_kept steps records more first le e leads =
     let met = numbers_of records first in
     let both = list_all-both (is_record records) (leads_to_vertex records) met (numbers_are_records (length records) records first) leads in
-    rw (numbers_more (length records) steps records more first le e)
-    (list_all-weaker _ (leads_to_vertex (records ++ more)) met (λ k h. still k (and_parts (is_record records k) (leads_to_vertex records k) h)) both)
-  where
-    still : (k : ℕ) → (is_record records k ≡ true) × (leads_to_vertex records k ≡ true) → leads_to_vertex (records ++ more) k ≡ true
-    still k (is, leads) = leads_more records more k is ∙ leads
+    rw (numbers_more (length records) steps records more first le e) (list_all-weaker _ (leads_to_vertex (records ++ more)) met (λ k h. grind (arith, and_parts, leads_more)) both)
 
 -- the arcs from a record on: its own, and those from the next one on
 pub links_step : (steps : ℕ) (records : List ArcRec) (k : ℕ) (r : ArcRec) → slice_get records k ≡ Some r → links_within (suc steps) records (Some k) ≡ link k (vertex_of r.tip) r.len ∷ links_within steps records r.next
@@ -148,15 +125,7 @@ leads_step steps records k r is tip rest = grind (arith, numbers_step, is, and_f
 pub length-links : (fuel : ℕ) (records : List ArcRec) (first : Option ℕ) → length (links_within fuel records first) ≤ fuel
 unfolding numbers_from
 length-links zero records first = omega arith
-length-links (suc fuel) records None = omega arith
-length-links (suc fuel) records (Some k) = by_record (length-links fuel records) (slice_get records k) refl
-  where
-    by_record : ((first : Option ℕ) → length (links_within fuel records first) ≤ fuel) → (o : Option ArcRec) → slice_get records k ≡ o
-        → length (flat_map (link_of records) (option_map_or (λ (r : ArcRec). k ∷ numbers_from fuel records r.next) o [])) ≤ suc fuel
-    by_record later None is = omega arith
-    by_record later (Some r) is =
-        let rest = later r.next in
-        rw is (omega arith)
+length-links (suc fuel) records first = grind (arith, length-links fuel records)
 
 -- from none there is no arc
 pub links_of_none : (records : List ArcRec) → links_of records None ≡ []
@@ -189,13 +158,6 @@ step_of records k ends = by_length (length records) refl
     by_length (suc n) is =
         let b = ends_after n records k (rw is at ends) in
         let same = numbers_longer n (length records) records b.here.next (omega arith) b.ends in
-        let numbers : numbers_of records (Some k) ≡ k ∷ numbers_of records b.here.next =
-        ap (λ steps. numbers_from steps records (Some k)) is ∙ (numbers_step n records k b.here b.is ∙ ap (λ ks. k ∷ ks) (sym same)) in
-        record {
-          here = b.here;
-          is = b.is;
-          numbers = numbers;
-          links = ap (flat_map (link_of records)) numbers
-              ∙ ap (λ ls. ls ++ links_of records b.here.next) (ap (λ o. option_map_or (λ (x : ArcRec). link k (vertex_of x.tip) x.len ∷ []) o []) b.is);
-          ends = ends_longer n (length records) records b.here.next (omega arith) b.ends;
-        }
+        let rest = ends_longer n (length records) records b.here.next (omega arith) b.ends in
+        let numbers : numbers_of records (Some k) ≡ k ∷ numbers_of records b.here.next = grind (arith, is, numbers_step) in
+        grind (arith, b, numbers, rest)

@@ -1,5 +1,5 @@
 -- Parts that were checked: what fits, and the graph that they make up.
-use Rattle.std.proofs.Common.{◌≡◌, ◌&&◌, ℕ, Bool, true, List, [], ◌∷◌, length, slice_index_or, refl, ap, sym, ◌∙◌, arith}
+use Rattle.std.proofs.Common.{◌≡◌, ◌&&◌, ℕ, Bool, true, List, [], ◌∷◌, length, slice_index_or, refl, ap, arith}
 use Rattle.std.specs.Prelude.{Ok, Err, nat_le}
 use Rattle.std.specs.List.{list_all, zip}
 use Rattle.std.proofs.Math.Bool.{and-true}
@@ -28,8 +28,7 @@ two_fit n m _ d a b long = absurd (omega arith)
 
 -- where the first fits, they fit if the second does
 pub both_fit : (n m : ℕ) (kinds : List Kind) (d : Kind) (a b : Util) {fits : Bool} → length kinds ≡ 2 → util_fits n m (slice_index_or kinds 0 d) a ≡ true → fits ≡ util_fits n m (slice_index_or kinds 1 d) b → fits ≡ utils_fit n m kinds (a ∷ b ∷ [])
-both_fit n m kinds d a b long first second =
-    second ∙ (ap (λ t. t && util_fits n m (slice_index_or kinds 1 d) b) (sym first) ∙ sym (two_fit n m kinds d a b long))
+both_fit n m kinds d a b long first second = rw (second, two_fit n m kinds d a b long, first) refl
 
 -- the list of each vertex ends where the numbers fit and all chains end
 pub lists_end : (g : GraphData) → fields_fit g ≡ true → chains_end g.records ≡ true → list_all (λ x. ends_of g.records x.arcs) g.vertices ≡ true

@@ -1,5 +1,5 @@
 -- Columns: those that are not used, their places, one value more.
-use Rattle.std.proofs.Common.{◌≡◌, ◌<◌, ◌+◌, ℕ, [], ◌∷◌, ◌++◌, length, refl, ap, sym, ◌∙◌, arith, replicate}
+use Rattle.std.proofs.Common.{◌≡◌, ◌<◌, ◌+◌, ℕ, [], ◌∷◌, ◌++◌, length, ap, sym, ◌∙◌, arith, replicate}
 use Rattle.std.proofs.lemmas.List.{length-map, length-replicate, length_push, replicate_more}
 use Rattle.std.proofs.Math.Nat.{add_comm}
 use Rattle.sgb_graph.specs.inner.Columns.{HasPlace, HoldsMany, column_kind, values}
@@ -11,8 +11,7 @@ use Rattle.sgb_graph.specs.declared.fields.Util.TheVariants.{Nothing}
 
 -- a column that is not used
 pub unused : (c : Column) → column_kind c ≡ Z → c ≡ Unused
-unused Unused h = refl
-unused _ h = cc
+unused c h = grind (arith)
 
 pub HoldsMany-unused : (n : ℕ) (c : Column) → column_kind c ≡ Z → HoldsMany n c
 HoldsMany-unused n c h = rw (unused c h) (length-replicate n Nothing)
@@ -23,8 +22,7 @@ values-unused n c h = rw (unused c h) (ap (λ k. replicate k Nothing) (add_comm 
 
 -- a column of n has each place below n
 pub HasPlace-below : (c : Column) (n k : ℕ) → HoldsMany n c → k < n → HasPlace k c
-HasPlace-below Unused n k h l = omega arith
-HasPlace-below _ n k h l = omega (arith, simp length-map at h)
+HasPlace-below c n k h l = grind (arith, length-map)
 
 -- a column of one value more
 pub HoldsMany-push : (n : ℕ) (c c' : Column) (x : Util) → HoldsMany n c → values (1 + n) c' ≡ values n c ++ x ∷ [] → HoldsMany (1 + n) c'

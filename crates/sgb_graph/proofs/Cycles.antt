@@ -1,5 +1,5 @@
 -- A cycle of random numbers, the next one, and the numbers of the sequence that they are.
-use Rattle.std.proofs.Common.{rules, ◌≡◌, ℕ, ◌+◌, ◌-◌, ◌%◌, ◌<◌, ◌≤◌, ◌≢◌, List, get_or, set, refl, ap, sym, ◌∙◌, inl, inr, arith, length-set, get_or-set_same, get_or-set_other}
+use Rattle.std.proofs.Common.{rules, ◌≡◌, ℕ, ◌+◌, ◌-◌, ◌%◌, ◌<◌, ◌≤◌, List, get_or, set, ap, sym, ◌∙◌, inl, inr, arith, length-set, get_or-set_same, get_or-set_other}
 use Rattle.std.proofs.lemmas.Bool.{cases_eq, cases_lt}
 use Rattle.sgb_graph.specs.Draws.{modulus, difference, x_number}
 use Rattle.sgb_graph.specs.inner.Flips.{HandsOut, IsCycle, IsNextCycle}
@@ -23,47 +23,15 @@ pub record IsCycling (old now : List ℕ) (n : ℕ) : Type 0 where
 
 -- at the start
 pub cycling_none : (numbers : List ℕ) → IsCycle numbers → IsCycling numbers numbers 0
-cycling_none numbers is = record {
-  cycle = is;
-  early = λ i low small. absurd (omega arith);
-  late = λ i low great. absurd (omega arith);
-  rest = λ i high. refl;
-}
+cycling_none numbers is = grind (arith)
 
 -- one number more
 pub cycling_more : (old now : List ℕ) (n : ℕ) → n < 55 → IsCycling old now n → IsCycling old (set now n (difference (get_or now n 0) (get_or now ((n + 31) % 55) 0))) (n + 1)
-cycling_more old now n inside is =
-    let x = difference (get_or now n 0) (get_or now ((n + 31) % 55) 0) in
-    let after = set now n x in
-    let here : get_or after n 0 ≡ x = get_or-set_same now n x 0 (omega (arith, is.cycle.many)) in
-    let elsewhere : (i : ℕ) → i ≢ n → get_or after i 0 ≡ get_or now i 0 = λ i other. get_or-set_other now n i x 0 other in
-    let own : get_or now n 0 ≡ get_or old n 0 = is.rest n (omega arith) in
-    record {
-      cycle = cycle_with now n x is.cycle (difference_below (get_or now n 0) (get_or now ((n + 31) % 55) 0));
-      early = λ i low small. elim (cases_eq i n) [
-        | inl at ↦
-            let place : (n + 31) % 55 ≡ n + 31 = omega arith in
-            let other : get_or now ((n + 31) % 55) 0 ≡ get_or old (n + 31) 0 = ap (λ p. get_or now p 0) place ∙ is.rest (n + 31) (omega arith) in
-            rw at (here ∙ cc (own, other))
-        | inr other ↦ elsewhere i other ∙ is.early i (omega arith) small
-      ];
-      late = λ i low great. elim (cases_eq i n) [
-        | inl at ↦
-            let place : (n + 31) % 55 ≡ n - 24 = omega arith in
-            let other : get_or now ((n + 31) % 55) 0 ≡ get_or after (n - 24) 0 = ap (λ p. get_or now p 0) place ∙ sym (elsewhere (n - 24) (λ same. omega arith)) in
-            rw at (here ∙ cc (own, other))
-        | inr other ↦ elsewhere i other ∙ (is.late i (omega arith) great ∙ ap (λ b. difference (get_or old i 0) b) (sym (elsewhere (i - 24) (λ same. omega arith))))
-      ];
-      rest = λ i high. elsewhere i (λ same. omega arith) ∙ is.rest i (omega arith);
-    }
+cycling_more old now n inside is = grind (arith, set, get_or-set_same, get_or-set_other, cycle_with, difference_below, cases_eq)
 
 -- in the end the next cycle
 pub cycling_all : (old now : List ℕ) → IsCycling old now 55 → IsNextCycle old now
-cycling_all old now is = record {
-  cycle = is.cycle;
-  early = λ i small. is.early i (omega arith) small;
-  late = λ i great inside. is.late i inside great;
-}
+cycling_all old now is = grind (arith)
 
 -- the numbers are X(n + 1) to X(n + 55)
 pub record IsWindow (seed n : ℕ) (numbers : List ℕ) : Type 0 where
@@ -71,14 +39,10 @@ pub record IsWindow (seed n : ℕ) (numbers : List ℕ) : Type 0 where
 
 -- the same of the sequence of X(1), X(2), ..
 pub window_part : (seed n : ℕ) (numbers : List ℕ) → IsWindow seed n numbers → IsPartOf (λ j. x_number seed (j + 1)) n numbers
-window_part seed n numbers is = record {
-  at = λ i inside. let place : n + (i + 1) ≡ n + i + 1 = omega arith in is.at i inside ∙ ap (λ p. x_number seed p) place;
-}
+window_part seed n numbers is = grind (arith)
 
 pub part_window : (seed n : ℕ) (numbers : List ℕ) → IsPartOf (λ j. x_number seed (j + 1)) n numbers → IsWindow seed n numbers
-part_window seed n numbers is = record {
-  at = λ i inside. let place : n + i + 1 ≡ n + (i + 1) = omega arith in is.at i inside ∙ ap (λ p. x_number seed p) place;
-}
+part_window seed n numbers is = grind (arith)
 
 -- its rule
 pub numbers_rule : (seed j : ℕ) → x_number seed (j + 55 + 1) ≡ difference (x_number seed (j + 1)) (x_number seed (j + 31 + 1))
@@ -95,15 +59,13 @@ next_part y n old new rule is next =
     let later : (i : ℕ) → 24 ≤ i → i < 55 → After (i - 24) → After i = λ i great inside before.
     let place : n + 55 + (i - 24) ≡ n + (i + 31) = omega arith in
     next.late i great inside ∙ (rw (is.at i inside, before, place) (sym (rule_at i))) in
-    let next_24 : (i : ℕ) → 24 ≤ i → i < 48 → After i = λ i great small. later i great (omega arith) (first_24 (i - 24) (omega arith)) in
     record {
       at = λ i inside. elim (cases_lt i 24) [
         | inl small ↦ first_24 i small
-        | inr great ↦
-            elim (cases_lt i 48) [
-              | inl small ↦ next_24 i great small
-              | inr high ↦ later i great inside (next_24 (i - 24) (omega arith) (omega arith))
-            ]
+        | inr great ↦ later i great inside (elim (cases_lt i 48) [
+          | inl small ↦ first_24 (i - 24) (omega arith)
+          | inr high ↦ later (i - 24) (omega arith) (omega arith) (first_24 (i - 24 - 24) (omega arith))
+        ])
       ];
     }
 
@@ -114,18 +76,8 @@ next_window seed n old new is next =
 
 -- where numbers of the cycle are still to come, the last of them is handed out
 pub hands_on : (numbers : List ℕ) (left : ℕ) → IsCycle numbers → 0 < left → left ≤ 54 → HandsOut numbers left (get_or numbers (left - 1) 0) numbers (left - 1)
-hands_on numbers left is some few = record {
-  flip = record { cycle = is; few = omega arith };
-  value = refl;
-  inside = λ _. (refl, omega arith);
-  at_end = λ none. absurd (omega arith);
-}
+hands_on numbers left is some few = grind (arith)
 
 -- and else the last one of the next cycle
 pub hands_next : (old new : List ℕ) → IsNextCycle old new → HandsOut old 0 (get_or new 54 0) new 54
-hands_next old new next = record {
-  flip = record { cycle = next.cycle; few = omega arith };
-  value = refl;
-  inside = λ some. absurd (omega arith);
-  at_end = λ _. (next, refl);
-}
+hands_next old new next = grind (arith)

@@ -1,5 +1,5 @@
 -- The lists of events, as events come one by one.
-use Rattle.std.proofs.Common.{◌≡◌, ◌≢◌, ◌+◌, ◌⊎◌, ℕ, ℤ, min, max, Bool, true, false, List, [], ◌∷◌, ◌++◌, length, map, Option, Some, None, refl, ap, sym, subst, ◌∙◌, inl, inr, arith}
+use Rattle.std.proofs.Common.{◌≡◌, ◌≢◌, ◌+◌, ◌⊎◌, ℕ, ℤ, min, max, Bool, true, false, List, [], ◌∷◌, ◌++◌, length, map, Option, refl, ap, sym, subst, ◌∙◌, arith}
 use Rattle.std.specs.Prelude.{slice_get}
 use Rattle.std.specs.List.{All}
 use Rattle.std.specs.Option.{option_map, option_map_or}
@@ -9,12 +9,12 @@ use Rattle.std.proofs.lemmas.List.Elements.{All-nil, All-cons, All-append, All-m
 use Rattle.std.proofs.lemmas.List.Concat.{flat_map-append}
 use Rattle.std.proofs.lemmas.Option.{slice_get-map}
 use Rattle.sgb_graph.specs.Graphs.{GraphData, ListsEnd, chain_of, ends_of, links_of}
-use Rattle.sgb_graph.specs.Events.{Event, Record, HasArcsOf, HasEndsBelow, all_records, links_at, list_from, list_of, records_of}
+use Rattle.sgb_graph.specs.Events.{Event, Record, HasArcsOf, HasEndsBelow, all_records, links_at, list_from, records_of}
 use Rattle.sgb_graph.specs.Growth.{KeepsAllButArcs, link, new_graph, new_vertex, with_event, with_events}
 use Rattle.sgb_graph.specs.declared.fields.Ref.TheVariants.{At}
 use Rattle.sgb_graph.specs.declared.fields.Vertex.{Vertex}
 use Rattle.sgb_graph.proofs.Chains.{ends_none, links_of_none}
-use Rattle.sgb_graph.proofs.AddingArcs.{HasArcPut, arc_keeps, arc_put}
+use Rattle.sgb_graph.proofs.AddingArcs.{arc_keeps, arc_put}
 use Rattle.sgb_graph.proofs.AddingEdges.{HasEdgePut, edge_keeps, edge_put}
 
 -- the list of no event, and of one more in front
@@ -34,19 +34,8 @@ records_push directed events e =
 
 -- the list with one more event at the end: its records come first
 list_push : (directed : Bool) (k : ℕ) (events : List Event) (e : Event) (v : ℕ) → list_from directed k (events ++ e ∷ []) v ≡ links_at v (k + length (all_records directed events)) (records_of directed e) ++ list_from directed k events v
-list_push directed k [] e v =
-    let new = links_at v k (records_of directed e) in
-    list_first directed k e [] v
-    ∙ (ap (λ ls. ls ++ new) (list_none directed (k + length (records_of directed e)) v)
-    ∙ sym (ap (λ ls. links_at v (k + 0) (records_of directed e) ++ ls) (list_none directed k v) ∙ (append-nil (links_at v (k + 0) (records_of directed e)) ∙ ap (λ (j : ℕ). links_at v j (records_of directed e)) (omega arith))))
-list_push directed k (x ∷ events) e v =
-    let own = records_of directed x in
-    let from = k + length own in
-    let place : from + length (all_records directed events) ≡ k + length (own ++ all_records directed events) = omega (arith, length-append own (all_records directed events)) in
-    list_first directed k x (events ++ e ∷ []) v
-    ∙ (ap (λ ls. ls ++ links_at v k own) (list_push directed from events e v ∙ ap (λ j. links_at v j (records_of directed e) ++ list_from directed from events v) place)
-    ∙ (append_assoc (links_at v (k + length (own ++ all_records directed events)) (records_of directed e)) (list_from directed from events v) (links_at v k own)
-    ∙ ap (λ ls. links_at v (k + length (own ++ all_records directed events)) (records_of directed e) ++ ls) (sym (list_first directed k x events v))))
+list_push directed k [] e v = grind (arith, list_first, list_none, append-nil)
+list_push directed k (x ∷ events) e v = grind (arith, length-append, list_first, append_assoc, list_push directed (k + length (records_of directed x)) events e v)
 
 -- the records of an event come after those of the graph, and in front of the lists
 record AddsRecords (directed : Bool) (old new : GraphData) (e : Event) : Type 0 where
@@ -60,29 +49,17 @@ record AddsRecords (directed : Bool) (old new : GraphData) (e : Event) : Type 0 
 
 -- then the graph has the arcs of that event too
 records_added : (directed : Bool) (events : List Event) (e : Event) (old new : GraphData) → HasArcsOf directed events old → AddsRecords directed old new e → HasArcsOf directed (events ++ e ∷ []) new
-records_added directed events e old new has adds = record {
-  count = adds.count ∙ sym (ap length more ∙ (length-append records own ∙ ap (λ j. j + length own) (sym has.count)));
-  tips = adds.tips ∙ (ap (λ ts. ts ++ map (λ (r : Record). At r.tip) own) has.tips ∙ sym (ap (map (λ (r : Record). At r.tip)) more ∙ map-append (λ (r : Record). At r.tip) records own));
-  lengths = adds.lengths ∙ (ap (λ ls. ls ++ map (λ (r : Record). r.len) own) has.lengths ∙ sym (ap (map (λ (r : Record). r.len)) more ∙ map-append (λ (r : Record). r.len) records own));
-  lists = λ v below. adds.lists v
-      ∙ (ap (λ ls. links_at v (length old.records) own ++ ls) (has.lists v (omega (arith, adds.size)))
-      ∙ (ap (λ j. links_at v j own ++ list_of directed events v) place ∙ sym (list_push directed 0 events e v)));
-  within = subst (λ n. All (HasEndsBelow n) (events ++ e ∷ [])) (sym adds.size)
-      (All-append (HasEndsBelow (length old.vertices)) events (e ∷ []) has.within (All-cons (HasEndsBelow (length old.vertices)) e [] adds.within (All-nil (HasEndsBelow (length old.vertices)))));
-  ends = adds.ends;
-}
-  where
-    records : List Record
-    records = all_records directed events
-
-    own : List Record
-    own = records_of directed e
-
-    more : all_records directed (events ++ e ∷ []) ≡ records ++ own
-    more = records_push directed events e
-
-    place : length old.records ≡ 0 + length records
-    place = omega (arith, ap length has.tips, length-map old.records (λ r. r.tip), length-map records (λ r. At r.tip))
+records_added directed events e old new has adds =
+    let more = records_push directed events e in
+    let place : length old.records ≡ 0 + length (all_records directed events) = omega (arith, ap length has.tips, length-map old.records (λ r. r.tip), length-map (all_records directed events) (λ r. At r.tip)) in
+    record {
+      count = grind (arith, length-append, more);
+      tips = grind (arith, map-append, more);
+      lengths = grind (arith, map-append, more);
+      lists = λ v below. grind (arith, list_push, place);
+      within = rw adds.size (All-append (HasEndsBelow (length old.vertices)) events (e ∷ []) has.within (All-cons (HasEndsBelow (length old.vertices)) e [] adds.within (All-nil (HasEndsBelow (length old.vertices)))));
+      ends = adds.ends;
+    }
 
 -- a new graph has no arcs
 pub new_has_none : (directed : Bool) (names : List (List ℕ)) → HasArcsOf directed [] (new_graph names)
@@ -91,21 +68,13 @@ new_has_none directed names = record {
   count = refl;
   tips = refl;
   lengths = refl;
-  lists = λ v below. none_at v;
+  lists = λ v below. rw (slice_get-map new_vertex names v) (none_at (slice_get names v));
   within = All-nil (HasEndsBelow (length (map new_vertex names)));
-  ends = All-map (λ (x : Vertex). ends_of [] x.arcs ≡ true) new_vertex names (none_ends names);
+  ends = All-map (λ (x : Vertex). ends_of [] x.arcs ≡ true) new_vertex names (λ k d h. ends_none 0 []);
 }
   where
-    none_ends : (texts : List (List ℕ)) → All (λ (text : List ℕ). ends_of [] None ≡ true) texts
-    none_ends [] = All-nil (λ (text : List ℕ). ends_of [] None ≡ true)
-    none_ends (t ∷ texts) = All-cons (λ (text : List ℕ). ends_of [] None ≡ true) t texts (ends_none 0 []) (none_ends texts)
-
-    by_name : (o : Option (List ℕ)) → option_map_or (λ (x : Vertex). links_of [] x.arcs) (option_map new_vertex o) [] ≡ []
-    by_name None = refl
-    by_name (Some text) = links_of_none []
-
-    none_at : (v : ℕ) → chain_of (new_graph names) v ≡ []
-    none_at v = ap (λ o. option_map_or (λ (x : Vertex). links_of [] x.arcs) o []) (slice_get-map new_vertex names v) ∙ by_name (slice_get names v)
+    none_at : (o : Option (List ℕ)) → option_map_or (λ (x : Vertex). links_of [] x.arcs) (option_map new_vertex o) [] ≡ []
+    none_at o = grind (arith, links_of_none)
 
 -- what the record of an arc from u to v says
 abbrev pub record_from : ℕ → ℕ → ℤ → Record
@@ -119,40 +88,19 @@ link_here w k r records same = rw (eq-eqb r.start w (sym same)) refl
 pub no_link_here : (w k : ℕ) (r : Record) (records : List Record) → w ≢ r.start → links_at w k (r ∷ records) ≡ links_at w (k + 1) records
 no_link_here w k r records other = rw (ne_eqb r.start w (λ e. other (sym e))) refl
 
--- the lists of vertices u and v, and of others, with two records in front
-two_here : (k u : ℕ) (far : ℤ) → links_at u k (record_from u u far ∷ record_from u u far ∷ []) ≡ link k u far ∷ link (k + 1) u far ∷ []
-two_here k u far = link_here u k (record_from u u far) (record_from u u far ∷ []) refl ∙ ap (λ ls. link k u far ∷ ls) (link_here u (k + 1) (record_from u u far) [] refl)
-
--- at the first of two ends
-first_here : (k u v : ℕ) (far : ℤ) → u ≢ v → links_at u k (record_from u v far ∷ record_from v u far ∷ []) ≡ link k v far ∷ []
-first_here k u v far other = link_here u k (record_from u v far) (record_from v u far ∷ []) refl ∙ ap (λ ls. link k v far ∷ ls) (no_link_here u (k + 1) (record_from v u far) [] other)
-
--- at the second
-second_here : (k u v : ℕ) (far : ℤ) → v ≢ u → links_at v k (record_from u v far ∷ record_from v u far ∷ []) ≡ link (k + 1) u far ∷ []
-second_here k u v far other = no_link_here v k (record_from u v far) (record_from v u far ∷ []) other ∙ link_here v (k + 1) (record_from v u far) [] refl
-
--- at neither
-neither_here : (k u v w : ℕ) (far : ℤ) → w ≢ u → w ≢ v → links_at w k (record_from u v far ∷ record_from v u far ∷ []) ≡ []
-neither_here k u v w far not_u not_v = no_link_here w k (record_from u v far) (record_from v u far ∷ []) not_u ∙ no_link_here w (k + 1) (record_from v u far) [] not_v
-
 -- a new arc adds the record of its event
 arc_adds : (g : GraphData) (e : Event) → ListsEnd g → HasEndsBelow (length g.vertices) e → AddsRecords true g (with_event true g e) e
-arc_adds g e all below = record {
-  count = refl;
-  tips = map-append (λ r. r.tip) g.records _;
-  lengths = map-append (λ r. r.len) g.records _;
-  lists = λ w. at_vertex w (cases_eq w e.from);
-  within = below;
-  ends = has.ends;
-  size = (arc_keeps g e.from e.to e.len).size;
-}
-  where
-    has : HasArcPut g e.from e.to e.len
-    has = arc_put g e.from e.to e.len all below.0
-
-    at_vertex : (w : ℕ) → (w ≡ e.from) ⊎ (w ≡ e.from → ⊥) → chain_of (with_event true g e) w ≡ links_at w (length g.records) (records_of true e) ++ chain_of g w
-    at_vertex w (inl here) = rw here (has.chain ∙ sym (ap (λ ls. ls ++ chain_of g e.from) (link_here e.from (length g.records) (record_from e.from e.to e.len) [] refl)))
-    at_vertex w (inr other) = has.others w other ∙ sym (ap (λ ls. ls ++ chain_of g w) (no_link_here w (length g.records) (record_from e.from e.to e.len) [] other))
+arc_adds g e all below =
+    let has = arc_put g e.from e.to e.len all below.0 in
+    record {
+      count = refl;
+      tips = map-append (λ r. r.tip) g.records _;
+      lengths = map-append (λ r. r.len) g.records _;
+      lists = λ w. grind (arith, cases_eq, has, link_here, no_link_here);
+      within = below;
+      ends = has.ends;
+      size = (arc_keeps g e.from e.to e.len).size;
+    }
 
 -- a new edge adds the two records of its event
 edge_adds : (g : GraphData) (e : Event) → ListsEnd g → HasEndsBelow (length g.vertices) e → AddsRecords false g (with_event false g e) e
@@ -170,19 +118,7 @@ edge_adds g e all below = record {
     has = edge_put g e.from e.to e.len all below.0 below.1
 
     at_vertex : (w : ℕ) → (w ≡ min e.from e.to) ⊎ (w ≡ min e.from e.to → ⊥) → (w ≡ max e.from e.to) ⊎ (w ≡ max e.from e.to → ⊥) → chain_of (with_event false g e) w ≡ links_at w (length g.records) (records_of false e) ++ chain_of g w
-    at_vertex w (inl is_low) (inl is_high) =
-        let same : e.from ≡ e.to = omega arith in
-        let here : w ≡ e.from = omega arith in
-        let least : min e.from e.to ≡ e.from = omega arith in
-        let most : max e.from e.to ≡ e.from = omega arith in
-        ap (chain_of (with_event false g e)) here ∙ has.loop same ∙ rw (here, least, most) (sym (ap (λ ls. ls ++ chain_of g e.from) (two_here (length g.records) e.from e.len)))
-    at_vertex w (inl is_low) (inr not_high) =
-        rw is_low (has.smaller (λ same. omega arith) ∙ sym (ap (λ ls. ls ++ chain_of g (min e.from e.to)) (first_here (length g.records) (min e.from e.to) (max e.from e.to) e.len (λ same. omega arith))))
-    at_vertex w (inr not_low) (inl is_high) =
-        rw is_high (has.greater (λ same. omega arith) ∙ sym (ap (λ ls. ls ++ chain_of g (max e.from e.to)) (second_here (length g.records) (min e.from e.to) (max e.from e.to) e.len (λ same. omega arith))))
-    at_vertex w (inr not_low) (inr not_high) =
-        has.others w (λ same. omega arith) (λ same. omega arith)
-        ∙ sym (ap (λ ls. ls ++ chain_of g w) (neither_here (length g.records) (min e.from e.to) (max e.from e.to) w e.len not_low not_high))
+    at_vertex w h k = grind (arith, min, max, has, link_here, no_link_here)
 
 -- so does one event more
 event_adds : (directed : Bool) (g : GraphData) (e : Event) → ListsEnd g → HasEndsBelow (length g.vertices) e → AddsRecords directed g (with_event directed g e) e
@@ -201,9 +137,7 @@ event_keeps false g e = edge_keeps g e.from e.to e.len
 -- all events, one by one
 events_more : (directed : Bool) (done events : List Event) (g : GraphData) → HasArcsOf directed done g → All (HasEndsBelow (length g.vertices)) events → HasArcsOf directed (done ++ events) (with_events directed g events)
 events_more directed done [] g has below = rw (append-nil done) has
-events_more directed done (e ∷ events) g has below =
-    rw (← append_assoc done (e ∷ []) events) (events_more directed (done ++ e ∷ []) events (with_event directed g e) (event_more directed done e g has (below 0 e (omega arith)))
-    (subst (λ n. All (HasEndsBelow n) events) (sym (event_keeps directed g e).size) (All-tail (HasEndsBelow (length g.vertices)) e events below)))
+events_more directed done (e ∷ events) g has below = grind (arith, append_assoc, event_more, event_keeps, All-tail, events_more directed (done ++ e ∷ []) events (with_event directed g e) (event_more directed done e g has (below 0 e (omega arith))) (subst (λ n. All (HasEndsBelow n) events) (sym (event_keeps directed g e).size) (All-tail (HasEndsBelow (length g.vertices)) e events below)))
 
 -- from a new graph on
 pub events_made : (directed : Bool) (names : List (List ℕ)) (events : List Event) → All (HasEndsBelow (length names)) events → HasArcsOf directed events (with_events directed (new_graph names) events)

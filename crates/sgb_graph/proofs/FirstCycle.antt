@@ -1,5 +1,5 @@
 -- The first cycle of random numbers, made of the numbers of Y.
-use Rattle.std.proofs.Common.{◌≡◌, ℕ, suc, ◌+◌, ◌-◌, ◌*◌, ◌/◌, ◌%◌, ◌^◌, ◌<◌, ◌≢◌, List, replicate, get_or, set, true, refl, ap, sym, ◌∙◌, subst, inl, inr, arith, get_or-set_same, get_or-set_other}
+use Rattle.std.proofs.Common.{◌≡◌, ℕ, suc, ◌+◌, ◌-◌, ◌*◌, ◌/◌, ◌%◌, ◌^◌, ◌<◌, List, replicate, get_or, set, true, refl, ap, sym, ◌∙◌, subst, inl, inr, arith, get_or-set_same, get_or-set_other}
 use Rattle.std.specs.Prelude.{◌==◌}
 use Rattle.std.specs.List.{list_all, range_with_len}
 use Rattle.std.proofs.lemmas.Bool.{cases_lt}
@@ -12,16 +12,6 @@ use Rattle.sgb_graph.specs.Draws.{modulus, difference, rotated, first_x, y_numbe
 use Rattle.sgb_graph.specs.inner.Flips.{IsCycle, IsFirstCycle, rotated_once}
 use Rattle.sgb_graph.proofs.TestLemmas.{at_each_below}
 use Rattle.sgb_graph.proofs.Cycles.{difference_below, cycle_with}
-
--- Y(0) is the seed
-pub y_first : (seed : ℕ) → y_number seed 0 ≡ seed
-unfolding y_number
-y_first seed = refl
-
--- Y(1) is 1
-pub y_second : (seed : ℕ) → y_number seed 1 ≡ 1
-unfolding y_number
-y_second seed = refl
 
 -- each later one, by two steps
 y_by_two : (seed k : ℕ) → y_number seed (suc (suc k)) ≡ difference (difference (y_number seed k) (y_number seed (suc k))) (rotated seed (k + 1))
@@ -41,8 +31,7 @@ rotated_once_below n small = omega arith
 turned_once : (s p q : ℕ) → 0 < p → p * q ≡ 2 ^ 30 → s / (2 * p) + s % (2 * p) * q ≡ rotated_once (s / p + s % p * (2 * q))
 turned_once s p q some whole =
     let high : s / (2 * p) ≡ s / p / 2 = ap (λ (d : ℕ). s / d) (omega arith) ∙ sym (div-div-eq-div-mul s p 2) in
-    let two : 0 < 2 = omega arith in
-    let low : s % (2 * p) ≡ s / p % 2 * p + s % p = mod-mul s two some in
+    let low : s % (2 * p) ≡ s / p % 2 * p + s % p = mod-mul s (omega arith) some in
     rw (high, low) (omega (arith, ap (λ d. s / p % 2 * d) whole))
 
 -- rotated once more
@@ -106,16 +95,8 @@ zeros_are_cycle = record { many = refl; below = λ i inside. rw (get_or-replicat
 
 -- at the start
 pub filling_none : (seed : ℕ) → seed < modulus → IsFilling seed (replicate 55 0) seed 1 seed 0
-filling_none seed small = record {
-  cycle = zeros_are_cycle;
-  number_small = small;
-  next_small = omega arith;
-  turned_small = small;
-  number_is = sym (y_first seed);
-  next_is = sym (y_second seed);
-  turned_is = omega arith;
-  filled = λ i inside before. absurd (omega arith);
-}
+unfolding y_number
+filling_none seed small = grind (arith, zeros_are_cycle)
 
 -- one number more
 filling_more : (seed : ℕ) (numbers : List ℕ) (number next turned k : ℕ) → seed < modulus → k < 55 → IsFilling seed numbers number next turned k
@@ -133,14 +114,8 @@ filling_more seed numbers number next turned k small inside is =
       next_is = rw (is.number_is, is.next_is, turned_more) (sym (y_later seed k) ∙ ap (y_number seed) (omega arith));
       turned_is = turned_more;
       filled = λ i within before. elim (cases_lt (21 * (i + 1) % 55) k) [
-        | inl earlier ↦
-            let apart : i ≢ place_of k = λ same. let at = ap (λ p. 21 * (p + 1) % 55) same in omega arith in
-            get_or-set_other numbers (place_of k) i number 0 apart ∙ is.filled i within earlier
-        | inr at ↦
-            let same : 21 * (i + 1) % 55 ≡ k = omega arith in
-            let place : place_of k ≡ i = ap place_of (sym same) ∙ place_back i within in
-            ap (λ p. get_or (set numbers (place_of k) number) p 0) (sym place)
-            ∙ (here ∙ (is.number_is ∙ ap (y_number seed) (sym same)))
+        | inl earlier ↦ grind (arith, get_or-set_other)
+        | inr at ↦ grind (arith, place_back, set)
       ];
     }
 
@@ -153,7 +128,4 @@ filling_at seed numbers number next turned k p small inside is place =
 
 -- in the end the whole cycle
 pub filling_all : (seed : ℕ) (numbers : List ℕ) (number next turned : ℕ) → IsFilling seed numbers number next turned 55 → IsFirstCycle seed numbers
-filling_all seed numbers number next turned is = record {
-  cycle = is.cycle;
-  value = λ i inside. is.filled i inside (omega arith);
-}
+filling_all seed numbers number next turned is = grind (arith)

@@ -1,5 +1,5 @@
 -- Vertices and records fit where their columns do.
-use Rattle.std.proofs.Common.{rules, ◌≡◌, ◌&&◌, ℕ, zero, suc, Bool, true, false, List, [], ◌∷◌, length, map, replicate, refl, ap, sym, ◌∙◌, arith}
+use Rattle.std.proofs.Common.{rules, ◌≡◌, ◌&&◌, ℕ, zero, suc, Bool, true, List, [], ◌∷◌, length, map, replicate, refl, ap, sym, ◌∙◌, arith}
 use Rattle.std.specs.List.{list_all}
 use Rattle.std.proofs.lemmas.List.{length-map}
 use Rattle.std.proofs.lemmas.List.Folds.{list_all-map}
@@ -31,40 +31,21 @@ empty_fits : (n m k : ℕ) → list_all (utils_fit n m []) (replicate k []) ≡ 
 empty_fits n m zero = refl
 empty_fits n m (suc k) = empty_fits n m k
 
--- four tests, in another order
-and_crossed : (a b c d : Bool) → ((a && b) && (c && d)) ≡ ((a && c) && (b && d))
-and_crossed true true c d = refl
-and_crossed true false true d = refl
-and_crossed true false false d = refl
-and_crossed false b c d = refl
-
 -- six of them
 three_crossed : (a b c p x y : Bool) → ((a && (b && (c && true))) && ((p && x) && y)) ≡ (((a && p) && (b && x)) && (c && y))
-three_crossed true true true p x y = refl
-three_crossed true true false true true y = refl
-three_crossed true true false true false y = refl
-three_crossed true true false false x y = refl
-three_crossed true false c true x y = refl
-three_crossed true false c false x y = refl
-three_crossed false b c p x y = refl
+three_crossed a b c p x y = grind (arith)
 
 -- what is made of two lists passes where the elements of both do
 list_all-combined : {X Y Z : Type 0} (f : X → Y → Z) (h : Z → Bool) (p : X → Bool) (q : Y → Bool) (xs : List X) (ys : List Y) → ((x : X) (y : Y) → h (f x y) ≡ (p x && q y)) → length xs ≡ length ys
     → list_all h (combined f xs ys) ≡ (list_all p xs && list_all q ys)
 list_all-combined f h p q [] [] each e = refl
-list_all-combined f h p q (x ∷ xs) (y ∷ ys) each e =
-    ap (λ b. b && list_all h (combined f xs ys)) (each x y)
-    ∙ (ap (λ b. (p x && q y) && b) (list_all-combined f h p q xs ys each (omega (arith, e)))
-    ∙ and_crossed (p x) (q y) (list_all p xs) (list_all q ys))
+list_all-combined f h p q (x ∷ xs) (y ∷ ys) each e = grind (arith, list_all-combined f h p q xs ys each (omega (arith, e)))
 list_all-combined f h p q _ _ each e = absurd (omega (arith, e))
 
 -- the rows of a table fit where its columns do
 rows_fit : (n m k : ℕ) (kinds : List Kind) (columns : List (List Util)) → AreColumns k columns → length kinds ≡ length columns → list_all (utils_fit n m kinds) (rows k columns) ≡ columns_fit n m kinds columns
 rows_fit n m k [] [] whole e = empty_fits n m k
-rows_fit n m k (kind ∷ kinds) (column ∷ columns) whole e =
-    list_all-combined (λ (x : Util) row. x ∷ row) (utils_fit n m (kind ∷ kinds)) (util_fits n m kind) (utils_fit n m kinds) column (rows k columns) (λ x row. refl)
-    (whole.0 ∙ sym (length-rows k columns whole.1))
-    ∙ ap (λ b. list_all (util_fits n m kind) column && b) (rows_fit n m k kinds columns whole.1 (omega (arith, e)))
+rows_fit n m k (kind ∷ kinds) (column ∷ columns) whole e = grind (arith, list_all-combined, length-rows, rows_fit n m k kinds columns whole.1 (omega (arith, e)))
 rows_fit n m k _ _ whole e = absurd (omega (arith, e))
 
 -- so do the vertices that are kept
@@ -72,10 +53,9 @@ items_fit : (n m : ℕ) (ps : List PlainVertex) (f : Fields) → AreKept ps f
     → list_all (vertex_fits_by n m (field_kinds f)) (kept_items ps f) ≡ (list_all (λ p. chain_fits m (kept_number p.arcs)) ps && columns_fit n m (field_kinds f) (field_columns ps f))
 items_fit n m ps f kept =
     let table = rows (length ps) (field_columns ps f) in
-    list_all-combined (λ (x : Vertex) fields. record x { util = fields }) (vertex_fits_by n m (field_kinds f)) (λ (x : Vertex). chain_fits m x.arcs) (utils_fit n m (field_kinds f)) (map bare_vertex ps) table (λ x row. refl)
-    (length-map ps bare_vertex ∙ sym (length-rows (length ps) (field_columns ps f) kept))
-    ∙ (ap (λ b. b && list_all (utils_fit n m (field_kinds f)) table) (list_all-map (λ (x : Vertex). chain_fits m x.arcs) bare_vertex ps)
-    ∙ ap (λ b. list_all (λ p. chain_fits m (kept_number p.arcs)) ps && b) (rows_fit n m (length ps) (field_kinds f) (field_columns ps f) kept refl))
+    let long = length-map ps bare_vertex ∙ sym (length-rows (length ps) (field_columns ps f) kept) in
+    rw (← list_all-map (λ (x : Vertex). chain_fits m x.arcs) bare_vertex ps, ← rows_fit n m (length ps) (field_kinds f) (field_columns ps f) kept refl)
+    (list_all-combined (λ (x : Vertex) fields. record x { util = fields }) (vertex_fits_by n m (field_kinds f)) (λ (x : Vertex). chain_fits m x.arcs) (utils_fit n m (field_kinds f)) (map bare_vertex ps) table (λ x row. refl) long)
 
 -- as they are seen
 pub vertices_fit_by : (m : ℕ) (ps : List PlainVertex) (f : Fields) (seen : KeptVertices) → AreKept ps f → kept_vertices ps f ≡ seen
@@ -89,12 +69,8 @@ vertices_fit_by m ps f seen kept view =
 records_fit : (n m : ℕ) (ps : List PlainRecord) (xs ys : List Util) (a b : Kind) → length xs ≡ length ps → length ys ≡ length ps
     → list_all (record_fits_by n m (a ∷ b ∷ [])) (records_with ps xs ys) ≡ (list_all (plain_fits n m) ps && list_all (util_fits n m a) xs && list_all (util_fits n m b) ys)
 records_fit n m [] [] [] a b hx hy = refl
-records_fit n m [] [] (y ∷ ys) a b hx hy = absurd (omega (arith, hy))
-records_fit n m (p ∷ ps) (x ∷ xs) [] a b hx hy = absurd (omega (arith, hy))
-records_fit n m (p ∷ ps) (x ∷ xs) (y ∷ ys) a b hx hy =
-    ap (λ t. (plain_fits n m p && (util_fits n m a x && (util_fits n m b y && true))) && t) (records_fit n m ps xs ys a b (omega (arith, hx)) (omega (arith, hy)))
-    ∙ three_crossed (plain_fits n m p) (util_fits n m a x) (util_fits n m b y) (list_all (plain_fits n m) ps) (list_all (util_fits n m a) xs) (list_all (util_fits n m b) ys)
-records_fit n m _ _ ys a b hx hy = absurd (omega (arith, hx))
+records_fit n m (p ∷ ps) (x ∷ xs) (y ∷ ys) a b hx hy = simp (three_crossed, records_fit n m ps xs ys a b (omega (arith, hx)) (omega (arith, hy)))
+records_fit n m _ _ _ a b hx hy = absurd (omega (arith, hx, hy))
 
 -- as they are seen
 pub records_fit_by : (n m : ℕ) (ps : List PlainRecord) (a b : Column) (seen : KeptRecords) → m ≡ length ps → HoldsMany (length ps) a → HoldsMany (length ps) b → kept_records ps a b ≡ seen

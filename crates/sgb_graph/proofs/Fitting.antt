@@ -1,13 +1,10 @@
 -- Values that fit a graph fit one with more vertices and records.
-use Rattle.std.proofs.Common.{◌≡◌, ◌≤◌, ℕ, Bool, true, ◌&&◌, List, [], ◌∷◌, Option, Some, None, refl, arith}
+use Rattle.std.proofs.Common.{◌≡◌, ◌≤◌, ℕ, Bool, true, ◌&&◌, List, [], ◌∷◌, Option, refl, arith, rules}
 use Rattle.std.proofs.lemmas.Bool.{and_parts, and_from, ltb-true, lt-ltb}
 use Rattle.sgb_graph.specs.Sound.{vertex_kinds, arc_kinds, ref_fits, chain_fits, util_fits, utils_fit}
 use Rattle.sgb_graph.specs.declared.fields.Kind.{Kind}
-use Rattle.sgb_graph.specs.declared.fields.Kind.TheVariants.{V, A}
 use Rattle.sgb_graph.specs.declared.fields.Ref.{Ref}
-use Rattle.sgb_graph.specs.declared.fields.Ref.TheVariants.{At}
 use Rattle.sgb_graph.specs.declared.fields.Util.{Util}
-use Rattle.sgb_graph.specs.declared.fields.Util.TheVariants.{Vertex as VertexField, Chain}
 use Rattle.sgb_graph.specs.declared.fields.Vertex.{Vertex}
 use Rattle.sgb_graph.specs.declared.fields.ArcRec.{ArcRec}
 
@@ -21,26 +18,20 @@ record_fits_in n m kinds r = ref_fits n r.tip && chain_fits m r.next && utils_fi
 
 -- the vertex that a value names
 ref_fits_more : (n more : ℕ) (r : Ref) → n ≤ more → ref_fits n r ≡ true → ref_fits more r ≡ true
-ref_fits_more n more (At v) le e = lt-ltb v more (omega (arith, ltb-true v n e))
-ref_fits_more n more _ le e = refl
+ref_fits_more n more r le e = grind (arith, lt-ltb, ltb-true)
 
 -- the first record of a chain
 pub chain_fits_more : (m more : ℕ) (first : Option ℕ) → m ≤ more → chain_fits m first ≡ true → chain_fits more first ≡ true
-chain_fits_more m more None le e = refl
-chain_fits_more m more (Some k) le e = lt-ltb k more (omega (arith, ltb-true k m e))
+chain_fits_more m more first le e = grind (arith, lt-ltb, ltb-true)
 
 -- a utility field
 util_fits_more : (n m a b : ℕ) (kind : Kind) (util : Util) → n ≤ a → m ≤ b → util_fits n m kind util ≡ true → util_fits a b kind util ≡ true
-util_fits_more n m a b V (VertexField r) ln lm e = ref_fits_more n a r ln e
-util_fits_more n m a b A (Chain first) ln lm e = chain_fits_more m b first lm e
-util_fits_more n m a b _ _ ln lm e = e
+util_fits_more n m a b kind util ln lm e = grind (arith, ref_fits_more, chain_fits_more)
 
 -- utility fields
 utils_fit_in_more : (n m a b : ℕ) (kinds : List Kind) (utils : List Util) → n ≤ a → m ≤ b → utils_fit n m kinds utils ≡ true → utils_fit a b kinds utils ≡ true
 utils_fit_in_more n m a b [] [] ln lm e = refl
-utils_fit_in_more n m a b (kind ∷ kinds) (util ∷ utils) ln lm e =
-    let parts = and_parts (util_fits n m kind util) (utils_fit n m kinds utils) e in
-    and_from (util_fits a b kind util) (utils_fit a b kinds utils) (util_fits_more n m a b kind util ln lm parts.0) (utils_fit_in_more n m a b kinds utils ln lm parts.1)
+utils_fit_in_more n m a b (kind ∷ kinds) (util ∷ utils) ln lm e = grind (arith, and_parts, and_from, util_fits_more, utils_fit_in_more n m a b kinds utils ln lm (and_parts (util_fits n m kind util) (utils_fit n m kinds utils) e).1)
 utils_fit_in_more n m a b _ _ ln lm e = e
 
 -- a vertex
@@ -54,9 +45,7 @@ pub record_fits_in_more : (n m a b : ℕ) (kinds : List Kind) (r : ArcRec) → n
 record_fits_in_more n m a b kinds r ln lm e =
     let parts = and_parts (ref_fits n r.tip && chain_fits m r.next) (utils_fit n m (arc_kinds kinds) (r.a ∷ r.b ∷ [])) e in
     let ends = and_parts (ref_fits n r.tip) (chain_fits m r.next) parts.0 in
-    and_from (ref_fits a r.tip && chain_fits b r.next) (utils_fit a b (arc_kinds kinds) (r.a ∷ r.b ∷ []))
-    (and_from (ref_fits a r.tip) (chain_fits b r.next) (ref_fits_more n a r.tip ln ends.0) (chain_fits_more m b r.next lm ends.1))
-    (utils_fit_in_more n m a b (arc_kinds kinds) (r.a ∷ r.b ∷ []) ln lm parts.1)
+    search (rules, and_from, ref_fits_more, chain_fits_more, utils_fit_in_more, ref_fits, chain_fits, utils_fit, arc_kinds, parts, ends)
 
 -- they stay where there are more records alone
 pub utils_fit_more : (n m more : ℕ) (kinds : List Kind) (utils : List Util) → m ≤ more → utils_fit n m kinds utils ≡ true → utils_fit n more kinds utils ≡ true

@@ -1,5 +1,5 @@
 -- A graph with more records at the end is one, and one whose lists end keeps the chains that stay.
-use Rattle.std.proofs.Common.{◌≡◌, ◌≤◌, ◌<◌, ℕ, Bool, true, ◌&&◌, List, [], ◌++◌, length, Option, Some, None, refl, ap, ◌∙◌, inl, inr, arith}
+use Rattle.std.proofs.Common.{◌≡◌, ◌≤◌, ◌<◌, ℕ, Bool, true, ◌&&◌, List, [], ◌++◌, length, Option, Some, None, ap, ◌∙◌, inl, inr, arith, rules}
 use Rattle.std.specs.Prelude.{slice_get, nat_le}
 use Rattle.std.specs.Option.{option_map_or}
 use Rattle.std.specs.List.{list_all}
@@ -9,7 +9,7 @@ use Rattle.std.proofs.lemmas.List.Folds.{list_all-append}
 use Rattle.std.proofs.lemmas.List.Sums.{AllPass-from_list_all, list_all-from_AllPass}
 use Rattle.sgb_vec.specs.Limits.{most_vertices}
 use Rattle.sgb_graph.specs.Graphs.{GraphData, ListsEnd, ends_of, links_of, chain_of}
-use Rattle.sgb_graph.specs.Sound.{IsGraph, arc_kinds, chains_end, vertex_kinds, graph_kinds, chain_fits, utils_fit, lists_lead_to_vertices, vertex_fits, record_fits}
+use Rattle.sgb_graph.specs.Sound.{IsGraph, arc_kinds, chains_end, vertex_kinds, graph_kinds, chain_fits, utils_fit, lists_lead_to_vertices}
 use Rattle.sgb_graph.specs.Growth.{IsKept, graph_data}
 use Rattle.sgb_graph.specs.declared.fields.Kind.{Kind}
 use Rattle.sgb_graph.specs.declared.fields.Util.{Util}
@@ -31,20 +31,11 @@ pub record HasParts (g : GraphData) : Type 0 where
 
 -- the parts of a graph
 pub parts_of : (g : GraphData) → IsGraph g → HasParts g
-parts_of g is =
-    let fit = and_parts (utils_fit (length g.vertices) (length g.records) (graph_kinds g.kinds) g.util && list_all (vertex_fits g) g.vertices) (list_all (record_fits g) g.records) is.fields in
-    let own = and_parts (utils_fit (length g.vertices) (length g.records) (graph_kinds g.kinds) g.util) (list_all (vertex_fits g) g.vertices) fit.0 in
-    let sound = and_parts (chains_end g.records) (lists_lead_to_vertices g.vertices g.records) is.lists in
-    record { few = is.vertices_fit; util = own.0; vertices = own.1; records = fit.1; ends = sound.0; leads = sound.1 }
+parts_of g is = grind (arith, and_parts)
 
 -- what has the parts is a graph
 pub graph_from_parts : (g : GraphData) → HasParts g → IsGraph g
-graph_from_parts g has = record {
-  vertices_fit = has.few;
-  fields = and_from (utils_fit (length g.vertices) (length g.records) (graph_kinds g.kinds) g.util && list_all (vertex_fits g) g.vertices) (list_all (record_fits g) g.records)
-      (and_from (utils_fit (length g.vertices) (length g.records) (graph_kinds g.kinds) g.util) (list_all (vertex_fits g) g.vertices) has.util has.vertices) has.records;
-  lists = and_from (chains_end g.records) (lists_lead_to_vertices g.vertices g.records) has.ends has.leads;
-}
+graph_from_parts g has = grind (arith, and_from)
 
 -- the way from a record, or from none, ends
 pub first_ends : (records : List ArcRec) (first : Option ℕ) → chains_end records ≡ true → chain_fits (length records) first ≡ true → ends_of records first ≡ true
@@ -66,16 +57,11 @@ good_more n kinds records more x ends good =
     let longer : length records ≤ length (records ++ more) = omega (arith, length-append records more) in
     let parts = and_parts (vertex_fits_in n (length records) kinds x) (lead_within (length records) records x.arcs) good in
     let start = and_parts (chain_fits (length records) x.arcs) (utils_fit n (length records) (vertex_kinds kinds) x.util) parts.0 in
-    let way = first_ends records x.arcs ends start.0 in
-    and_from (vertex_fits_in n (length (records ++ more)) kinds x) (lead_within (length (records ++ more)) (records ++ more) x.arcs)
-    (vertex_fits_more n (length records) (length (records ++ more)) kinds x longer parts.0)
-    (leads_kept (length (records ++ more)) records more x.arcs longer way parts.1)
+    search (rules, first_ends, and_from, vertex_fits_in, lead_within, vertex_fits_more, leads_kept, longer, parts, start)
 
 -- so all stay good
 pub all_good_more : (g : GraphData) (more : List ArcRec) → HasParts g → list_all (is_good (length g.vertices) g.kinds (g.records ++ more)) g.vertices ≡ true
-all_good_more g more has =
-    list_all-weaker (is_good (length g.vertices) g.kinds g.records) (is_good (length g.vertices) g.kinds (g.records ++ more)) g.vertices
-    (λ x good. good_more (length g.vertices) g.kinds g.records more x has.ends good) (all_good g has)
+all_good_more g more has = search (rules, list_all-weaker, is_good, good_more, all_good)
 
 -- the graph with other vertices, more records and another count
 abbrev pub grown : GraphData → ℕ → List Vertex → List ArcRec → GraphData
@@ -111,28 +97,11 @@ grown_is_graph g count vertices more has same good new =
 pub refilled : (g : GraphData) (kinds : List Kind) (own : List Util) (vertices : List Vertex) → IsKept g → length vertices ≡ length g.vertices → arc_kinds kinds ≡ arc_kinds g.kinds
     → utils_fit (length g.vertices) (length g.records) (graph_kinds kinds) own ≡ true → list_all (vertex_fits_in (length g.vertices) (length g.records) kinds) vertices ≡ true → lists_lead_to_vertices vertices g.records ≡ true
     → IsKept (record g { kinds = kinds; util = own; vertices = vertices })
-refilled g kinds own vertices kept same arcs fits all leads =
-    let has = parts_of g kept.graph in
-    let n = length g.vertices in
-    let m = length g.records in
-    record {
-      graph = graph_from_parts (record g { kinds = kinds; util = own; vertices = vertices }) (record {
-        few = rw same has.few;
-        util = rw same fits;
-        vertices = rw same all;
-        records = rw same (list_all-weaker (record_fits_in n m g.kinds) (record_fits_in n m kinds) g.records (λ r h. rw arcs h) has.records);
-        ends = has.ends;
-        leads = leads;
-      });
-      count = kept.count;
-    }
+refilled g kinds own vertices kept same arcs fits all leads = grind (arith, parts_of, graph_from_parts, list_all-weaker, record_fits_in)
 
 -- the list of each vertex of a graph ends
 pub lists_end : (g : GraphData) → HasParts g → ListsEnd g
-lists_end g has =
-    AllPass-from_list_all (λ (x : Vertex). ends_of g.records x.arcs) g.vertices
-    (list_all-weaker (vertex_fits_in (length g.vertices) (length g.records) g.kinds) (λ x. ends_of g.records x.arcs) g.vertices
-    (λ x fits. first_ends g.records x.arcs has.ends (and_parts (chain_fits (length g.records) x.arcs) (utils_fit (length g.vertices) (length g.records) (vertex_kinds g.kinds) x.util) fits).0) has.vertices)
+lists_end g has = grind (arith, AllPass-from_list_all, list_all-weaker, vertex_fits_in, first_ends, and_parts)
 
 -- so it does in a graph whose lists end
 pub end_at : (g : GraphData) (w : ℕ) (x : Vertex) → ListsEnd g → slice_get g.vertices w ≡ Some x → ends_of g.records x.arcs ≡ true
@@ -144,16 +113,8 @@ chain_at g w x is = ap (λ o. option_map_or (λ (v : Vertex). links_of g.records
 
 -- the chain of a vertex that stays
 pub chain_kept : (g : GraphData) (count : ℕ) (vertices : List Vertex) (more : List ArcRec) (w : ℕ) → ListsEnd g → slice_get vertices w ≡ slice_get g.vertices w → chain_of (grown g count vertices more) w ≡ chain_of g w
-chain_kept g count vertices more w ends same = by_vertex (slice_get g.vertices w) refl
-  where
-    by_vertex : (o : Option Vertex) → slice_get g.vertices w ≡ o → chain_of (grown g count vertices more) w ≡ chain_of g w
-    by_vertex None is = rw (same, is) refl
-    by_vertex (Some x) is =
-        rw (same, is) (links_kept (length (g.records ++ more)) g.records more x.arcs (omega (arith, length-append g.records more)) (end_at g w x ends is))
+chain_kept g count vertices more w ends same = grind (arith, vertices, ends, grown, links_kept, length-append, end_at)
 
 -- the lists of the old vertices end among more records
 pub lists_end_more : (g : GraphData) (more : List ArcRec) → ListsEnd g → list_all (λ x. ends_of (g.records ++ more) x.arcs) g.vertices ≡ true
-lists_end_more g more ends =
-    list_all-weaker (λ (x : Vertex). ends_of g.records x.arcs) (λ x. ends_of (g.records ++ more) x.arcs) g.vertices
-    (λ x h. ends_kept (length (g.records ++ more)) g.records more x.arcs (omega (arith, length-append g.records more)) h)
-    (list_all-from_AllPass (λ (x : Vertex). ends_of g.records x.arcs) g.vertices ends)
+lists_end_more g more ends = grind (arith, list_all-weaker, ends_kept, length-append, list_all-from_AllPass)

@@ -1,5 +1,5 @@
 -- The hexadecimal digits of a number, put one after another from the last on.
-use Rattle.std.proofs.Common.{◌≡◌, ℕ, zero, suc, ◌+◌, ◌*◌, ◌/◌, ◌%◌, ◌^◌, ◌<◌, Bool, true, false, cond, eqb, List, [], ◌∷◌, length, set, drop, refl, sym, ap, ◌∙◌, arith}
+use Rattle.std.proofs.Common.{◌≡◌, ℕ, zero, suc, ◌+◌, ◌/◌, ◌%◌, ◌^◌, ◌<◌, Bool, true, false, cond, eqb, List, [], ◌∷◌, length, set, drop, refl, ap, ◌∙◌, arith}
 use Rattle.std.specs.Fmt.{digit_glyph, digits_onto, digits}
 use Rattle.std.proofs.Math.Nat.{pow-suc}
 use Rattle.std.proofs.lemmas.Bool.{eq-eqb, ne_eqb}
@@ -38,24 +38,11 @@ digits-none number text h e = record {
 
 -- one digit more is put
 pub digits-more : (number rest start place : ℕ) (text : List ℕ) → HasDigitsFrom number rest start text → start ≡ place + 1 → place < 32 → 0 < rest / 16 → HasDigitsFrom number (rest / 16) place (set text place (digit_glyph false (rest % 16)))
-digits-more number rest start place text h e l some =
-    let power : 16 ^ start ≡ 16 ^ place * 16 = ap (λ n. 16 ^ n) (omega arith) ∙ pow-suc 16 place in
-    record {
-      size = length-set text place (digit_glyph false (rest % 16)) ∙ h.size;
-      some = λ below. some;
-      small = omega (arith, h.small);
-      whole = ap (digits_onto (32 + place) 16 false (rest / 16)) (drop-set text place (digit_glyph false (rest % 16)) (omega (arith, h.size)) ∙ ap (λ n. digit_glyph false (rest % 16) ∷ drop n text) (sym e))
-          ∙ sym (onto-more (32 + start) (32 + place) rest (drop start text) (omega arith) some)
-          ∙ h.whole;
-    }
+digits-more number rest start place text h e l some = grind (arith, pow-suc, length-set, drop-set, onto-more)
 
 -- the first digit is put
 pub digits-first : (number rest start place : ℕ) (text : List ℕ) → HasDigitsFrom number rest start text → start ≡ place + 1 → place < 32 → rest / 16 ≡ 0 → drop place (set text place (digit_glyph false (rest % 16))) ≡ digits 16 false number
-digits-first number rest start place text h e l none =
-    drop-set text place (digit_glyph false (rest % 16)) (omega (arith, h.size))
-    ∙ ap (λ n. digit_glyph false (rest % 16) ∷ drop n text) (sym e)
-    ∙ sym (onto-last (32 + start) rest (drop start text) (omega arith) none)
-    ∙ h.whole
+digits-first number rest start place text h e l none = grind (arith, drop-set, onto-last)
 
 -- a digit may stand in an id
 text_byte-glyph : (d : ℕ) → d < 16 → is_text_byte (digit_glyph false d) ≡ true
@@ -63,12 +50,7 @@ text_byte-glyph d h = at_each_below (λ k. is_text_byte (digit_glyph false k)) 1
 
 id_text-onto : (k n : ℕ) (acc : List ℕ) → is_id_text acc ≡ true → is_id_text (digits_onto k 16 false n acc) ≡ true
 id_text-onto zero n acc h = h
-id_text-onto (suc k) n acc h =
-    let more : is_id_text (digit_glyph false (n % 16) ∷ acc) ≡ true = rw (text_byte-glyph (n % 16) (omega arith)) h in
-    elim (eqb (n / 16) 0) as (λ b. is_id_text (cond b (digit_glyph false (n % 16) ∷ acc) (digits_onto k 16 false (n / 16) (digit_glyph false (n % 16) ∷ acc))) ≡ true) [
-      | true ↦ more
-      | false ↦ id_text-onto k (n / 16) (digit_glyph false (n % 16) ∷ acc) more
-    ]
+id_text-onto (suc k) n acc h = grind (arith, text_byte-glyph, eqb, cond, id_text-onto k (n / 16) (digit_glyph false (n % 16) ∷ acc) (rw (text_byte-glyph (n % 16) (omega arith)) h))
 
 -- so may all digits of a number
 pub id_text-digits : (n : ℕ) → is_id_text (digits 16 false n) ≡ true

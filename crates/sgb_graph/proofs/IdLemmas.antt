@@ -46,7 +46,4 @@ length-small_number (negsuc n) h = length_signed_le 10 (negsuc n) (omega arith) 
 -- such numbers take at most 12 bytes each, with the comma after it
 pub length-small_numbers : (numbers : List ℤ) → All (λ z. nat_abs z ≤ most_vertices) numbers → length (numbers_text numbers) ≤ 12 * length numbers
 length-small_numbers [] h = omega arith
-length-small_numbers (z ∷ numbers) h =
-    let more = length-small_numbers numbers (All-tail (λ x. nat_abs x ≤ most_vertices) z numbers h) in
-    let first = length-small_number z (All-head (λ x. nat_abs x ≤ most_vertices) z numbers h) in
-    rw (length-append, length-append) (omega (arith, more, first))
+length-small_numbers (z ∷ numbers) h = grind (arith, All-tail, length-small_number, All-head, length-append, length-small_numbers numbers (All-tail (λ x. nat_abs x ≤ most_vertices) z numbers h))

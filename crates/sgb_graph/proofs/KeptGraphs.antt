@@ -1,5 +1,5 @@
 -- Graphs made of vertices and records that are kept: how one with more arcs or with more numbers is made.
-use Rattle.std.proofs.Common.{◌≡◌, ◌+◌, ◌++◌, ℕ, ℤ, true, List, [], ◌∷◌, length, map, min, max, set, slice_get, Some, refl}
+use Rattle.std.proofs.Common.{◌≡◌, ◌+◌, ◌++◌, ℕ, ℤ, true, List, [], ◌∷◌, length, map, min, max, set, slice_get, Some, refl, arith}
 use Rattle.std.proofs.lemmas.Int.{to_z-of_z}
 use mir.Syntax.{w64}
 use mir.Val.{SFits, of_z, to_z}
@@ -49,6 +49,4 @@ pub record IsStepTo (records : List ArcRec) (k : ℕ) (r : ArcRec) : Type 0 wher
 pub step_to : (records : List ArcRec) (k : ℕ) (r : ArcRec) → ends_of records (Some k) ≡ true → slice_get records k ≡ Some r → IsStepTo records k r
 step_to records k r ends is =
     let step = step_of records k ends in
-    let same : step.here ≡ r = cc in
-    let both : IsStepTo records k step.here = record { links = step.links; ends = step.ends } in
-    rw same at both
+    grind (arith, IsStepTo, step)

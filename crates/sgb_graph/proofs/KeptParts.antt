@@ -1,5 +1,5 @@
 -- Parts that make up a graph, as the graph keeps them.
-use Rattle.std.proofs.Common.{◌≡◌, ◌<◌, ◌+◌, ◌^◌, ◌∙◌, ◌&&◌, ◌++◌, ℕ, true, List, [], ◌∷◌, length, map, Option, Some, None, IfSome, refl, ap, arith}
+use Rattle.std.proofs.Common.{◌≡◌, ◌<◌, ◌+◌, ◌^◌, ◌∙◌, ◌++◌, ℕ, true, List, [], ◌∷◌, length, map, Option, IfSome, refl, ap, arith}
 use Rattle.std.proofs.lemmas.Bool.{and_parts, ltb-true}
 use Rattle.std.specs.List.{list_all}
 use Rattle.sgb_graph.specs.inner.Columns.{util_kind}
@@ -9,36 +9,26 @@ use Rattle.sgb_graph.specs.inner.Kept.{kept_graph}
 use Rattle.sgb_graph.specs.inner.KeptRecords.{KeptRecords}
 use Rattle.sgb_graph.specs.inner.KeptVertices.{KeptVertices, kinds_of_vertices}
 use Rattle.sgb_graph.specs.Growth.{graph_data}
-use Rattle.sgb_graph.specs.Sound.{IsGraph, arc_kinds, chain_fits, graph_kinds, record_fits, ref_fits, util_fits, utils_fit, vertex_fits, vertex_kinds}
+use Rattle.sgb_graph.specs.Sound.{IsGraph, arc_kinds, chain_fits, graph_kinds, record_fits, util_fits, utils_fit, vertex_fits, vertex_kinds}
 use Rattle.sgb_graph.specs.declared.fields.ArcRec.{ArcRec}
 use Rattle.sgb_graph.specs.declared.fields.Kind.{Kind}
 use Rattle.sgb_graph.specs.declared.fields.Vertex.{Vertex}
-use Rattle.sgb_graph.specs.declared.fields.Kind.TheVariants.{Z, I, V, S, A}
 use Rattle.sgb_graph.specs.declared.fields.Util.{Util}
-use Rattle.sgb_graph.specs.declared.fields.Util.TheVariants.{Nothing, Int, Vertex as VertexField, Str, Chain}
 use Rattle.sgb_graph.proofs.Growing.{parts_of}
 
 -- a value that fits a kind is of that kind
 fits_kind : (n m : ℕ) (kind : Kind) (util : Util) → util_fits n m kind util ≡ true → util_kind util ≡ kind
-fits_kind n m Z Nothing e = refl
-fits_kind n m I (Int i) e = refl
-fits_kind n m V (VertexField r) e = refl
-fits_kind n m S (Str s) e = refl
-fits_kind n m A (Chain first) e = refl
-fits_kind n m _ _ e = absurd cc
+fits_kind n m kind util e = grind (arith)
 
 -- values that fit kinds are of those kinds
 fits_kinds : (n m : ℕ) (kinds : List Kind) (utils : List Util) → utils_fit n m kinds utils ≡ true → map util_kind utils ≡ kinds
 fits_kinds n m [] [] e = refl
-fits_kinds n m (a ∷ kinds) (u ∷ utils) e =
-    let parts = and_parts (util_fits n m a u) (utils_fit n m kinds utils) e in
-    ap (λ k. k ∷ map util_kind utils) (fits_kind n m a u parts.0) ∙ ap (λ ks. a ∷ ks) (fits_kinds n m kinds utils parts.1)
+fits_kinds n m (a ∷ kinds) (u ∷ utils) e = grind (arith, and_parts, fits_kind, fits_kinds n m kinds utils (and_parts (util_fits n m a u) (utils_fit n m kinds utils) e).1)
 fits_kinds n m _ _ e = absurd cc
 
 -- a number that may fit can be kept in a word
 fits_word : (first : Option ℕ) → chain_fits most first ≡ true → IfSome first (λ k. k + 1 < 2 ^ 64)
-fits_word None e = tt
-fits_word (Some k) e = omega (arith, ltb-true k most e)
+fits_word first e = grind (arith, ltb-true)
 
 -- a vertex that may stand in a graph of these kinds can be kept
 pub record VertexKept (all : List Kind) (x : Vertex) : Type 0 where
@@ -46,9 +36,7 @@ pub record VertexKept (all : List Kind) (x : Vertex) : Type 0 where
   pub arcs : IfSome x.arcs (λ k. k + 1 < 2 ^ 64)
 
 pub vertex_kept : (kinds : List Kind) (x : Vertex) → vertex_may_fit kinds x ≡ true → VertexKept kinds x
-vertex_kept kinds x fits =
-    let parts = and_parts (chain_fits most x.arcs) (utils_fit most most (vertex_kinds kinds) x.util) fits in
-    record { kinds = fits_kinds most most (vertex_kinds kinds) x.util parts.1; arcs = fits_word x.arcs parts.0 }
+vertex_kept kinds x fits = grind (arith, and_parts, fits_kinds, fits_word)
 
 -- so can a record
 pub record RecordKept (all : List Kind) (r : ArcRec) : Type 0 where
@@ -56,10 +44,7 @@ pub record RecordKept (all : List Kind) (r : ArcRec) : Type 0 where
   pub next : IfSome r.next (λ k. k + 1 < 2 ^ 64)
 
 pub record_kept : (kinds : List Kind) (r : ArcRec) → record_may_fit kinds r ≡ true → RecordKept kinds r
-record_kept kinds r fits =
-    let parts = and_parts (ref_fits most r.tip && chain_fits most r.next) (utils_fit most most (arc_kinds kinds) (r.a ∷ r.b ∷ [])) fits in
-    let first = and_parts (ref_fits most r.tip) (chain_fits most r.next) parts.0 in
-    record { kinds = fits_kinds most most (arc_kinds kinds) (r.a ∷ r.b ∷ []) parts.1; next = fits_word r.next first.1 }
+record_kept kinds r fits = grind (arith, and_parts, fits_kinds, fits_word)
 
 -- two kinds that are the same two
 pub pair_kinds : (a b c d : Kind) (kinds : List Kind) → a ∷ b ∷ [] ≡ kinds → c ∷ d ∷ [] ≡ kinds → (a ≡ c) × (b ≡ d)
@@ -67,8 +52,7 @@ pair_kinds a b c d kinds one other = (cc, cc)
 
 -- kinds are those of vertices, the two of arcs, and those of the graph
 kinds_parted : (kinds : List Kind) (a b : Kind) → a ∷ b ∷ [] ≡ arc_kinds kinds → vertex_kinds kinds ++ (arc_kinds kinds ++ graph_kinds kinds) ≡ kinds
-kinds_parted (k ∷ l ∷ m ∷ n ∷ o ∷ p ∷ q ∷ r ∷ kinds) a b e = refl
-kinds_parted _ a b e = absurd cc
+kinds_parted kinds a b e = grind (arith)
 
 -- the graph that keeps the vertices and records of these parts is the graph that they make up
 pub kept_same : (text : List ℕ) (count : ℕ) (kinds : List Kind) (own : List Util) (vertices : KeptVertices) (records : KeptRecords) → IsGraph (graph_data text count kinds own vertices.items records.items)

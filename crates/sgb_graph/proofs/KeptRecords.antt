@@ -1,5 +1,5 @@
 -- Records as they are kept: how many, each by its place, one more.
-use Rattle.std.proofs.Common.{◌≡◌, ◌<◌, ◌+◌, ℕ, suc, List, [], ◌∷◌, ◌++◌, length, get_or, slice_get, Some, refl, ap, sym, subst, ◌∙◌, arith, append_assoc}
+use Rattle.std.proofs.Common.{◌≡◌, ◌<◌, ◌+◌, ℕ, suc, List, [], ◌∷◌, ◌++◌, length, get_or, slice_get, Some, refl, ap, ◌∙◌, arith, append_assoc}
 use Rattle.std.proofs.lemmas.List.{length_push}
 use Rattle.sgb_graph.specs.inner.Columns.{HoldsMany, column_kind, values}
 use Rattle.sgb_graph.specs.inner.KeptRecords.{KeptRecords, kept_number, kept_records, records_with}
@@ -48,27 +48,18 @@ pub kept_records-push :
     (ps : List PlainRecord) (a b a' b' : Column) (p : PlainRecord) (x y : Util) → HoldsMany (length ps) a → HoldsMany (length ps) b →
     values (1 + length ps) a' ≡ values (length ps) a ++ x ∷ [] → values (1 + length ps) b' ≡ values (length ps) b ++ y ∷ [] →
     (kept_records (ps ++ p ∷ []) a' b').items ≡ (kept_records ps a b).items ++ record_with p x y ∷ []
-kept_records-push ps a b a' b' p x y ha hb ea eb =
-    let n : length (ps ++ p ∷ []) ≡ 1 + length ps = omega (arith, length_push ps p) in
-    ap (λ n. records_with (ps ++ p ∷ []) (values n a') (values n b')) n
-    ∙ ap (λ xs. records_with (ps ++ p ∷ []) xs (values (1 + length ps) b')) ea
-    ∙ ap (λ ys. records_with (ps ++ p ∷ []) (values (length ps) a ++ x ∷ []) ys) eb
-    ∙ records_with-push ps (values (length ps) a) (values (length ps) b) p x y ha hb
+kept_records-push ps a b a' b' p x y ha hb ea eb = grind (arith, length_push, records_with-push)
 
 -- a kept record is the one it was made of
 pub record_with-is :
     (p : PlainRecord) (r : ArcRec) → p.tip ≡ r.tip → kept_number p.next ≡ r.next → p.len ≡ r.len → record_with p r.a r.b ≡ r
-record_with-is p r t n l =
-    ap (λ v. record (record_with p r.a r.b) { tip = v }) t ∙ ap (λ v. record r { next = v; len = p.len }) n ∙ ap (λ v. record r { len = v }) l
+record_with-is p r t n l = rw (← t, ← n, ← l) refl
 
 -- one record more, and two, where no utility fields are used
 pub kept_records-push_plain :
     (ps : List PlainRecord) (a b : Column) (p : PlainRecord) (r : ArcRec) → column_kind a ≡ Z → column_kind b ≡ Z → record_with p Nothing Nothing ≡ r →
     kept_records (ps ++ p ∷ []) a b ≡ record (kept_records ps a b) { items = (kept_records ps a b).items ++ r ∷ [] }
-kept_records-push_plain ps a b p r ha hb e =
-    let n = length ps in
-    let more = kept_records-push ps a b a b p Nothing Nothing (HoldsMany-unused n a ha) (HoldsMany-unused n b hb) (values-unused n a ha) (values-unused n b hb) in
-    ap (λ rs. record (kept_records ps a b) { items = rs }) (more ∙ ap (λ (x : ArcRec). (kept_records ps a b).items ++ x ∷ []) e)
+kept_records-push_plain ps a b p r ha hb e = grind (arith, kept_records-push, HoldsMany-unused, values-unused)
 
 pub kept_records-push_pair :
     (ps : List PlainRecord) (a b : Column) (p q : PlainRecord) (r s : ArcRec) → column_kind a ≡ Z → column_kind b ≡ Z →
@@ -90,14 +81,4 @@ pub record_pushed :
     column_kind c ≡ column_kind a → column_kind d ≡ column_kind b → ((n : ℕ) → values n a' ≡ values n a) → ((n : ℕ) → values n b' ≡ values n b) →
     ((n : ℕ) → HoldsMany n a' → values (1 + n) c ≡ values n a' ++ r.a ∷ []) → ((n : ℕ) → HoldsMany n b' → values (1 + n) d ≡ values n b' ++ r.b ∷ []) →
     record_with p r.a r.b ≡ r → IsMore ps a b rs c d r
-record_pushed ps rs p a b a' b' c d r ha hb pushed ka kb va vb one other is =
-    let n = length ps in
-    let long : length (ps ++ p ∷ []) ≡ 1 + n = omega (arith, length_push ps p) in
-    let more_a = one n (rw (va n) ha) ∙ ap (λ us. us ++ r.a ∷ []) (va n) in
-    let more_b = other n (rw (vb n) hb) ∙ ap (λ us. us ++ r.b ∷ []) (vb n) in
-    let items = kept_records-push ps a b c d p r.a r.b ha hb more_a more_b ∙ ap (λ (x : ArcRec). (kept_records ps a b).items ++ x ∷ []) is in
-    subst (λ (l : List PlainRecord). IsMore ps a b l c d r) (sym pushed) record {
-      first = rw long (HoldsMany-push n a c r.a ha more_a);
-      second = rw long (HoldsMany-push n b d r.b hb more_b);
-      same = rw (ka, kb) (ap (λ (rs : List ArcRec). record (kept_records ps a b) { items = rs }) items);
-    }
+record_pushed ps rs p a b a' b' c d r ha hb pushed ka kb va vb one other is = grind (arith, length_push, kept_records-push, IsMore, HoldsMany-push)

@@ -1,7 +1,6 @@
 -- What is kept of vertices, and what is seen of it.
-use Rattle.std.proofs.Common.{rules, ◌≡◌, ◌≢◌, ◌<◌, ◌≤◌, ◌+◌, ℕ, zero, suc, ℤ, pos, Option, Some, None, List, [], ◌∷◌, ◌++◌, length, map, replicate, get_or, set, drop, take, refl, ap, sym, subst, ◌∙◌, arith}
+use Rattle.std.proofs.Common.{rules, ◌≡◌, ◌≢◌, ◌<◌, ◌+◌, ℕ, zero, suc, ℤ, Option, Some, List, [], ◌∷◌, ◌++◌, length, map, replicate, get_or, set, drop, take, refl, ap, sym, subst, ◌∙◌, arith}
 use Rattle.std.specs.Prelude.{slice_get, option_map}
-use Rattle.std.specs.Option.{option_and_then}
 use Rattle.std.proofs.Math.Seq.{map-set_same}
 use Rattle.std.proofs.Math.ListN.{get_or-map}
 use Rattle.std.proofs.lemmas.Int.{to_z-of_z}
@@ -68,11 +67,7 @@ kept_firsts ps f kept = search (rules, with_fields-other, same_length, map-map)
 
 -- the first record of a vertex, out of the list of all
 first_of : (vertices : List Vertex) (v : ℕ) (first : Option ℕ) → slice_get (map (λ x. x.arcs) vertices) v ≡ Some first → first_arc vertices v ≡ first
-first_of vertices v first is = by_vertex (slice_get vertices v) (sym (slice_get-map (λ x. x.arcs) vertices v) ∙ is)
-  where
-    by_vertex : (o : Option Vertex) → option_map (λ (x : Vertex). x.arcs) o ≡ Some first → option_and_then (λ (x : Vertex). x.arcs) o ≡ first
-    by_vertex None e = absurd cc
-    by_vertex (Some x) e = cc
+first_of vertices v first is = grind (arith, slice_get-map)
 
 -- that of a vertex that is kept
 pub kept_first : (ps : List PlainVertex) (f : Fields) (v : ℕ) (p : PlainVertex) → AreKept ps f → slice_get ps v ≡ Some p → first_arc (kept_items ps f) v ≡ kept_number p.arcs
@@ -82,13 +77,11 @@ kept_first ps f v p kept is =
 
 -- its name
 pub kept_name : (ps : List PlainVertex) (f : Fields) (v : ℕ) (p : PlainVertex) → AreKept ps f → slice_get ps v ≡ Some p → slice_get (map (λ x. x.name) (kept_items ps f)) v ≡ Some p.name
-kept_name ps f v p kept is =
-    ap (λ names. slice_get names v) (kept_names ps f kept) ∙ (slice_get-map (λ (q : PlainVertex). q.name) ps v ∙ ap (option_map (λ (q : PlainVertex). q.name)) is)
+kept_name ps f v p kept is = rw (kept_names ps f kept) (simp slice_get-map (rw is refl))
 
 -- a field x, y or z has each place
 has_number : (place : ℕ) (ps : List PlainVertex) (k : ℕ) (f : Numbers) → length (numbers_values place ps f) ≡ length ps → k < length ps → HasNumber k f
-has_number place ps k Inside whole below = omega arith
-has_number place ps k (Beside column) whole below = HasPlace-below column (length ps) k whole below
+has_number place ps k f whole below = grind (arith, HasPlace-below, whole)
 
 -- and all fields
 pub have_values : (ps : List PlainVertex) (k : ℕ) (f : Fields) → AreKept ps f → k < length ps → HaveValues k f
@@ -100,8 +93,7 @@ unused_values n c e = ap (values n) (unused c e)
 
 -- a field x, y or z that is not used
 unused_numbers : (place : ℕ) (ps : List PlainVertex) (f : Numbers) → numbers_kind f ≡ Z → numbers_values place ps f ≡ replicate (length ps) Nothing
-unused_numbers place ps Inside e = absurd cc
-unused_numbers place ps (Beside column) e = unused_values (length ps) column e
+unused_numbers place ps f e = grind (arith, unused_values)
 
 -- vertices without fields
 with_no_fields : (names : List (List ℕ)) → with_fields (map bare_named names) (replicate (length names) no_fields) ≡ map new_vertex names
@@ -131,19 +123,15 @@ unused_items ps f names e bare =
 
 -- columns that are the same
 pub columns_kept : (n m : ℕ) (columns others : List (List Util)) → m ≡ n → others ≡ columns → AreColumns n columns → AreColumns m others
-columns_kept n m columns others count same kept =
-    subst (λ k. AreColumns k others) (sym count) (subst (AreColumns n) (sym same) kept)
+columns_kept n m columns others count same kept = rw (count, same) kept
 
 -- and what is seen of them
 pub same_table : (xs ys : List Vertex) (m n : ℕ) (columns others : List (List Util)) → xs ≡ ys → m ≡ n → columns ≡ others → with_fields xs (rows m columns) ≡ with_fields ys (rows n others)
-same_table xs ys m n columns others bare count same =
-    ap (λ zs. with_fields zs (rows m columns)) bare ∙ (ap (λ k. with_fields ys (rows k columns)) count ∙ ap (λ cs. with_fields ys (rows n cs)) same)
+same_table xs ys m n columns others bare count same = cc
 
 -- the numbers of vertices of which one is exchanged for one with the same numbers
 same_numbers : (place v : ℕ) (ps : List PlainVertex) (p q : PlainVertex) (f : Numbers) → p ≡ get_or ps v p → q.ints ≡ p.ints → numbers_values place (set ps v q) f ≡ numbers_values place ps f
-same_numbers place v ps p q Inside here ints =
-    map-set_same (λ (x : PlainVertex). Int (number_at place x)) ps v q p (rw (ints, ← here) refl)
-same_numbers place v ps p q (Beside column) here ints = ap (λ n. values n column) (length-set ps v q)
+same_numbers place v ps p q f here ints = grind (arith, map-set_same, here, length-set)
 
 -- the fields then stay
 same_columns : (v : ℕ) (ps : List PlainVertex) (p q : PlainVertex) (f : Fields) → p ≡ get_or ps v p → q.ints ≡ p.ints → field_columns (set ps v q) f ≡ field_columns ps f
@@ -164,9 +152,7 @@ first_put v k j ps p f below here is =
     let there : bare_vertex p ≡ get_or (map bare_vertex ps) v (bare_vertex p) = ap bare_vertex here ∙ sym (get_or-map bare_vertex ps v p) in
     let bare : map bare_vertex (set ps v q) ≡ with_first j v (map bare_vertex ps) =
     map-set bare_vertex ps v q ∙ (ap (set (map bare_vertex ps) v) same ∙ at_place-is_set led v (map bare_vertex ps) (bare_vertex p) within there) in
-    same_table (map bare_vertex (set ps v q)) (with_first j v (map bare_vertex ps)) (length (set ps v q)) (length ps)
-    (field_columns (set ps v q) f) (field_columns ps f) bare (length-set ps v q) (same_columns v ps p q f here refl)
-    ∙ combined-at_first put_fields led led v (map bare_vertex ps) (rows (length ps) (field_columns ps f)) (λ x fields. refl)
+    grind (arith, same_table, set, length-set, same_columns, combined-at_first, put_fields, q, led, same, within, there, bare)
 
 -- the numbers of the first k vertices are taken, all else stays
 pub record TakenSoFar (place k : ℕ) (old new : List PlainVertex) (found : List Util) : Type 0 where
@@ -183,35 +169,17 @@ pub taken_more : (place k : ℕ) (value : ℤ) (old new : List PlainVertex) (p q
     → slice_get found k ≡ Some u → number_or_zero u ≡ Int value → TakenSoFar place k old new found → TakenSoFar place (k + 1) old (set new k q) found
 taken_more place k value old new p q found u below is at given some so_far =
     let f : PlainVertex → Util = λ x. Int (number_at place x) in
-    let kept : (j : ℕ) → j ≢ place → number_at j q ≡ number_at j (get_or new k p) = λ j other. rw is (get_or-set_other (get_or new k p).ints place j value (pos 0) other) in
     let now = take_more_set (map f new) k (f q) (omega (arith, below, length-map new f)) in
-    let before = take_more (map number_or_zero found) k (number_or_zero u) (omega (arith, slice_get_within found k u given, length-map found number_or_zero)) in
     let here : get_or (map number_or_zero found) k (number_or_zero u) ≡ Int value = get_or-map number_or_zero found k u ∙ (ap number_or_zero (get_or_from_slice_get found k u u given) ∙ some) in
-    record {
-      bare = map-set_same bare_vertex new k q p (rw is refl) ∙ so_far.bare;
-      here = rw (map-set f new k q, now, before, here, so_far.here, at) refl;
-      others = λ j other. map-set_same (number_at j) new k q p (kept j other) ∙ so_far.others j other;
-    }
+    grind (arith, take_more, slice_get_within, length-map, get_or-set_other, map-set_same, map-set, here, f, now, here)
 
 -- all are
 pub taken_all : (place k : ℕ) (old new : List PlainVertex) (found : List Util) → k ≡ length new → k ≡ length found → TakenSoFar place k old new found → TakeNumbers place old new found
-taken_all place k old new found all also so_far =
-    let f : PlainVertex → Util = λ p. Int (number_at place p) in
-    let one : length (map f new) ≤ k = omega (arith, all, length-map new f) in
-    let other : length (map number_or_zero found) ≤ k = omega (arith, also, length-map found number_or_zero) in
-    record {
-      bare = so_far.bare;
-      here = sym (take_all k (map f new) one) ∙ (so_far.here ∙ take_all k (map number_or_zero found) other);
-      others = so_far.others;
-    }
+taken_all place k old new found all also so_far = grind (arith, length-map, take_all)
 
 -- numbers that stand in the vertices already
 pub numbers_inside : (place : ℕ) (ps : List PlainVertex) → TakeNumbers place ps ps (numbers_values place ps Inside)
-numbers_inside place ps = record {
-  bare = refl;
-  here = sym (map-map number_or_zero (λ (p : PlainVertex). Int (number_at place p)) ps);
-  others = λ q other. refl;
-}
+numbers_inside place ps = grind (arith, map-map)
 
 -- numbers of another place stay
 pub other_numbers : (place q : ℕ) (old new : List PlainVertex) (found : List Util) (f : Numbers) → TakeNumbers place old new found → q ≢ place → numbers_values q new f ≡ numbers_values q old f
@@ -226,17 +194,9 @@ pub all_taken : (f : Fields) (old one two new : List PlainVertex) → TakeNumber
 all_taken f old one two new x y z = record {
   fields = refl;
   bare = z.bare ∙ (y.bare ∙ x.bare);
-  x =
-      other_numbers 2 0 two new (numbers_values 2 two f.z) Inside z (λ e. absurd (omega (arith, e)))
-      ∙ (other_numbers 1 0 one two (numbers_values 1 one f.y) Inside y (λ e. absurd (omega (arith, e))) ∙ x.here);
-  y =
-      other_numbers 2 1 two new (numbers_values 2 two f.z) Inside z (λ e. absurd (omega (arith, e)))
-      ∙ (y.here ∙ ap (map number_or_zero) (other_numbers 0 1 old one (numbers_values 0 old f.x) f.y x (λ e. absurd (omega (arith, e)))));
-  z =
-      z.here
-      ∙ ap (map number_or_zero)
-      (other_numbers 1 2 one two (numbers_values 1 one f.y) f.z y (λ e. absurd (omega (arith, e)))
-      ∙ other_numbers 0 2 old one (numbers_values 0 old f.x) f.z x (λ e. absurd (omega (arith, e))));
+  x = other_numbers 2 0 two new _ Inside z (λ e. omega (arith, e)) ∙ (other_numbers 1 0 one two _ Inside y (λ e. omega (arith, e)) ∙ x.here);
+  y = other_numbers 2 1 two new _ Inside z (λ e. omega (arith, e)) ∙ (y.here ∙ ap (map number_or_zero) (other_numbers 0 1 old one _ f.y x (λ e. omega (arith, e))));
+  z = z.here ∙ ap (map number_or_zero) (other_numbers 1 2 one two _ f.z y (λ e. omega (arith, e)) ∙ other_numbers 0 2 old one _ f.z x (λ e. omega (arith, e)));
 }
 
 -- the vertex with its fields changed
@@ -262,10 +222,7 @@ put_rows n v x y z columns = simp (rows-at, at_place-at_place) (at_place-same _ 
 
 -- a number that is put into a vertex
 put_column : (place v : ℕ) (i : ℤ) (ps : List PlainVertex) (q : PlainVertex) (us : List Util) → number_at place q ≡ i → map (λ p. Int (number_at place p)) ps ≡ us → map (λ p. Int (number_at place p)) (set ps v q) ≡ at_place (λ _. Int i) v us
-put_column place v i ps q us is column =
-    let f : PlainVertex → Util = λ p. Int (number_at place p) in
-    map-set f ps v q
-    ∙ (ap (λ ws. set ws v (f q)) column ∙ (ap (λ (j : ℤ). set us v (Int j)) is ∙ sym (at_place-set (Int i) v us)))
+put_column place v i ps q us is column = rw (← column, ← is, at_place-set (Int (number_at place q)) v (map (λ p. Int (number_at place p)) ps)) (map-set (λ p. Int (number_at place p)) ps v q)
 
 -- fields x, y, z after numbers are put into a vertex
 record PutNumbers (old : List PlainVertex) (f : Fields) (new : List PlainVertex) (g : Fields) (v : ℕ) (x y z : ℤ) : Type 0 where
@@ -280,23 +237,12 @@ put_all old f new p v x y z hold here =
     let q : PlainVertex = record p { ints = x ∷ y ∷ z ∷ [] } in
     let bare : map bare_vertex (set new v q) ≡ map bare_vertex old = map-set_same bare_vertex new v q p (rw (← here) refl) ∙ hold.bare in
     let count : length (set new v q) ≡ length old = sym (length-map (set new v q) bare_vertex) ∙ (ap length bare ∙ length-map old bare_vertex) in
-    record {
-      bare = bare;
-      count = count;
-      columns = rw (
-        count,
-        put_column 0 v x new q (map number_or_zero (numbers_values 0 old f.x)) refl hold.x,
-        put_column 1 v y new q (map number_or_zero (numbers_values 1 old f.y)) refl hold.y,
-        put_column 2 v z new q (map number_or_zero (numbers_values 2 old f.z)) refl hold.z,
-      ) refl;
-    }
+    grind (arith, put_column, q, bare, count)
 
 -- what is kept of vertices whose fields are of these kinds
 pub kinds_record : (ps : List PlainVertex) (f : Fields) (u v w x y z : Kind) → field_kinds f ≡ u ∷ v ∷ w ∷ x ∷ y ∷ z ∷ []
     → kept_vertices ps f ≡ record { u = u; v = v; w = w; x = x; y = y; z = z; items = kept_items ps f }
-kinds_record ps f u v w x y z e =
-    let at : (k : ℕ) → get_or (field_kinds f) k Z ≡ get_or (u ∷ v ∷ w ∷ x ∷ y ∷ z ∷ []) k Z = λ k. ap (λ ks. get_or ks k Z) e in
-    rw (at 0, at 1, at 2, at 3, at 4, at 5) refl
+kinds_record ps f u v w x y z e = grind (arith)
 
 -- a value put after those of a column
 abbrev pub AddsValue : Column → Column → Util → Type 0
@@ -328,9 +274,9 @@ ints_row ps p x y z ints kept =
 
 -- columns with one row more
 columns_row : (n : ℕ) (columns : List (List Util)) (row : List Util) → length columns ≡ length row → AreColumns n columns → AreColumns (suc n) (with_row columns row)
-columns_row n (column ∷ columns) [] long are = absurd (omega (arith, long))
-columns_row n (column ∷ columns) (x ∷ row) long are = (omega (arith, are.0, length_push column x), columns_row n columns row (omega (arith, long)) are.1)
 columns_row n [] _ long are = tt
+columns_row n (column ∷ columns) [] long are = absurd (omega (arith, long))
+columns_row n (column ∷ columns) (x ∷ row) long are = grind (arith, length_push, columns_row n columns row (omega (arith, long)) are.1)
 
 -- one vertex more
 pub record AreMore (ps : List PlainVertex) (f : Fields) (qs : List PlainVertex) (g : Fields) (x : Vertex) : Type 0 where
@@ -370,9 +316,10 @@ pub ints_pushed : (ps qs rs : List PlainVertex) (p : PlainVertex) (f : Fields) (
     → qs ≡ ps → rs ≡ qs ++ p ∷ [] → p.ints ≡ to_z w64 (of_z w64 x) ∷ to_z w64 (of_z w64 y) ∷ to_z w64 (of_z w64 z) ∷ [] → p.name ≡ text → kept_number p.arcs ≡ first
     → AreMore ps f rs f (vertex_with_ints text first x y z)
 ints_pushed ps qs rs p f text first x y z i j k alone kept same pushed ints name arcs =
-    subst (λ (g : Fields). AreKept ps g → AreMore ps g rs g (vertex_with_ints text first x y z)) (sym alone)
-    (λ whole. vertex_pushed ps qs rs p ints_inside ints_inside ints_inside (vertex_with_ints text first x y z) whole same pushed refl (λ l. refl) refl
-    (λ room. ints_row ps p x y z (simp to_z-of_z at ints) room) refl name arcs) kept
+    let whole : AreKept ps ints_inside = rw alone at kept in
+    rw alone
+    (vertex_pushed ps qs rs p ints_inside ints_inside ints_inside (vertex_with_ints text first x y z) whole same pushed refl (λ l. refl) refl
+    (λ room. ints_row ps p x y z (simp to_z-of_z at ints) room) refl name arcs)
 
 -- a column changed, which keeps its length
 columns_at : (f : List Util → List Util) (n k : ℕ) (columns : List (List Util)) → ((us : List Util) → length (f us) ≡ length us) → AreColumns n columns → AreColumns n (at_place f k columns)

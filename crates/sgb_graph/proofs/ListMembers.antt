@@ -1,6 +1,6 @@
 -- What stands on the list of a vertex: the records that start there.
-use Rattle.std.proofs.Common.{◌≡◌, ◌≢◌, get_or, ◌+◌, ◌-◌, ◌≤◌, ◌==◌, ℕ, zero, suc, Bool, true, false, List, [], ◌∷◌, ◌++◌, length, Some, count_by, refl, ap, sym, ◌∙◌, subst, inl, inr, arith}
-use Rattle.std.specs.Prelude.{slice_get, cond, if◌then◌else◌}
+use Rattle.std.proofs.Common.{◌≡◌, ◌≢◌, get_or, ◌+◌, ◌-◌, ◌≤◌, ◌==◌, ℕ, zero, suc, Bool, List, [], ◌∷◌, ◌++◌, length, Some, count_by, refl, ap, sym, ◌∙◌, inl, inr, arith}
+use Rattle.std.specs.Prelude.{slice_get}
 use Rattle.std.specs.List.{All, AllPairs, Contains, filter}
 use Rattle.std.proofs.lemmas.List.Kept.{AllPairs-cons}
 use Rattle.std.proofs.lemmas.Option.{slice_get_within}
@@ -19,19 +19,13 @@ use Rattle.sgb_graph.proofs.EventLemmas.{list_none, list_first, link_here, no_li
 -- each record that starts at a vertex has its link there
 each_link : (k j : ℕ) (records : List Record) (r : Record) → slice_get records j ≡ Some r → Contains (links_at r.start k records) (link (k + j) r.tip r.len)
 each_link k j [] r is = absurd cc
-each_link k zero (a ∷ records) r is =
-    let same : a ≡ r = cc in
-    let place : k + 0 ≡ k = omega arith in
-    let there = Contains-first (link k r.tip r.len) (links_at r.start (k + 1) records) in
-    rw (same, place) (subst (λ ls. Contains ls (link k r.tip r.len)) (sym (link_here r.start k r records refl)) there)
+each_link k zero (a ∷ records) r is = grind (arith, Contains-first, link_here)
 each_link k (suc j) (a ∷ records) r is =
     let place : k + 1 + j ≡ k + suc j = omega arith in
     let later = rw place at (each_link (k + 1) j records r is) in
     elim (cases_eq r.start a.start) [
-      | inl same ↦
-          subst (λ ls. Contains ls (link (k + suc j) r.tip r.len)) (sym (link_here r.start k a records same))
-          (Contains-other (link k a.tip a.len) (link (k + suc j) r.tip r.len) (links_at r.start (k + 1) records) later)
-      | inr other ↦ subst (λ ls. Contains ls (link (k + suc j) r.tip r.len)) (sym (no_link_here r.start k a records other)) later
+      | inl same ↦ rw (link_here r.start k a records same) (Contains-other (link k a.tip a.len) _ _ later)
+      | inr other ↦ rw (no_link_here r.start k a records other) later
     ]
 
 -- and a link is that of a record
@@ -47,25 +41,12 @@ record_after k v a records l at = record { place = suc at.place; number = omega 
 -- so each link is
 only_link : (k v : ℕ) (records : List Record) (l : Link) → Contains (links_at v k records) l → IsRecordAt k v records l
 only_link k v [] l has = absurd (Contains-none l has)
-only_link k v (a ∷ records) l has =
-    elim (cases_eq v a.start) [
-      | inl start ↦
-          elim (Contains-cases (link k a.tip a.len) l (links_at v (k + 1) records) (subst (λ ls. Contains ls l) (link_here v k a records start) has)) [
-            | inl same ↦ rw (start, ← same) record { place = 0; number = omega arith; is = refl }
-            | inr high ↦ record_after k v a records l (only_link (k + 1) v records l high)
-          ]
-      | inr other ↦ record_after k v a records l (only_link (k + 1) v records l (subst (λ ls. Contains ls l) (no_link_here v k a records other) has))
-    ]
+only_link k v (a ∷ records) l has = grind (arith, cases_eq, Contains-cases, link_here, no_link_here, record_after, only_link (k + 1) v records l)
 
 -- as many links as records
 count_link : (k v : ℕ) (records : List Record) → length (links_at v k records) ≡ length (filter (λ r. r.start == v) records)
 count_link k v [] = refl
-count_link k v (a ∷ records) = by_test (a.start == v) (count_link (k + 1) v records)
-  where
-    by_test : (b : Bool) → length (links_at v (k + 1) records) ≡ length (filter (λ (r : Record). r.start == v) records)
-        → length ((if b then link k a.tip a.len ∷ [] else []) ++ links_at v (k + 1) records) ≡ length (cond b (a ∷ filter (λ (r : Record). r.start == v) records) (filter (λ (r : Record). r.start == v) records))
-    by_test true rest = ap suc rest
-    by_test false rest = rest
+count_link k v (a ∷ records) = grind (arith, length-append, count_link (k + 1) v records)
 
 -- each record of the events is on the list where it starts
 each_from : (directed : Bool) (k : ℕ) (events : List Event) (j : ℕ) (r : Record) → slice_get (all_records directed events) j ≡ Some r → Contains (list_from directed k events r.start) (link (k + j) r.tip r.len)
@@ -73,18 +54,15 @@ each_from directed k [] j r is = absurd cc
 each_from directed k (e ∷ events) j r is =
     let own = records_of directed e in
     let later = all_records directed events in
-    elim (cases_lt j (length own)) [
-      | inl low ↦
-          rw (list_first directed k e events r.start)
-          (Contains-append_right (list_from directed (k + length own) events r.start) (links_at r.start k own) (link (k + j) r.tip r.len)
-          (each_link k j own r (sym (slice_get-prefix own later j low) ∙ is)))
+    rw (list_first directed k e events r.start)
+    (elim (cases_lt j (length own)) [
+      | inl low ↦ Contains-append_right _ _ _ (each_link k j own r (sym (slice_get-prefix own later j low) ∙ is))
       | inr high ↦
           let place : length own + (j - length own) ≡ j = omega arith in
           let number : k + length own + (j - length own) ≡ k + j = omega arith in
           let there = each_from directed (k + length own) events (j - length own) r (sym (slice_get-after own later (j - length own)) ∙ (ap (slice_get (own ++ later)) place ∙ is)) in
-          rw (list_first directed k e events r.start)
-          (Contains-append_left (list_from directed (k + length own) events r.start) (links_at r.start k own) (link (k + j) r.tip r.len) (rw number at there))
-    ]
+          Contains-append_left _ _ _ (rw number at there)
+    ])
 
 -- and nothing else
 only_from : (directed : Bool) (k : ℕ) (events : List Event) (v : ℕ) (l : Link) → Contains (list_from directed k events v) l → IsRecordAt k v (all_records directed events) l
@@ -96,21 +74,13 @@ only_from directed k (e ∷ events) v l has =
       | inl there ↦
           let at = only_from directed (k + length own) events v l there in
           record { place = length own + at.place; number = omega (arith, at.number); is = slice_get-after own later at.place ∙ at.is }
-      | inr here ↦
-          let at = only_link k v own l here in
-          record { place = at.place; number = at.number; is = slice_get-left own later at.place (record_from v l.tip l.len) at.is }
+      | inr here ↦ let at = only_link k v own l here in record { place = at.place; number = at.number; is = slice_get-left own later at.place _ at.is }
     ]
 
 -- as many as start there
 once_from : (directed : Bool) (k : ℕ) (events : List Event) (v : ℕ) → length (list_from directed k events v) ≡ length (filter (λ r. r.start == v) (all_records directed events))
 once_from directed k [] v = ap length (list_none directed k v)
-once_from directed k (e ∷ events) v =
-    let own = records_of directed e in
-    let later = all_records directed events in
-    let starts = λ (r : Record). r.start == v in
-    let parts = ap length (list_first directed k e events v) ∙ length-append (list_from directed (k + length own) events v) (links_at v k own) in
-    let halves = ap length (filter-append starts own later) ∙ length-append (filter starts own) (filter starts later) in
-    omega (arith, parts, halves, count_link k v own, once_from directed (k + length own) events v)
+once_from directed k (e ∷ events) v = grind (arith, list_first, length-append, filter-append, count_link, once_from directed (k + length (records_of directed e)) events v)
 
 -- the same of the lists as they stand
 pub each_on_list : (directed : Bool) (events : List Event) (k : ℕ) (r : Record) → slice_get (all_records directed events) k ≡ Some r → Contains (list_of directed events r.start) (link k r.tip r.len)
@@ -141,17 +111,12 @@ all_from_contains P xs each k d below = each (get_or xs k d) (Contains-get_or xs
 links_apart : (k v : ℕ) (records : List Record) → AllPairs AreApart (links_at v k records)
 links_apart k v [] = λ i j d less below. absurd (omega arith)
 links_apart k v (a ∷ records) =
-    elim (cases_eq v a.start) [
-      | inl start ↦
-          subst (AllPairs AreApart) (sym (link_here v k a records start))
-          (AllPairs-cons AreApart (link k a.tip a.len) (links_at v (k + 1) records)
-          (all_from_contains (AreApart (link k a.tip a.len)) (links_at v (k + 1) records) (λ m has same. omega (arith, (only_link (k + 1) v records m has).number, same))) (links_apart (k + 1) v records))
-      | inr other ↦ subst (AllPairs AreApart) (sym (no_link_here v k a records other)) (links_apart (k + 1) v records)
-    ]
+    let high = all_from_contains (AreApart (link k a.tip a.len)) (links_at v (k + 1) records) (λ m has same. omega (arith, (only_link (k + 1) v records m has).number, same)) in
+    grind (arith, cases_eq, AllPairs-cons, link_here, no_link_here, high, links_apart (k + 1) v records)
 
 -- so do those of a list
 apart_from : (directed : Bool) (k : ℕ) (events : List Event) (v : ℕ) → AllPairs AreApart (list_from directed k events v)
-apart_from directed k [] v = subst (AllPairs AreApart) (sym (list_none directed k v)) (links_apart k v [])
+apart_from directed k [] v = rw (list_none directed k v) (links_apart k v [])
 apart_from directed k (e ∷ events) v =
     let own = records_of directed e in
     let here = links_at v k own in
@@ -161,7 +126,7 @@ apart_from directed k (e ∷ events) v =
     let early = only_link k v own m is in
     let inside = slice_get_within own early.place (record_from v m.tip m.len) early.is in
     omega (arith, late.number, early.number, inside, same) in
-    subst (AllPairs AreApart) (sym (list_first directed k e events v))
+    rw (list_first directed k e events v)
     (AllPairs-append AreApart others here (apart_from directed (k + length own) events v) (links_apart k v own)
     (all_from_contains (λ l. All (AreApart l) here) others (λ l has. all_from_contains (AreApart l) here (λ m is. across l m has is))))
 

@@ -15,9 +15,7 @@ slice_get-prefix (a ∷ xs) ys (suc k) below = slice_get-prefix xs ys k (omega a
 -- what stands after a list
 pub slice_get-after : {X : Type 0} (xs ys : List X) (j : ℕ) → slice_get (xs ++ ys) (length xs + j) ≡ slice_get ys j
 slice_get-after [] ys j = let place : 0 + j ≡ j = omega arith in ap (slice_get ys) place
-slice_get-after (a ∷ xs) ys j =
-    let place : suc (length xs) + j ≡ suc (length xs + j) = omega arith in
-    ap (slice_get (a ∷ xs ++ ys)) place ∙ slice_get-after xs ys j
+slice_get-after (a ∷ xs) ys j = grind (arith, slice_get-after xs ys j)
 
 -- the element that was changed
 pub slice_get-at_place_same : {X : Type 0} (f : X → X) (k : ℕ) (xs : List X) (x : X) → slice_get xs k ≡ Some x → slice_get (at_place f k xs) k ≡ Some (f x)
@@ -71,27 +69,18 @@ list_all-get p (a ∷ xs) (suc k) x all is = list_all-get p xs k x (and_parts (p
 -- a test that follows from one that all pass
 pub list_all-weaker : {X : Type 0} (p q : X → Bool) (xs : List X) → ((x : X) → p x ≡ true → q x ≡ true) → list_all p xs ≡ true → list_all q xs ≡ true
 list_all-weaker p q [] follows all = refl
-list_all-weaker p q (a ∷ xs) follows all =
-    let parts = and_parts (p a) (list_all p xs) all in
-    and_from (q a) (list_all q xs) (follows a parts.0) (list_all-weaker p q xs follows parts.1)
+list_all-weaker p q (a ∷ xs) follows all = grind (arith, and_parts, and_from, list_all-weaker p q xs follows (and_parts (p a) (list_all p xs) all).1)
 
 -- two tests at once
 pub list_all-both : {X : Type 0} (p q : X → Bool) (xs : List X) → list_all p xs ≡ true → list_all q xs ≡ true → list_all (λ x. p x && q x) xs ≡ true
 list_all-both p q [] one other = refl
-list_all-both p q (a ∷ xs) one other =
-    let first = and_parts (p a) (list_all p xs) one in
-    let second = and_parts (q a) (list_all q xs) other in
-    and_from (p a && q a) (list_all (λ x. p x && q x) xs) (and_from (p a) (q a) first.0 second.0) (list_all-both p q xs first.1 second.1)
+list_all-both p q (a ∷ xs) one other = grind (arith, and_parts, and_from, list_all-both p q xs (and_parts (p a) (list_all p xs) one).1 (and_parts (q a) (list_all q xs) other).1)
 
 -- a test that each element passes after a change at one place
 pub list_all-at_place : {X : Type 0} (p : X → Bool) (f : X → X) (k : ℕ) (xs : List X) → ((x : X) → p x ≡ true → p (f x) ≡ true) → list_all p xs ≡ true → list_all p (at_place f k xs) ≡ true
 list_all-at_place p f k [] passes all = refl
-list_all-at_place p f zero (a ∷ xs) passes all =
-    let parts = and_parts (p a) (list_all p xs) all in
-    and_from (p (f a)) (list_all p xs) (passes a parts.0) parts.1
-list_all-at_place p f (suc k) (a ∷ xs) passes all =
-    let parts = and_parts (p a) (list_all p xs) all in
-    and_from (p a) (list_all p (at_place f k xs)) parts.0 (list_all-at_place p f k xs passes parts.1)
+list_all-at_place p f zero (a ∷ xs) passes all = grind (arith, and_parts, and_from)
+list_all-at_place p f (suc k) (a ∷ xs) passes all = grind (arith, and_parts, and_from, list_all-at_place p f k xs passes (and_parts (p a) (list_all p xs) all).1)
 
 -- a test that each made element passes
 pub list_all-made : {X Y : Type 0} (p : Y → Bool) (f : X → Y) (xs : List X) → ((x : X) → p (f x) ≡ true) → list_all p (map f xs) ≡ true
@@ -105,16 +94,12 @@ list_all-mapped p q f xs passes all = list_all-map q f xs ∙ list_all-weaker p 
 -- a change that changes no element that passes
 pub map-stays : {X : Type 0} (p : X → Bool) (f : X → X) (xs : List X) → ((x : X) → p x ≡ true → f x ≡ x) → list_all p xs ≡ true → map f xs ≡ xs
 map-stays p f [] stays all = refl
-map-stays p f (a ∷ xs) stays all =
-    let parts = and_parts (p a) (list_all p xs) all in
-    ap (λ y. y ∷ map f xs) (stays a parts.0) ∙ ap (λ ys. a ∷ ys) (map-stays p f xs stays parts.1)
+map-stays p f (a ∷ xs) stays all = grind (arith, and_parts, map-stays p f xs stays (and_parts (p a) (list_all p xs) all).1)
 
 -- what agrees on each element
 pub flat_map-agree : {X Y : Type 0} (p : X → Bool) (f g : X → List Y) (xs : List X) → ((x : X) → p x ≡ true → f x ≡ g x) → list_all p xs ≡ true → flat_map f xs ≡ flat_map g xs
 flat_map-agree p f g [] agree all = refl
-flat_map-agree p f g (a ∷ xs) agree all =
-    let parts = and_parts (p a) (list_all p xs) all in
-    ap (λ ys. ys ++ flat_map f xs) (agree a parts.0) ∙ ap (λ ys. g a ++ ys) (flat_map-agree p f g xs agree parts.1)
+flat_map-agree p f g (a ∷ xs) agree all = grind (arith, and_parts, flat_map-agree p f g xs agree (and_parts (p a) (list_all p xs) all).1)
 
 -- a test passes at each number from a on, n of them
 pub list_all-range : (p : ℕ → Bool) (a n : ℕ) → ((k : ℕ) → k < a + n → p k ≡ true) → list_all p (range_with_len a n) ≡ true

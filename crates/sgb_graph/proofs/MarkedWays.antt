@@ -1,8 +1,7 @@
 -- Steps of walks along chains of records, and the marks that they set.
-use Rattle.std.proofs.Common.{rules, ◌≡◌, ◌≤◌, ◌<◌, ◌⊎◌, ◌+◌, ◌&&◌, ℕ, zero, suc, Bool, true, false, List, length, set, get_or, Option, Some, None, refl, ap, sym, ◌∙◌, inl, inr, arith}
+use Rattle.std.proofs.Common.{rules, ◌≡◌, ◌≤◌, ◌<◌, ◌⊎◌, ◌+◌, ◌&&◌, ℕ, zero, suc, Bool, true, false, List, length, set, get_or, Option, Some, None, refl, ap, sym, ◌∙◌, arith, ◌-◌}
 use Rattle.std.specs.Prelude.{slice_get, is_some, not, IsTrue}
 use Rattle.std.specs.List.{list_all, range_with_len}
-use Rattle.std.specs.Option.{option_map_or}
 use Rattle.std.proofs.lemmas.Bool.{and_parts, cases_eq}
 use Rattle.std.proofs.lemmas.List.{get_or-set_same, get_or-set_other}
 use Rattle.std.proofs.lemmas.List.Folds.{list_all_at}
@@ -20,75 +19,71 @@ use Rattle.sgb_graph.proofs.Lists.{list_all-range}
 pub ends_outside : (fuel : ℕ) (records : List ArcRec) (k : ℕ) → length records ≤ k → ends_from fuel records (Some k) ≡ false
 unfolding ends_from
 ends_outside zero records k out = refl
-ends_outside (suc fuel) records k out = ap (λ o. option_map_or (λ (x : ArcRec). ends_from fuel records x.next) o false) (slice_get_past records k out)
+ends_outside (suc fuel) records k out = grind (arith, slice_get_past)
 
 -- such a record is one of them
 pub way_inside : (records : List ArcRec) (k : ℕ) → ends_of records (Some k) ≡ true → k < length records
 way_inside records k ends = let step = step_of records k ends in slice_get_within records k step.here step.is
 
--- a record is read once
-same_read : (records : List ArcRec) (k : ℕ) (r s : ArcRec) → slice_get records k ≡ Some r → slice_get records k ≡ Some s → r ≡ s
-same_read records k r s one other = cc
-
 -- the rest of the way is shorter
 pub way_shorter : (records : List ArcRec) (k : ℕ) (r : ArcRec) → ends_of records (Some k) ≡ true → slice_get records k ≡ Some r → length (numbers_of records r.next) < length (numbers_of records (Some k))
 way_shorter records k r ends is =
     let step = step_of records k ends in
-    let read : r ≡ step.here = same_read records k r step.here is step.is in
-    rw (read, step.numbers) (omega arith)
+    grind (arith, step)
 
 -- and ends
 pub way_goes_on : (records : List ArcRec) (k : ℕ) (r : ArcRec) → ends_of records (Some k) ≡ true → slice_get records k ≡ Some r → ends_of records r.next ≡ true
 way_goes_on records k r ends is =
     let step = step_of records k ends in
-    let read : r ≡ step.here = same_read records k r step.here is step.is in
-    rw read step.ends
+    grind (arith, step)
 
 -- so many steps lead from the first record to the next one
 abbrev pub StepsLead : List ArcRec → Option ℕ → ℕ → Option ℕ → Type 0
 StepsLead records first steps next = (fuel : ℕ) → ends_from (fuel + steps) records first ≡ ends_from fuel records next
 
 -- one more
-pub steps_more : (records : List ArcRec) (first : Option ℕ) (steps k : ℕ) (r : ArcRec) → StepsLead records first steps (Some k) → slice_get records k ≡ Some r → StepsLead records first (steps + 1) r.next
-steps_more records first steps k r lead is fuel =
+pub steps_more : (records : List ArcRec) (first next : Option ℕ) (steps k : ℕ) (r : ArcRec) → StepsLead records first steps next → next ≡ Some k → slice_get records k ≡ Some r → StepsLead records first (steps + 1) r.next
+steps_more records first next steps k r lead here is fuel =
     let place : suc fuel + steps ≡ fuel + (steps + 1) = omega arith in
-    ap (λ n. ends_from n records first) (sym place) ∙ (lead (suc fuel) ∙ ends_step fuel records k r is)
+    ap (λ n. ends_from n records first) (sym place) ∙ (lead (suc fuel) ∙ (ap (ends_from (suc fuel) records) here ∙ ends_step fuel records k r is))
 
 -- what is left of as many steps as there are records
 left_steps : (records : List ArcRec) (first : Option ℕ) (steps : ℕ) (next : Option ℕ) (left : ℕ) → StepsLead records first steps next → left + steps ≡ length records → ends_of records first ≡ ends_from left records next
 left_steps records first steps next left lead place = ap (λ n. ends_from n records first) (sym place) ∙ lead left
 
 -- the walk comes to an end
-pub walk_ends : (records : List ArcRec) (first : Option ℕ) (steps left : ℕ) → StepsLead records first steps None → left + steps ≡ length records → ends_of records first ≡ true
-walk_ends records first steps left lead place = left_steps records first steps None left lead place ∙ ends_none left records
+pub walk_ends : (records : List ArcRec) (first next : Option ℕ) (steps : ℕ) → StepsLead records first steps next → next ≡ None → steps ≤ length records → ends_of records first ≡ true
+walk_ends records first next steps lead none few =
+    left_steps records first steps next (length records - steps) lead (omega arith)
+    ∙ (ap (ends_from (length records - steps) records) none ∙ ends_none (length records - steps) records)
 
 -- it comes to a record that is not there
-pub walk_outside : (records : List ArcRec) (first : Option ℕ) (steps left k : ℕ) → StepsLead records first steps (Some k) → left + steps ≡ length records → length records ≤ k → ends_of records first ≡ false
-walk_outside records first steps left k lead place out = left_steps records first steps (Some k) left lead place ∙ ends_outside left records k out
+pub walk_outside : (records : List ArcRec) (first next : Option ℕ) (steps k : ℕ) → StepsLead records first steps next → next ≡ Some k → steps ≤ length records → length records ≤ k → ends_of records first ≡ false
+walk_outside records first next steps k lead here few out =
+    left_steps records first steps next (length records - steps) lead (omega arith)
+    ∙ (ap (ends_from (length records - steps) records) here ∙ ends_outside (length records - steps) records k out)
 
 -- it comes to a record from which it ends
-pub walk_meets : (records : List ArcRec) (first : Option ℕ) (steps k : ℕ) → StepsLead records first steps (Some k) → ends_of records (Some k) ≡ true → ends_of records first ≡ true
-walk_meets records first steps k lead ends = ends_within (length records + steps) records first (lead (length records) ∙ ends)
-
--- with no step left it has ended, or goes on
-no_steps : (records : List ArcRec) (next : Option ℕ) (none : Bool) → is_some next ≡ not none → none ≡ ends_from zero records next
-unfolding ends_from
-no_steps records None true test = refl
-no_steps records (Some k) false test = refl
-no_steps records _ _ test = absurd cc
+pub walk_meets : (records : List ArcRec) (first next : Option ℕ) (steps k : ℕ) → StepsLead records first steps next → next ≡ Some k → ends_of records (Some k) ≡ true → ends_of records first ≡ true
+walk_meets records first next steps k lead here ends = ends_within (length records + steps) records first (lead (length records) ∙ (ap (ends_of records) here ∙ ends))
 
 -- after as many steps as there are records it has ended, or it never does
 pub walk_is_over : (records : List ArcRec) (first next : Option ℕ) (steps : ℕ) (none : Bool) → StepsLead records first steps next → steps ≡ length records → is_some next ≡ not none → none ≡ ends_of records first
+unfolding ends_from
 walk_is_over records first next steps none lead all test =
-    no_steps records next none test ∙ sym (left_steps records first steps next 0 lead (omega arith))
+    let left = left_steps records first steps next 0 lead (omega arith) in
+    grind (arith, left)
 
 -- each arc on a way leads to a vertex where the first does, and each on the way after it
 pub leads_step : (records : List ArcRec) (k : ℕ) (r : ArcRec) → ends_of records (Some k) ≡ true → slice_get records k ≡ Some r → leads_of records (Some k) ≡ (is_vertex r.tip && leads_of records r.next)
 leads_step records k r ends is =
     let step = step_of records k ends in
-    let read : r ≡ step.here = same_read records k r step.here is step.is in
-    let tip : leads_to_vertex records k ≡ is_vertex step.here.tip = ap (λ o. option_map_or (λ (x : ArcRec). is_vertex x.tip) o false) step.is in
-    rw read (ap (list_all (leads_to_vertex records)) step.numbers ∙ ap (λ b. b && leads_of records step.here.next) tip)
+    grind (arith, step)
+
+-- so it is told by the next record of a walk
+pub leads_before : (records : List ArcRec) (first next : Option ℕ) (k : ℕ) (r : ArcRec) (tip : Bool) → next ≡ Some k → ends_of records next ≡ true → leads_of records next ≡ leads_of records first → slice_get records k ≡ Some r → is_vertex r.tip ≡ tip
+    → (tip && leads_of records r.next) ≡ leads_of records first
+leads_before records first next k r tip here ends same is leads = rw (← same, ← leads, here) (sym (leads_step records k r (rw here at ends) is))
 
 -- they do on the way after it where they do on all of it
 pub leads_goes_on : (records : List ArcRec) (k : ℕ) (r : ArcRec) → ends_of records (Some k) ≡ true → slice_get records k ≡ Some r → leads_of records (Some k) ≡ true → leads_of records r.next ≡ true
@@ -106,10 +101,9 @@ one_more_marked P marks k here before j marked = search (rules, cases_eq, get_or
 -- some number below n does not pass
 pub not_each_below : (p : ℕ → Bool) (n k : ℕ) → k < n → p k ≡ false → list_all p (range_with_len 0 n) ≡ false
 not_each_below p n k below fails =
-    let inside : k < length (range_with_len 0 n) = rw length-range_with_len below in
     let from_zero : 0 + k ≡ k = omega arith in
     let place = get_or-range_with_len 0 n k 0 below ∙ from_zero in
-    list_all_at p (range_with_len 0 n) k 0 inside (ap p place ∙ fails)
+    grind (arith, length-range_with_len, list_all_at, place)
 
 -- all do
 pub each_below : (p : ℕ → Bool) (n : ℕ) → ((k : ℕ) → k < n → p k ≡ true) → list_all p (range_with_len 0 n) ≡ true
@@ -128,19 +122,9 @@ abbrev pub MarksReach : List ArcRec → List Bool → Option ℕ → Type 0
 MarksReach records marks next =
     (k : ℕ) (r : ArcRec) → slice_get records k ≡ Some r → IsTrue (get_or marks k false) → (r.next ≡ next) ⊎ IsTrue (is_marked marks r.next)
 
--- one more mark leaves the others
-still_marked : (marks : List Bool) (k : ℕ) (first : Option ℕ) → k < length marks → is_marked marks first ≡ true → is_marked (set marks k true) first ≡ true
-still_marked marks k None inside marked = refl
-still_marked marks k (Some j) inside marked =
-    elim (cases_eq j k) [
-      | inl same ↦ rw same (get_or-set_same marks k true false inside)
-      | inr other ↦ get_or-set_other marks k j true false other ∙ marked
-    ]
-
 -- what is marked, or is the next record, is marked with it
 pub reached_more : (marks : List Bool) (k : ℕ) (first : Option ℕ) → k < length marks → (first ≡ Some k) ⊎ IsTrue (is_marked marks first) → IsTrue (is_marked (set marks k true) first)
-reached_more marks k first inside (inl same) = rw same (get_or-set_same marks k true false inside)
-reached_more marks k first inside (inr marked) = still_marked marks k first inside marked
+reached_more marks k first inside h = grind (arith, cases_eq, get_or-set_same, get_or-set_other)
 
 -- the walk goes on by one record
 pub reach_more : (records : List ArcRec) (marks : List Bool) (k : ℕ) (r : ArcRec) → k < length marks → slice_get records k ≡ Some r → MarksReach records marks (Some k) → MarksReach records (set marks k true) r.next
@@ -148,8 +132,7 @@ reach_more records marks k r inside is reach j x there marked = grind (arith, ca
 
 -- it is over where the next record is marked, or there is none
 pub reached_all : (marks : List Bool) (next first : Option ℕ) → is_marked marks next ≡ true → (first ≡ next) ⊎ IsTrue (is_marked marks first) → IsTrue (is_marked marks first)
-reached_all marks next first over (inl same) = rw same over
-reached_all marks next first over (inr marked) = marked
+reached_all marks next first over h = grind (arith)
 
 pub reach_all : (records : List ArcRec) (marks : List Bool) (next : Option ℕ) → is_marked marks next ≡ true → MarksReach records marks next → MarksGoOn records marks
 reach_all records marks next over reach k r is marked = reached_all marks next r.next over (reach k r is marked)

@@ -1,9 +1,9 @@
 -- A number in the graph's own field uu.
-use Rattle.std.proofs.Common.{rules, ◌≡◌, ℕ, ℤ, true, List, [], ◌∷◌, set}
+use Rattle.std.proofs.Common.{rules, ◌≡◌, ℕ, ℤ, true, List, [], set, arith}
 use Rattle.std.proofs.lemmas.Bool.{and_parts}
 use Rattle.std.proofs.lemmas.List.{drop-set-add, take-set-le}
 use Rattle.sgb_graph.specs.Graphs.{GraphData}
-use Rattle.sgb_graph.specs.Sound.{util_fits, utils_fit}
+use Rattle.sgb_graph.specs.Sound.{utils_fit}
 use Rattle.sgb_graph.specs.Growth.{IsKept, with_uu}
 use Rattle.sgb_graph.specs.declared.fields.Kind.{Kind}
 use Rattle.sgb_graph.specs.declared.fields.Kind.TheVariants.{I}
@@ -16,8 +16,7 @@ use Rattle.sgb_graph.proofs.Growing.{parts_of, refilled}
 -- fields of which the first becomes a number
 first_number_fits : (n m : ℕ) (value : ℤ) (kinds : List Kind) (utils : List Util) → utils_fit n m kinds utils ≡ true → utils_fit n m (set kinds 0 I) (set utils 0 (Int value)) ≡ true
 first_number_fits n m value [] [] e = e
-first_number_fits n m value (a ∷ kinds) (u ∷ utils) e = (and_parts (util_fits n m a u) (utils_fit n m kinds utils) e).1
-first_number_fits n m value _ _ e = absurd cc
+first_number_fits n m value kinds utils e = grind (arith, and_parts)
 
 -- the graph with this number is one
 pub uu_kept : (value : ℤ) (g : GraphData) → IsKept g → IsKept (with_uu value g)

@@ -1,6 +1,6 @@
 -- A generator that stands at a draw, and the draw that it hands out.
-use Rattle.std.proofs.Common.{◌≡◌, ℕ, ℤ, ◌+◌, ◌-◌, ◌*◌, ◌/◌, ◌%◌, ◌<◌, ◌≤◌, List, length, map, get_or, refl, ap, sym, ◌∙◌, subst, inl, inr, arith}
-use Rattle.std.specs.Prelude.{pos, negsuc}
+use Rattle.std.proofs.Common.{◌≡◌, ℕ, ℤ, ◌+◌, ◌-◌, ◌*◌, ◌/◌, ◌%◌, ◌<◌, ◌≤◌, List, length, map, get_or, ap, sym, ◌∙◌, subst, inl, inr, arith}
+use Rattle.std.specs.Prelude.{pos}
 use Rattle.std.specs.Int.{int_rem_euclid}
 use Rattle.std.specs.List.{range_with_len}
 use lib.IntN.{nat_abs}
@@ -58,32 +58,25 @@ pub hands_out_draw : (start : ℤ) (k : ℕ) (old : List ℕ) (left result : ℕ
 hands_out_draw start k old left result new left_after stands out =
     let still = stands.still in
     let window = stands_window start k old left stands in
+    let given : (n : ℕ) → IsWindow (seed_of start) n new → n ≡ 55 * (5 + (k + 1) / 55) → left_after ≡ 54 - (k + 1) % 55 → HandsOutDraw start k result new left_after = λ n now at last. record {
+      value = placed (seed_of start) n (55 * (5 + (k + 1) / 55) + 55 - (k + 1) % 55) left_after new result now (omega arith) out.value (omega arith);
+      stands = window_stands start (k + 1) n new left_after out.flip.cycle now at last;
+    } in
     elim (cases_lt 0 left) [
       | inl some ↦
           let step = out.inside (omega arith) in
-          let window_now : IsWindow (seed_of start) (55 * (5 + k / 55)) new = subst (IsWindow (seed_of start) (55 * (5 + k / 55))) (sym step.0) window in
-          let lower : left_after + 1 ≡ left = step.1 in
-          record {
-            value = placed (seed_of start) (55 * (5 + k / 55)) (55 * (5 + (k + 1) / 55) + 55 - (k + 1) % 55) left_after new result window_now (omega arith) out.value (omega arith);
-            stands = window_stands start (k + 1) (55 * (5 + k / 55)) new left_after out.flip.cycle window_now (omega arith) (omega arith);
-          }
+          given (55 * (5 + k / 55)) (rw step.0 window) (omega (arith, step.1)) (omega (arith, step.1))
       | inr none ↦
           let step = out.at_end (omega arith) in
-          let last : left_after ≡ 54 = step.1 in
-          let window_now = next_window (seed_of start) (55 * (5 + k / 55)) old new window step.0 in
-          record {
-            value = placed (seed_of start) (55 * (5 + k / 55) + 55) (55 * (5 + (k + 1) / 55) + 55 - (k + 1) % 55) left_after new result window_now (omega arith) out.value (omega arith);
-            stands = window_stands start (k + 1) (55 * (5 + k / 55) + 55) new left_after out.flip.cycle window_now (omega arith) (omega arith);
-          }
+          given (55 * (5 + k / 55) + 55) (next_window (seed_of start) (55 * (5 + k / 55)) old new window step.0) (omega (arith, step.1)) (omega (arith, step.1))
     ]
 
 -- so many draws left out, where those behind whole cycles are still to come
 pub skips_inside : (start : ℤ) (k count : ℕ) (old : List ℕ) (left : ℕ) (new : List ℕ) → IsCycle old → IsAtDraw start k old left → HasJumped old (55 * (count / 55)) new → count % 55 ≤ left
     → IsAtDraw start (k + count) new (left - count % 55)
 skips_inside start k count old left new cycle stands jump few =
-    let still = stands.still in
     let window = window_jumped (seed_of start) (55 * (5 + k / 55)) (55 * (count / 55)) old new cycle (stands_window start k old left stands) jump in
-    window_stands start (k + count) (55 * (5 + k / 55) + 55 * (count / 55)) new (left - count % 55) jump.cycle window (omega arith) (omega arith)
+    grind (arith, stands, window_stands, window, window)
 
 -- and where they lead to one cycle more
 pub skips_over : (start : ℤ) (k count : ℕ) (old : List ℕ) (left : ℕ) (new next : List ℕ) → IsCycle old → IsAtDraw start k old left → HasJumped old (55 * (count / 55)) new → IsNextCycle new next → left < count % 55
@@ -96,19 +89,15 @@ skips_over start k count old left new next cycle stands jump follows many =
 
 -- what is handed out is below 2^31
 pub result_below : (old : List ℕ) (left result : ℕ) (new : List ℕ) (left_after : ℕ) → HandsOut old left result new left_after → result < modulus
-result_below old left result new left_after out =
-    let inside : left_after < 55 = omega (arith, out.flip.few) in
-    rw out.value (out.flip.cycle.below left_after inside)
+result_below old left result new left_after out = grind (arith)
 
 -- a start value modulo 2^31 is its remainder that is not negative
 pub remainder_is_seed : (z : ℤ) → nat_abs (int_rem_euclid z (pos modulus)) ≡ seed_of z
-remainder_is_seed (pos n) = refl
-remainder_is_seed (negsuc n) = refl
+remainder_is_seed z = grind (arith)
 
 -- and below 2^31
 pub seed_below : (z : ℤ) → seed_of z < modulus
-seed_below (pos n) = omega arith
-seed_below (negsuc n) = omega arith
+seed_below z = grind (arith)
 
 -- a cycle that has the numbers X(n + 1) to X(n + 55)
 pub record IsCycleFrom (seed n : ℕ) (numbers : List ℕ) : Type 0 where
@@ -150,9 +139,7 @@ thrown_more start m k old left result new left_after has out above =
       from_place = omega (arith, has.from_place);
       thrown_away = λ t low high. elim (cases_lt t has.next) [
         | inl before ↦ has.thrown_away t low before
-        | inr at ↦
-            let same : has.next ≡ t = omega arith in
-            subst (λ i. bound_below m ≤ draw (seed_of start) i) same here
+        | inr at ↦ grind (arith)
       ];
       stands = drawn.stands;
     }
@@ -162,5 +149,4 @@ pub uniform_taken : (start : ℤ) (m k : ℕ) (old : List ℕ) (left result : �
     → (last : ℕ) × IsUniformDraw (seed_of start) m k (result % m) last × IsAtDraw start (last + 1) new left_after
 uniform_taken start m k old left result new left_after has out below =
     let drawn = hands_out_draw start has.next old left result new left_after has.stands out in
-    let here : draw (seed_of start) has.next < bound_below m = subst (λ x. x < bound_below m) drawn.value below in
-    (has.next, record { from_place = has.from_place; taken = here; thrown_away = has.thrown_away; value = ap (λ x. x % m) drawn.value }, drawn.stands)
+    grind (arith, drawn)

@@ -9,15 +9,11 @@ use Rattle.sgb_graph.specs.inner.KeptVertices.{AreColumns, combined, in_front, r
 -- two lists made one: how many elements, each by its place, one more
 pub length-combined : {X Y Z : Type 0} (f : X → Y → Z) (xs : List X) (ys : List Y) → length xs ≡ length ys → length (combined f xs ys) ≡ length ys
 length-combined f [] [] e = refl
-length-combined f [] (y ∷ ys) e = absurd (omega (arith, e))
-length-combined f (x ∷ xs) [] e = refl
 length-combined f (x ∷ xs) (y ∷ ys) e = ap suc (length-combined f xs ys (omega (arith, e)))
+length-combined f _ _ e = absurd (omega (arith, e))
 
 pub combined_at : {X Y Z : Type 0} (f : X → Y → Z) (xs : List X) (ys : List Y) (k : ℕ) (x : X) (y : Y) → slice_get xs k ≡ Some x → slice_get ys k ≡ Some y → slice_get (combined f xs ys) k ≡ Some (f x y)
-combined_at f (a ∷ xs) (b ∷ ys) zero x y one other =
-    let same : a ≡ x = cc in
-    let also : b ≡ y = cc in
-    rw (same, also) refl
+combined_at f (a ∷ xs) (b ∷ ys) zero x y one other = grind (arith)
 combined_at f (a ∷ xs) (b ∷ ys) (suc k) x y one other = combined_at f xs ys k x y one other
 combined_at f _ _ k x y one other = absurd cc
 
@@ -49,9 +45,7 @@ combined-at_second f g h v _ _ same = refl
 -- the number of rows
 pub length-rows : {X : Type 0} (n : ℕ) (columns : List (List X)) → AreColumns n columns → length (rows n columns) ≡ n
 length-rows n [] whole = length-replicate n []
-length-rows n (column ∷ columns) whole =
-    let others = length-rows n columns whole.1 in
-    length-combined (λ x row. x ∷ row) column (rows n columns) (whole.0 ∙ sym others) ∙ others
+length-rows n (column ∷ columns) whole = grind (arith, length-combined, length-rows n columns whole.1)
 
 -- the row at place k has these elements
 abbrev pub IsRow : {X : Type 0} → ℕ → List (List X) → List X → Type 0

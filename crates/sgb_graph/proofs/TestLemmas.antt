@@ -1,7 +1,7 @@
 -- Facts from tests that are tried out.
-use Rattle.std.specs.Prelude.{◌≡◌, ℕ, ◌+◌, ◌<◌, Bool, true, false, not, ◌&&◌, ◌||◌, length, refl}
+use Rattle.std.specs.Prelude.{◌≡◌, ℕ, ◌<◌, Bool, true, not, ◌&&◌, ◌||◌, length}
 use Rattle.std.specs.List.{list_all, range_with_len}
-use Rattle.std.proofs.Common.{arith, ◌∙◌, subst}
+use Rattle.std.proofs.Common.{arith}
 use Rattle.std.proofs.lemmas.List.Sums.{AllPass-from_list_all}
 use Rattle.std.proofs.lemmas.List.FromFn.{length-range_with_len, get_or-range_with_len}
 
@@ -10,21 +10,15 @@ pub at_each_below : (test : ℕ → Bool) (n : ℕ) → list_all test (range_wit
 at_each_below test n passes k below =
     let inside : k < length (range_with_len 0 n) = rw length-range_with_len below in
     let there = AllPass-from_list_all test (range_with_len 0 n) passes k 0 inside in
-    let place = get_or-range_with_len 0 n k 0 below in
-    let from_zero : 0 + k ≡ k = omega arith in
-    let Passes : ℕ → Type 0 = λ j. test j ≡ true in
-    subst Passes (place ∙ from_zero) there
+    grind (arith, get_or-range_with_len, inside, there)
 
 -- of two tests that both pass, the first and the second
 pub both_first : (p q : Bool) → (p && q) ≡ true → p ≡ true
-both_first true q e = refl
-both_first false q e = e
+both_first p q e = grind (arith)
 
 pub both_second : (p q : Bool) → (p && q) ≡ true → q ≡ true
-both_second true q e = e
-both_second false q e = absurd cc
+both_second p q e = grind (arith)
 
 -- a test that passes where another does
 pub where_passes : (p q : Bool) → (not p || q) ≡ true → p ≡ true → q ≡ true
-where_passes true q e h = e
-where_passes false q e h = absurd cc
+where_passes p q e h = grind (arith)

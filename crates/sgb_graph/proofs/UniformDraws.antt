@@ -1,7 +1,7 @@
 -- Of 1760 draws in a row one is below the bound of a uniform draw, so that each uniform draw is found.
-use Rattle.std.specs.Prelude.{◌≡◌, ℕ, zero, suc, ◌+◌, ◌-◌, ◌*◌, ◌/◌, ◌%◌, ◌^◌, ◌<◌, ◌≤◌, Bool, true, false, cond, Option, Some, None, find, nat_lt, unwrap_or, refl}
+use Rattle.std.specs.Prelude.{◌≡◌, ℕ, zero, suc, ◌+◌, ◌-◌, ◌*◌, ◌/◌, ◌%◌, ◌^◌, ◌<◌, ◌≤◌, Option, Some, None, find, nat_lt, unwrap_or, refl}
 use Rattle.std.specs.List.{range_with_len}
-use Rattle.std.proofs.Common.{rules, arith, ap, ◌∙◌, subst, inl, inr}
+use Rattle.std.proofs.Common.{rules, arith, ap, subst}
 use Rattle.std.proofs.Math.Nat.{two-pow-succ}
 use Rattle.std.proofs.lemmas.Bool.{cases_lt}
 use Rattle.std.proofs.lemmas.Bool.Decides.{Decides-ltb}
@@ -24,9 +24,7 @@ record IsSequence (x : ℕ → ℕ) (base : ℕ) : Type 0 where
 -- where none up to a last one is below such a bound, those 55 j places before it are 2^j below 2^31
 far_below : (x : ℕ → ℕ) (bound base last : ℕ) → 2 ^ 30 < bound → IsSequence x base → ((n : ℕ) → base ≤ n → n ≤ last → bound ≤ x n)
     → (j n : ℕ) → base ≤ n → n + 55 * j ≤ last → 2 ^ j ≤ modulus - x n
-far_below x bound base last high is above zero n low inside =
-    let small = is.small n low in
-    omega arith
+far_below x bound base last high is above zero n low inside = omega (arith, is.small n low)
 far_below x bound base last high is above (suc j) n low inside =
     let next = far_below x bound base last high is above j (n + 55) (omega arith) (omega arith) in
     let other = far_below x bound base last high is above j (n + 31) (omega arith) (omega arith) in
@@ -38,15 +36,13 @@ far_below x bound base last high is above (suc j) n low inside =
 one_below : (x : ℕ → ℕ) (bound base : ℕ) → 2 ^ 30 < bound → IsSequence x base → ¬ ((n : ℕ) → base ≤ n → n ≤ base + 1650 → bound ≤ x n)
 one_below x bound base high is above =
     let far = far_below x bound base (base + 1650) high is above 30 base (omega arith) (omega arith) in
-    let first = above base (omega arith) (omega arith) in
-    omega arith
+    grind (arith, far)
 
 -- the numbers after the first cycle are such
 sequence_from : (seed base : ℕ) → 55 < base → IsSequence (x_number seed) base
 sequence_from seed base after = record {
   small = λ n low. rw (later_number seed n (omega arith)) (difference_below (x_number seed (n - 55)) (x_number seed (n - 24)));
-  rule = λ n low. later_number seed (n + 55) (omega arith)
-      ∙ (ap (λ (a : ℕ). difference (x_number seed a) (x_number seed (n + 55 - 24))) (omega arith) ∙ ap (λ (b : ℕ). difference (x_number seed n) (x_number seed b)) (omega arith));
+  rule = grind (arith, later_number);
 }
 
 -- each number from X(331) on is a draw
@@ -69,26 +65,11 @@ one_draw_below seed bound k high above =
 found_none : (value : ℕ → ℕ) (bound many k : ℕ) → find (λ t. nat_lt (value t) bound) (range_with_len k many) ≡ None
     → (t : ℕ) → k ≤ t → t < k + many → bound ≤ value t
 found_none value bound zero k e = λ t low up. absurd (omega arith)
-found_none value bound (suc many) k e = here_and_later (found_none value bound many (k + 1)) (nat_lt (value k) bound) refl e
-  where
-    here_and_later : (find (λ t. nat_lt (value t) bound) (range_with_len (k + 1) many) ≡ None → (t : ℕ) → k + 1 ≤ t → t < k + 1 + many → bound ≤ value t)
-        → (b : Bool) → nat_lt (value k) bound ≡ b → cond b (Some k) (find (λ t. nat_lt (value t) bound) (range_with_len (k + 1) many)) ≡ None
-        → (t : ℕ) → k ≤ t → t < k + suc many → bound ≤ value t
-    here_and_later later true test none t low up = absurd cc
-    here_and_later later false test none t low up =
-        elim (cases_lt k t) [
-          | inl after ↦ later none t (omega arith) (omega arith)
-          | inr at ↦
-              let same : k ≡ t = omega arith in
-              let above : bound ≤ value k = grind (arith, test, Decides-ltb (value k) bound) in
-              let Above : ℕ → Type 0 = λ i. bound ≤ value i in
-              subst Above same above
-        ]
+found_none value bound (suc many) k e = grind (arith, cases_lt, Decides-ltb, found_none value bound many (k + 1))
 
 -- a search that finds one gives the number that it finds
 found_or : (found : Option ℕ) (other : ℕ) → ¬ (found ≡ None) → found ≡ Some (unwrap_or found other)
-found_or None other some = absurd (some refl)
-found_or (Some t) other some = refl
+found_or found other some = grind (arith)
 
 -- among so many draws the search for the one that a uniform draw takes finds it
 pub used_draw_found : (seed m k : ℕ) → 1 ≤ m → m ≤ modulus → first_taken seed m k most_tried ≡ Some (used_draw seed m k)

@@ -1,5 +1,5 @@
 -- How long a generator may hand out numbers from a bound on, where that bound is above 2^30.
-use Rattle.std.proofs.Common.{rules, ◌≡◌, ℕ, ◌+◌, ◌-◌, ◌*◌, ◌^◌, ◌<◌, ◌≤◌, ◌≢◌, ◌⊎◌, Bool, true, false, ◌&&◌, ◌||◌, cond, List, get_or, ap, sym, ◌∙◌, subst, inl, inr, arith, ltb, leb}
+use Rattle.std.proofs.Common.{rules, ◌≡◌, ℕ, ◌+◌, ◌-◌, ◌*◌, ◌^◌, ◌<◌, ◌≤◌, Bool, ◌&&◌, ◌||◌, cond, List, get_or, inl, inr, arith, ltb, leb}
 use Rattle.std.proofs.lemmas.Bool.{cases_lt, cases_Bool, cond-true, cond-false, cond_both, or_cases, or_parts, or_left, or_right, and_parts, and_from, ltb-true, ltb-false, leb-true, lt-ltb, le-leb}
 use Rattle.std.proofs.lemmas.Nat.{le-div, mod_below}
 use Rattle.std.proofs.Math.Nat.{div-add-mod, mul-le-mul_left}
@@ -41,30 +41,7 @@ waiting_of bound first other next_first next_other left =
 -- one number less, which was not below the bound
 waiting_on : (bound first other next_first next_other left : ℕ) → 0 < left → (left ≡ 1 → bound ≤ first) → (left ≡ 32 → bound ≤ other)
     → waiting_of bound first other next_first next_other (left - 1) < waiting_of bound first other next_first next_other left
-waiting_on bound first other next_first next_other left some not_first not_other = by_cases (cases_Bool (stops_within bound first other left))
-  where
-    less : ℕ
-    less = waiting_of bound first other next_first next_other (left - 1)
-
-    not_one : first < bound → left ≢ 1
-    not_one low one = let high = not_first one in omega arith
-
-    not_32 : other < bound → left ≢ 32
-    not_32 low last = let high = not_other last in omega arith
-
-    still_stops : stops_within bound first other left ≡ true → stops_within bound first other (left - 1) ≡ true
-    still_stops stops = grind (arith, or_cases, and_parts, not_one, ltb-true, or_left, and_from, lt-ltb, not_32, or_right)
-
-    by_cases : (stops_within bound first other left ≡ true) ⊎ (stops_within bound first other left ≡ false) → less < waiting_of bound first other next_first next_other left
-    by_cases (inl stops) =
-        let now = cond-true (stops_within bound first other left) left (left + 55 + 55 * cycles_left bound next_first next_other) stops in
-        let then = cond-true (stops_within bound first other (left - 1)) (left - 1) (left - 1 + 55 + 55 * cycles_left bound next_first next_other) (still_stops stops) in
-        rw (now, then) (omega arith)
-    by_cases (inr goes_on) =
-        let now = cond-false (stops_within bound first other left) left (left + 55 + 55 * cycles_left bound next_first next_other) goes_on in
-        rw now
-        (cond_both (stops_within bound first other (left - 1)) (left - 1) (left - 1 + 55 + 55 * cycles_left bound next_first next_other) (λ n. n < left + 55 + 55 * cycles_left bound next_first next_other)
-        (λ _. omega arith) (λ _. omega arith))
+waiting_on bound first other next_first next_other left some not_first not_other = grind (arith, cases_Bool, stops_within, waiting_of, or_cases, and_parts, ltb-true, or_left, and_from, lt-ltb, or_right, cond-true, cycles_left, cond-false, cond_both)
 
 -- a cycle more
 waiting_next : (bound old_first old_other first other next_other : ℕ) → 2 ^ 30 < bound → first < modulus → other < modulus
@@ -84,28 +61,13 @@ waiting_falls bound old left result new left_after high out above =
     let first_after = difference (get_or old 0 0) (get_or old 31 0) in
     let other_after = difference (get_or old 31 0) (difference (get_or old 7 0) (get_or old 38 0)) in
     elim (cases_lt 0 left) [
-      | inl some ↦
-          let step = out.inside (omega arith) in
-          let at_place : (p : ℕ) → left_after ≡ p → bound ≤ get_or old p 0 = λ p place.
-          let value : result ≡ get_or old p 0 = out.value ∙ (ap (λ xs. get_or xs left_after 0) step.0 ∙ ap (λ q. get_or old q 0) place) in
-          subst (λ x. bound ≤ x) value above in
-          let lower : left_after + 1 ≡ left = step.1 in
-          let place : left - 1 ≡ left_after = omega arith in
-          let nearer = waiting_on bound (get_or old 0 0) (get_or old 31 0) first_after other_after left some (λ one. at_place 0 (omega arith)) (λ last. at_place 31 (omega arith)) in
-          subst (λ (xs : List ℕ). waiting bound xs left_after < waiting bound old left) (sym step.0)
-          (subst (λ p. waiting bound old p < waiting bound old left) place nearer)
+      | inl some ↦ grind (arith, waiting_on, waiting)
       | inr none ↦
           let step = out.at_end (omega arith) in
           let next : IsNextCycle old new = step.0 in
-          let zero : 0 ≡ left = omega arith in
           let first_is : get_or new 0 0 ≡ first_after = next.early 0 (omega arith) in
-          let other_is : get_or new 31 0 ≡ other_after =
-          next.late 31 (omega arith) (omega arith) ∙ ap (λ b. difference (get_or old 31 0) b) (next.early 7 (omega arith)) in
+          let other_is : get_or new 31 0 ≡ other_after = grind (arith) in
           let nearer = waiting_next bound (get_or old 0 0) (get_or old 31 0) (get_or new 0 0) (get_or new 31 0)
           (difference (get_or new 31 0) (difference (get_or new 7 0) (get_or new 38 0))) high (next.cycle.below 0 (omega arith)) (next.cycle.below 31 (omega arith)) in
-          let same : waiting_of bound (get_or old 0 0) (get_or old 31 0) (get_or new 0 0) (get_or new 31 0) 0 ≡ waiting bound old left =
-          ap (λ a. waiting_of bound (get_or old 0 0) (get_or old 31 0) a (get_or new 31 0) 0) first_is
-          ∙ (ap (λ b. waiting_of bound (get_or old 0 0) (get_or old 31 0) first_after b 0) other_is ∙ ap (λ p. waiting bound old p) zero) in
-          subst (λ n. waiting bound new left_after < n) same
-          (subst (λ p. waiting bound new p < waiting_of bound (get_or old 0 0) (get_or old 31 0) (get_or new 0 0) (get_or new 31 0) 0) (sym step.1) nearer)
+          grind (arith, waiting_of, waiting, step, first_is, other_is, nearer)
     ]

@@ -1,8 +1,9 @@
 -- Graphs that grow by an arc or an edge at a time: their records and first records, worked out by hand.
 use Rattle.std.specs.Prelude.{◌≡◌, ℕ, pos, Bool, true, false, List, [], ◌∷◌, codes, refl, Option, Some, None}
+use Rattle.std.specs.Fmt.{digits}
 use Rattle.sgb_graph.specs.Graphs.{GraphData}
 use Rattle.sgb_graph.specs.Events.{Event, list_from}
-use Rattle.sgb_graph.specs.Growth.{graph_data, new_graph, with_arc, with_edge, with_events, with_id, with_ints}
+use Rattle.sgb_graph.specs.Growth.{HasPlainArcs, graph_data, new_graph, with_arc, with_edge, with_events, with_id, with_ints, with_uu}
 use Rattle.sgb_graph.specs.Made.{no_fields, no_kinds}
 use Rattle.sgb_graph.specs.declared.fields.Kind.TheVariants.{Z, I}
 use Rattle.sgb_graph.specs.declared.fields.Ref.TheVariants.{At}
@@ -75,3 +76,16 @@ pub numbers_put : numbered ≡ graph_data (codes "n") 0 (Z ∷ Z ∷ Z ∷ I ∷
     (record { name = codes "a"; arcs = None; util = Nothing ∷ Nothing ∷ Nothing ∷ Int (pos 7) ∷ Int (pos 0) ∷ Int (pos 0) ∷ [] }
     ∷ record { name = codes "b"; arcs = None; util = Nothing ∷ Nothing ∷ Nothing ∷ Int (pos 1) ∷ Int (pos 2) ∷ Int (pos 3) ∷ [] } ∷ []) []
 numbers_put = refl
+
+-- the id of a new graph of four vertices, whose arcs have no utility fields
+pub new_id_of_four : (new_graph names).id ≡ codes "gb_new_graph(4)"
+unfolding digits
+new_id_of_four = refl
+
+pub new_arcs_are_plain : HasPlainArcs (new_graph names)
+new_arcs_are_plain = refl
+
+-- a number in the graph's own field uu
+pub uu_put : with_uu (pos 5) brought
+    ≡ record brought { kinds = Z ∷ Z ∷ Z ∷ Z ∷ Z ∷ Z ∷ Z ∷ Z ∷ I ∷ Z ∷ Z ∷ Z ∷ Z ∷ Z ∷ []; util = Int (pos 5) ∷ Nothing ∷ Nothing ∷ Nothing ∷ Nothing ∷ Nothing ∷ [] }
+uu_put = refl

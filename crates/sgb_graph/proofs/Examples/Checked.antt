@@ -55,26 +55,19 @@ unfolding ends_from numbers_from
 nothing_at_all = refl
 
 -- two records that are each other's next one, on no list and on one; and one that is its own
-pub ring_of_two : checked (parts (vertex None ∷ []) (arc (At 0) (Some 1) ∷ arc (At 0) (Some 0) ∷ [])) ≡ Err Syntax
+pub rings :
+    (checked (parts (vertex None ∷ []) (arc (At 0) (Some 1) ∷ arc (At 0) (Some 0) ∷ [])) ≡ Err Syntax)
+    × (checked (parts (vertex (Some 1) ∷ []) (arc (At 0) (Some 1) ∷ arc (At 0) (Some 0) ∷ [])) ≡ Err Syntax)
+    × (checked (parts [] (arc Null (Some 0) ∷ [])) ≡ Err Syntax)
 unfolding ends_from numbers_from
-ring_of_two = refl
-
-pub ring_on_a_list : checked (parts (vertex (Some 1) ∷ []) (arc (At 0) (Some 1) ∷ arc (At 0) (Some 0) ∷ [])) ≡ Err Syntax
-unfolding ends_from numbers_from
-ring_on_a_list = refl
-
-pub ring_of_one : checked (parts [] (arc Null (Some 0) ∷ [])) ≡ Err Syntax
-unfolding ends_from numbers_from
-ring_of_one = refl
+rings = (refl, refl, refl)
 
 -- a tip that is no vertex: first on a list, later on it, and on none
-pub null_on_a_list : checked (parts (vertex (Some 0) ∷ []) (arc Null None ∷ [])) ≡ Err Syntax
+pub no_vertices :
+    (checked (parts (vertex (Some 0) ∷ []) (arc Null None ∷ [])) ≡ Err Syntax)
+    × (checked (parts (vertex (Some 1) ∷ []) (arc One None ∷ arc (At 0) (Some 0) ∷ [])) ≡ Err Syntax)
 unfolding ends_from numbers_from
-null_on_a_list = refl
-
-pub one_later_on_a_list : checked (parts (vertex (Some 1) ∷ []) (arc One None ∷ arc (At 0) (Some 0) ∷ [])) ≡ Err Syntax
-unfolding ends_from numbers_from
-one_later_on_a_list = refl
+no_vertices = (refl, refl)
 
 abbrev apart : GraphData
 apart = parts (vertex (Some 1) ∷ []) (arc Null None ∷ arc (At 0) None ∷ arc One (Some 0) ∷ [])
@@ -96,13 +89,11 @@ unfolding numbers_from
 shared_list = refl
 
 -- a vertex or a record whose number is too great
-pub tip_too_great : checked (parts (vertex None ∷ []) (arc (At 1) None ∷ [])) ≡ Err Syntax
+pub numbers_too_great :
+    (checked (parts (vertex None ∷ []) (arc (At 1) None ∷ [])) ≡ Err Syntax)
+    × (checked (parts [] (arc Null (Some 1) ∷ [])) ≡ Err Syntax)
 unfolding ends_from numbers_from
-tip_too_great = refl
-
-pub next_too_great : checked (parts [] (arc Null (Some 1) ∷ [])) ≡ Err Syntax
-unfolding ends_from numbers_from
-next_too_great = refl
+numbers_too_great = (refl, refl)
 
 -- parts with one kind changed, one value of the vertex, one of the record and one of the graph
 abbrev fielded : ℕ → Kind → Util → Util → Util → GraphData
@@ -112,66 +103,29 @@ fielded place kind own other whole =
     (record { tip = Null; next = None; len = pos 1; a = Nothing; b = other } ∷ [])
 
 -- an integer field with nothing, and one not used with an integer, in a vertex, a record and the graph
-pub no_integer : checked (fielded 0 I Nothing Nothing Nothing) ≡ Err Syntax
+pub integers :
+    (checked (fielded 0 I Nothing Nothing Nothing) ≡ Err Syntax)
+    × (checked (fielded 0 I (Int (pos 7)) Nothing Nothing) ≡ Ok (fielded 0 I (Int (pos 7)) Nothing Nothing))
+    × (checked (fielded 0 Z (Int (pos 7)) Nothing Nothing) ≡ Err Syntax)
+    × (checked (fielded 0 Z Nothing (Int (pos 7)) Nothing) ≡ Err Syntax)
+    × (checked (fielded 0 Z Nothing Nothing (Int (pos 7))) ≡ Err Syntax)
+    × (checked (fielded 7 I Nothing (Int (pos 7)) Nothing) ≡ Ok (fielded 7 I Nothing (Int (pos 7)) Nothing))
+    × (checked (fielded 7 I Nothing Nothing Nothing) ≡ Err Syntax)
+    × (checked (fielded 13 I Nothing Nothing (Int (pos 7))) ≡ Ok (fielded 13 I Nothing Nothing (Int (pos 7))))
+    × (checked (fielded 13 I Nothing Nothing Nothing) ≡ Err Syntax)
 unfolding ends_from numbers_from
-no_integer = refl
-
-pub integer_of_a_vertex : checked (fielded 0 I (Int (pos 7)) Nothing Nothing) ≡ Ok (fielded 0 I (Int (pos 7)) Nothing Nothing)
-unfolding ends_from numbers_from
-integer_of_a_vertex = refl
-
-pub integer_not_used : checked (fielded 0 Z (Int (pos 7)) Nothing Nothing) ≡ Err Syntax
-unfolding ends_from numbers_from
-integer_not_used = refl
-
-pub integer_not_used_in_a_record : checked (fielded 0 Z Nothing (Int (pos 7)) Nothing) ≡ Err Syntax
-unfolding ends_from numbers_from
-integer_not_used_in_a_record = refl
-
-pub integer_not_used_in_the_graph : checked (fielded 0 Z Nothing Nothing (Int (pos 7))) ≡ Err Syntax
-unfolding ends_from numbers_from
-integer_not_used_in_the_graph = refl
-
-pub integer_of_a_record : checked (fielded 7 I Nothing (Int (pos 7)) Nothing) ≡ Ok (fielded 7 I Nothing (Int (pos 7)) Nothing)
-unfolding ends_from numbers_from
-integer_of_a_record = refl
-
-pub no_integer_of_a_record : checked (fielded 7 I Nothing Nothing Nothing) ≡ Err Syntax
-unfolding ends_from numbers_from
-no_integer_of_a_record = refl
-
-pub integer_of_the_graph : checked (fielded 13 I Nothing Nothing (Int (pos 7))) ≡ Ok (fielded 13 I Nothing Nothing (Int (pos 7)))
-unfolding ends_from numbers_from
-integer_of_the_graph = refl
-
-pub no_integer_of_the_graph : checked (fielded 13 I Nothing Nothing Nothing) ≡ Err Syntax
-unfolding ends_from numbers_from
-no_integer_of_the_graph = refl
+integers = (refl, refl, refl, refl, refl, refl, refl, refl, refl)
 
 -- a string, a vertex that is there, and one that is not; a record that is there, and one that is not
-pub string_of_a_vertex : checked (fielded 0 S (Str (codes "s")) Nothing Nothing) ≡ Ok (fielded 0 S (Str (codes "s")) Nothing Nothing)
+pub other_fields :
+    (checked (fielded 0 S (Str (codes "s")) Nothing Nothing) ≡ Ok (fielded 0 S (Str (codes "s")) Nothing Nothing))
+    × (checked (fielded 7 V Nothing (VertexField (At 0)) Nothing) ≡ Ok (fielded 7 V Nothing (VertexField (At 0)) Nothing))
+    × (checked (fielded 13 V Nothing Nothing (VertexField One)) ≡ Ok (fielded 13 V Nothing Nothing (VertexField One)))
+    × (checked (fielded 0 V (VertexField (At 1)) Nothing Nothing) ≡ Err Syntax)
+    × (checked (fielded 13 A Nothing Nothing (Chain (Some 0))) ≡ Ok (fielded 13 A Nothing Nothing (Chain (Some 0))))
+    × (checked (fielded 13 A Nothing Nothing (Chain (Some 1))) ≡ Err Syntax)
 unfolding ends_from numbers_from
-string_of_a_vertex = refl
-
-pub vertex_of_a_record : checked (fielded 7 V Nothing (VertexField (At 0)) Nothing) ≡ Ok (fielded 7 V Nothing (VertexField (At 0)) Nothing)
-unfolding ends_from numbers_from
-vertex_of_a_record = refl
-
-pub one_of_the_graph : checked (fielded 13 V Nothing Nothing (VertexField One)) ≡ Ok (fielded 13 V Nothing Nothing (VertexField One))
-unfolding ends_from numbers_from
-one_of_the_graph = refl
-
-pub vertex_too_great : checked (fielded 0 V (VertexField (At 1)) Nothing Nothing) ≡ Err Syntax
-unfolding ends_from numbers_from
-vertex_too_great = refl
-
-pub arc_of_the_graph : checked (fielded 13 A Nothing Nothing (Chain (Some 0))) ≡ Ok (fielded 13 A Nothing Nothing (Chain (Some 0)))
-unfolding ends_from numbers_from
-arc_of_the_graph = refl
-
-pub arc_too_great : checked (fielded 13 A Nothing Nothing (Chain (Some 1))) ≡ Err Syntax
-unfolding ends_from numbers_from
-arc_too_great = refl
+other_fields = (refl, refl, refl, refl, refl, refl)
 
 -- the answer is that of the definition, or out of memory
 pub other_graph : IsValue (Ok loop) (Ok shared) → ⊥

@@ -1,4 +1,4 @@
-use Rattle.std.proofs.Common.{◌≡◌, true, List, length, sym, ◌∙◌, ap}
+use Rattle.std.proofs.Common.{◌≡◌, true, List, length, sym, ◌∙◌, ap, arith, rules}
 use Rattle.std.specs.List.{list_all, range_with_len}
 use Rattle.sgb_graph.specs.Graphs.{GraphData}
 use Rattle.sgb_graph.specs.Sound.{chains_end}
@@ -9,10 +9,7 @@ use Rattle.sgb_graph.proofs.CheckedParts.{lists_end}
 use Rattle.sgb_graph.proofs.parts.kept.KeptParts.are_sound.Goals as goal
 
 pub returns-then-lead_back : goal.returns-then-lead_back
-returns-then-lead_back c =
-    let arcs = ap (λ (g : GraphData). g.records) c.self.view_is in
-    sym (back_is_sound c.args.self.now
-    (ap (λ (rs : List ArcRec). list_all (leads_back rs) (range_with_len 0 (length rs))) (sym arcs) ∙ (sym c.lead_back.ensures ∙ c.if-lead_back.true)))
+returns-then-lead_back c = grind (arith, back_is_sound)
 
 pub lists_lead_to_vertices-requires-clause-ends : goal.lists_lead_to_vertices-requires-clause-ends
 lists_lead_to_vertices-requires-clause-ends c =
