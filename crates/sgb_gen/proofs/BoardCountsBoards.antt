@@ -1,7 +1,6 @@
 -- The counts of a board, as the code finds them: by its sides, its lengths and its displacements.
-use lib.Signed.{lt_z}
-use Rattle.std.proofs.Common.{rules, ◌≡◌, ℕ, zero, suc, ◌+◌, ◌-◌, ◌*◌, ◌^◌, ◌<◌, ◌≤◌, min, ℤ, pos, negsuc, ◌*ℤ◌, nat_abs, to_z, of_z, w32, w64, SFits, Bool, true, false, ◌&&◌, cond, ltb, List, [], ◌∷◌, length, map, get_or, drop, Option, Some, None, refl, sym, ap, ◌∙◌, inl, inr, arith}
-use Rattle.std.specs.List.{All, filter}
+use Rattle.std.proofs.Common.{rules, ◌≡◌, ℕ, zero, suc, ◌+◌, ◌-◌, ◌*◌, ◌^◌, ◌<◌, ◌≤◌, min, ℤ, pos, ◌*ℤ◌, nat_abs, to_z, of_z, w32, w64, SFits, Bool, true, false, ◌&&◌, cond, ltb, List, [], ◌∷◌, length, map, get_or, drop, Option, None, refl, sym, ap, ◌∙◌, arith}
+use Rattle.std.specs.List.{All}
 use Rattle.std.specs.Option.{is_some, SomeIff}
 use Rattle.std.proofs.lemmas.Bool.{cases_Bool, cases_lt, ltb-true}
 use Rattle.std.proofs.lemmas.Int.{to_z-of_z}
@@ -49,15 +48,7 @@ product-step sizes wrap t l k h i =
 -- a product that is cut is the same where a factor has been cut before
 cut_twice : (a b m : ℕ) → min (min a m * b) m ≡ min (a * b) m
 cut_twice a zero m = omega arith
-cut_twice a (suc b) m =
-    elim (cases_lt m a) [
-      | inl more ↦
-          let cut : min a m ≡ m = omega arith in
-          ap (λ n. min (n * suc b) m) cut ∙ omega (arith, more, mul-le m 1 m (suc b) (omega arith) (omega arith), mul-le a 1 a (suc b) (omega arith) (omega arith))
-      | inr less ↦
-          let whole : min a m ≡ a = omega arith in
-          ap (λ n. min (n * suc b) m) whole
-    ]
+cut_twice a (suc b) m = grind (arith, cases_lt, min, mul-le)
 
 -- the product so far and that of the sides that are left, cut, are the whole one, cut
 abbrev pub IsProductSoFar : List ℕ → ℤ → List ℤ → ℕ → ℕ → ℕ → Type 0
@@ -106,30 +97,17 @@ counts-home sizes wrap piece t l home = sym (starts-home (sides_of sizes wrap) p
 
 passing-le : {X : Type 0} (p : X → Bool) (xs : List X) → passing p xs ≤ length xs
 passing-le p [] = omega arith
-passing-le p (x ∷ xs) =
-    let rest = passing-le p xs in
-    let here = passing_first (p x) x (filter p xs) in
-    elim (p x) as (λ b. length (cond b (x ∷ filter p xs) (filter p xs)) ≤ length (x ∷ xs)) [
-      | true ↦ omega (arith, rest)
-      | false ↦ omega (arith, rest)
-    ]
+passing-le p (x ∷ xs) = grind (arith, passing_first, cond, passing-le p xs)
 
 -- it is at most the number of places
 pub product-small : (sizes : List ℕ) (wrap : ℤ) (t : List ℤ) (l : ℕ) → length t ≡ length sizes → starts_product (sides_of sizes wrap) t l ≤ product_of sizes
 product-small sizes wrap t l e =
     omega (arith, places_passing sizes wrap t l e, passing-le (λ x. is_some (place (sides_of sizes wrap) x t l)) (box sizes), length-box sizes)
 
--- where it is not 0 no side is
-starts_on-pos : (wraps : Bool) (n u : ℕ) → 0 < cond wraps n (n - u) → 0 < n
-starts_on-pos true n u h = h
-starts_on-pos false n u h = omega arith
-
 pub sizes-pos : (k : ℕ) (sizes : List ℕ) (wrap : ℤ) (t : List ℤ) (l : ℕ) → 0 < starts_product (sides_from_bit k sizes wrap) t l → All (λ n. 0 < n) sizes
 sizes-pos k [] wrap t l h = All-nil (λ n. 0 < n)
 sizes-pos k (n ∷ sizes) wrap [] l h = absurd (omega arith)
-sizes-pos k (n ∷ sizes) wrap (u ∷ t) l h =
-    let parts = factors-pos (starts_on (record { size = n; wraps = is_bit_set wrap k }) (pos l *ℤ u)) (starts_product (sides_from_bit (k + 1) sizes wrap) t l) h in
-    All-cons (λ m. 0 < m) n sizes (starts_on-pos (is_bit_set wrap k) n (nat_abs (pos l *ℤ u)) parts.0) (sizes-pos (k + 1) sizes wrap t l parts.1)
+sizes-pos k (n ∷ sizes) wrap (u ∷ t) l h = grind (arith, factors-pos, All-cons, nat_abs, sizes-pos (k + 1) sizes wrap t l (factors-pos (starts_on (record { size = n; wraps = is_bit_set wrap k }) (pos l *ℤ u)) (starts_product (sides_from_bit (k + 1) sizes wrap) t l) h).1)
 
 -- ---- the moves by a displacement, length by length
 
@@ -167,13 +145,8 @@ arcs-undirected (e ∷ events) = omega (arith, arcs-undirected events)
 
 -- ---- what the code reads of a side
 
--- the step on side number k
-step_read : (t : List ℤ) (l k : ℕ) (u : ℤ) → SFits w64 u → SFits w32 (get_or t k (pos 0)) → u ≡ pos l *ℤ to_z w32 (of_z w32 (get_or t k (pos 0))) → to_z w64 (of_z w64 u) ≡ pos l *ℤ get_or t k (pos 0)
-step_read t l k u f g h = to_z-of_z w64 u f ∙ h ∙ ap (λ z. pos l *ℤ z) (to_z-of_z w32 (get_or t k (pos 0)) g)
-
 pub starts_read : (sizes : List ℕ) (wrap : ℤ) (t : List ℤ) (l k : ℕ) (wraps : Bool) (u : ℤ) (starts : ℕ) → SFits w64 u → SFits w32 (get_or t k (pos 0)) → wraps ≡ is_bit_set wrap k → u ≡ pos l *ℤ to_z w32 (of_z w32 (get_or t k (pos 0))) → starts ≡ starts_on (record { size = get_or sizes k 0; wraps = wraps }) (to_z w64 (of_z w64 u)) → starts ≡ starts_on (side_at sizes wrap k) (pos l *ℤ get_or t k (pos 0))
-starts_read sizes wrap t l k wraps u starts f g e h is =
-    cc (is, step_read t l k u f g h, e)
+starts_read sizes wrap t l k wraps u starts f g e h is = grind (arith, to_z-of_z, w64, w32)
 
 -- as many as places are below the greatest number of 64 bits
 pub product-exact : (sizes : List ℕ) (wrap : ℤ) (t : List ℤ) (l starts : ℕ) → length t ≡ length sizes → product_of sizes ≤ most_vertices → starts ≡ min (starts_product (sides_of sizes wrap) t l) most_of_64 → starts ≡ starts_product (sides_of sizes wrap) t l
@@ -181,15 +154,11 @@ product-exact sizes wrap t l starts e few is = grind (arith, product-small)
 
 -- the test of a rider
 pub rider-home : (sides : List Side) (piece : ℤ) (t : List ℤ) (l : ℕ) → SFits w64 piece → rides piece ≡ true → is_home sides t l ≡ comes_home sides piece t l
-rider-home sides (pos p) t l f h =
-    let below : ltb p 0 ≡ true = ap (λ z. lt_z z (pos 0)) (sym (to_z-of_z w64 (pos p) f)) ∙ h in
-    absurd (omega (arith, ltb-true p 0 below))
-rider-home sides (negsuc p) t l f h = refl
+rider-home sides piece t l f h = grind (arith, ltb, to_z-of_z, w64, ltb-true)
 
 -- what does not fit in 128 bits
 pub great : (o : Option ℕ) (n : ℕ) → o ≡ None → SomeIff o (n < 2 ^ 128) n → 2 ^ 128 ≤ n
-great None n e h = elim (cases_lt n (2 ^ 128)) [ inl less ↦ absurd (h less) | inr more ↦ more ]
-great (Some x) n e h = absurd (cc)
+great o n e h = grind (arith, cases_lt)
 
 -- ---- the arcs of the graph
 
@@ -201,9 +170,5 @@ pub arcs-of-undirected : (b : BoardData) → b.directed ≡ false → (graph_des
 unfolding family_graph
 arcs-of-undirected b e = grind (arith, arcs-undirected, length-map)
 
--- there are as many arcs as moves at least
-moves-le-arcs : (b : BoardData) → length (moves_of_board b) ≤ (graph_described (described_by (board_vector_graph b))).m
-moves-le-arcs b = grind (arith, cases_Bool, arcs-of-directed, arcs-of-undirected)
-
 pub great-moves : (b : BoardData) → 2 ^ 128 ≤ length (moves_of_board b) → 2 ^ 128 ≤ (graph_described (described_by (board_vector_graph b))).m
-great-moves b h = omega (arith, h, moves-le-arcs b)
+great-moves b h = grind (arith, cases_Bool, arcs-of-directed, arcs-of-undirected)

@@ -1,5 +1,5 @@
 -- From how many places of a board steps of a displacement lead to a place: the product over the sides.
-use Rattle.std.proofs.Common.{◌≡◌, ℕ, zero, suc, ◌+◌, ◌-◌, ◌*◌, ◌<◌, ◌≤◌, ℤ, pos, negsuc, ◌+ℤ◌, ◌*ℤ◌, nat_abs, Bool, true, false, ◌&&◌, cond, ltb, List, [], ◌∷◌, length, map, Option, Some, None, refl, sym, ap, ◌∙◌, inl, inr, arith, length-append}
+use Rattle.std.proofs.Common.{◌≡◌, ℕ, zero, suc, ◌+◌, ◌-◌, ◌*◌, ◌≤◌, ℤ, pos, negsuc, ◌+ℤ◌, ◌*ℤ◌, nat_abs, Bool, true, false, ◌&&◌, cond, ltb, List, [], ◌∷◌, length, map, Option, Some, None, refl, ap, ◌∙◌, arith, length-append}
 use Rattle.std.specs.Int.{int_rem_euclid}
 use Rattle.std.specs.List.{filter, flat_map, range_with_len}
 use Rattle.std.specs.Option.{is_some}
@@ -10,7 +10,7 @@ use Rattle.std.proofs.lemmas.List.FromFn.{length-range_with_len}
 use Rattle.sgb_vec.specs.Boxes.{box}
 use Rattle.sgb_vec.proofs.Lists.{passing_first}
 use Rattle.sgb_gen.specs.Moves.{Side, within_size, coordinate_on, in_front, place}
-use Rattle.sgb_gen.specs.inner.BoardCounts.{starts_on, starts_product}
+use Rattle.sgb_gen.specs.inner.BoardCounts.{starts_product}
 use Rattle.sgb_gen.proofs.BoundedMoves.{on_side}
 
 -- how many of them pass
@@ -29,32 +29,11 @@ left-none n y h = ap is_some (cond-false (ltb y n) (Some y) None (le-ltb y n h))
 -- forward the last ones leave it, backward the first ones
 forward : (n m k a : ℕ) → m + k ≡ n → passing (λ x. is_some (within_size n (pos x +ℤ pos a))) (range_with_len m k) ≡ k - a
 forward n m zero a e = omega arith
-forward n m (suc k) a e =
-    let p : ℕ → Bool = λ x. is_some (within_size n (pos x +ℤ pos a)) in
-    let rest = forward n (m + 1) k a (omega arith) in
-    let first = passing_first (p m) m (filter p (range_with_len (m + 1) k)) in
-    elim (cases_lt a (suc k)) [
-      | inl less ↦ first ∙ ap (λ b. cond b 1 0 + passing p (range_with_len (m + 1) k)) (on_side n (m + a) (omega arith)) ∙ omega (arith, rest)
-      | inr more ↦ first ∙ ap (λ b. cond b 1 0 + passing p (range_with_len (m + 1) k)) (left-none n (m + a) (omega arith)) ∙ omega (arith, rest)
-    ]
-
--- a number that is not negative, and one that is
-back-some : (n x a : ℕ) → x < n → a < x → is_some (within_size n (pos x +ℤ negsuc a)) ≡ true
-back-some n x a h g = grind (arith, ints, on_side)
-
-back-none : (n x a : ℕ) → x ≤ a → is_some (within_size n (pos x +ℤ negsuc a)) ≡ false
-back-none n x a g = grind (arith, ints)
+forward n m (suc k) a e = grind (arith, passing_first, cases_lt, cond, passing, on_side, left-none, forward n (m + 1) k a (omega arith))
 
 backward : (n m k a : ℕ) → m + k ≡ n → passing (λ x. is_some (within_size n (pos x +ℤ negsuc a))) (range_with_len m k) ≡ (n - suc a) - (m - suc a)
 backward n m zero a e = omega arith
-backward n m (suc k) a e =
-    let p : ℕ → Bool = λ x. is_some (within_size n (pos x +ℤ negsuc a)) in
-    let rest = backward n (m + 1) k a (omega arith) in
-    let first = passing_first (p m) m (filter p (range_with_len (m + 1) k)) in
-    elim (cases_lt a m) [
-      | inl less ↦ first ∙ ap (λ b. cond b 1 0 + passing p (range_with_len (m + 1) k)) (back-some n m a (omega arith) less) ∙ omega (arith, rest)
-      | inr more ↦ first ∙ ap (λ b. cond b 1 0 + passing p (range_with_len (m + 1) k)) (back-none n m a more) ∙ omega (arith, rest)
-    ]
+backward n m (suc k) a e = grind (arith, negsuc, passing_first, cases_lt, cond, passing, ints, on_side, backward n (m + 1) k a (omega arith))
 
 side_starts : (wraps : Bool) (n : ℕ) (u : ℤ) → passing (λ x. is_some (cond wraps (Some (nat_abs (int_rem_euclid (pos x +ℤ u) (pos n)))) (within_size n (pos x +ℤ u)))) (range_with_len 0 n) ≡ cond wraps n (n - nat_abs u)
 side_starts true n u = all_pass (range_with_len 0 n) ∙ length-range_with_len 0 n
@@ -65,34 +44,19 @@ side_starts false n (negsuc a) = backward n 0 n a (omega arith) ∙ omega arith
 
 -- of vectors with x in front those pass whose other entries do, if x does
 row_passing : (p : List ℕ → Bool) (b : Bool) (r : List ℕ → Bool) (x : ℕ) → ((v : List ℕ) → p (x ∷ v) ≡ (b && r v)) → (vs : List (List ℕ)) → passing p (map (λ v. x ∷ v) vs) ≡ cond b (passing r vs) 0
-row_passing p true r x e (v ∷ vs) =
-    let rest = row_passing p true r x e vs in
-    cc (passing_first (p (x ∷ v)) (x ∷ v) (filter p (map (λ w. x ∷ w) vs)), e v, rest, passing_first (r v) v (filter r vs))
-row_passing p false r x e (v ∷ vs) =
-    let rest = row_passing p false r x e vs in
-    passing_first (p (x ∷ v)) (x ∷ v) (filter p (map (λ w. x ∷ w) vs)) ∙ ap (λ b. cond b 1 0 + passing p (map (λ w. x ∷ w) vs)) (e v)
-    ∙ omega (arith, rest)
+row_passing p true r x e (v ∷ vs) = grind (arith, passing_first, row_passing p true r x e vs)
+row_passing p false r x e (v ∷ vs) = grind (arith, passing_first, cond, passing, row_passing p false r x e vs)
 row_passing p _ r x e _ = refl
 
 row_times : (b : Bool) (n m : ℕ) → cond b m 0 + n * m ≡ (cond b 1 0 + n) * m
-row_times true n m = omega arith
-row_times false n m = omega arith
+row_times b n m = grind (arith)
 
 rows_passing : (p : List ℕ → Bool) (q : ℕ → Bool) (r : List ℕ → Bool) → ((x : ℕ) (v : List ℕ) → p (x ∷ v) ≡ (q x && r v)) → (vs : List (List ℕ)) (xs : List ℕ) → passing p (flat_map (λ x. map (λ v. x ∷ v) vs) xs) ≡ passing q xs * passing r vs
 rows_passing p q r e vs [] = omega arith
-rows_passing p q r e vs (x ∷ xs) =
-    let row = map (λ v. x ∷ v) vs in
-    let rest = flat_map (λ y. map (λ v. y ∷ v) vs) xs in
-    ap length (filter-append p row rest) ∙ length-append (filter p row) (filter p rest)
-    ∙ ap (λ n. n + passing p rest) (row_passing p (q x) r x (e x) vs)
-    ∙ ap (λ n. cond (q x) (passing r vs) 0 + n) (rows_passing p q r e vs xs)
-    ∙ row_times (q x) (passing q xs) (passing r vs)
-    ∙ ap (λ n. n * passing r vs) (sym (passing_first (q x) x (filter q xs)))
+rows_passing p q r e vs (x ∷ xs) = grind (arith, filter-append, length-append, passing, row_passing, cond, row_times, passing_first, rows_passing p q r e vs xs)
 
 front_test : (o : Option ℕ) (p : Option (List ℕ)) → is_some (in_front o p) ≡ (is_some o && is_some p)
-front_test (Some x) (Some v) = refl
-front_test (Some x) None = refl
-front_test None p = refl
+front_test o p = grind (arith)
 
 none_pass : {X : Type 0} (xs : List X) → passing (λ x. false) xs ≡ 0
 none_pass [] = refl
@@ -105,7 +69,4 @@ starts-product (s ∷ sides) [] l e = absurd (omega arith)
 starts-product (s ∷ sides) (u ∷ t) l e =
     let q : ℕ → Bool = λ x. is_some (coordinate_on s (pos x +ℤ pos l *ℤ u)) in
     let r : List ℕ → Bool = λ v. is_some (place sides v t l) in
-    let vs = box (map (λ z. z.size) sides) in
-    rows_passing (λ x. is_some (place (s ∷ sides) x (u ∷ t) l)) q r (λ x v. front_test (coordinate_on s (pos x +ℤ pos l *ℤ u)) (place sides v t l)) vs (range_with_len 0 s.size)
-    ∙ ap (λ n. n * passing r vs) (side_starts s.wraps s.size (pos l *ℤ u))
-    ∙ ap (λ n. starts_on s (pos l *ℤ u) * n) (starts-product sides t l (omega arith))
+    simp (rows_passing, front_test, passing, side_starts, q, r, starts-product sides t l (omega arith))

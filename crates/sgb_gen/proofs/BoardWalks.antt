@@ -1,5 +1,5 @@
 -- Moves from a vector, one length after another, and what is made of them.
-use Rattle.std.proofs.Common.{◌≡◌, ℕ, ◌+◌, ◌-◌, ◌<◌, ◌≤◌, ℤ, Bool, true, false, cond, List, [], ◌∷◌, ◌++◌, length, map, Option, Some, None, refl, sym, ap, ◌∙◌, arith, append-nil, append_assoc}
+use Rattle.std.proofs.Common.{◌≡◌, ℕ, ◌+◌, ◌-◌, ◌<◌, ◌≤◌, ℤ, Bool, true, false, cond, List, [], ◌∷◌, ◌++◌, length, map, Option, Some, None, sym, ap, ◌∙◌, arith, append-nil, append_assoc}
 use Rattle.std.specs.List.{filter, range_with_len}
 use Rattle.std.specs.Option.{option_map, option_map_or}
 use Rattle.std.proofs.lemmas.List.Elements.{length_all_zip}
@@ -69,12 +69,10 @@ one_that p m ms left e h = ap (filter p) e ∙ ap (λ c. cond c (m ∷ filter p 
 
 -- a vertex where the piece leads is that of a vector
 pub led_to : (g : List ℕ → ℕ) (o : Option (List ℕ)) (v : ℕ) → option_map g o ≡ Some v → (y : List ℕ) × (o ≡ Some y) × (g y ≡ v)
-led_to g (Some y) v e = (y, refl, cc)
-led_to g None v e = absurd (cc)
+led_to g o v e = grind (arith)
 
 pub led_nowhere : (g : List ℕ → ℕ) (o : Option (List ℕ)) → option_map g o ≡ None → o ≡ None
-led_nowhere g (Some y) e = absurd (cc)
-led_nowhere g None e = refl
+led_nowhere g o e = grind (arith)
 
 -- where the piece leads to has as many entries
 pub lands_width : (b : BoardData) (t : List ℤ) (x y : List ℕ) (l : ℕ) → IsBelow x b.sizes → leads b x t l ≡ Some y → length y ≡ length x

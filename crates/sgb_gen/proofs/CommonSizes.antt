@@ -1,5 +1,5 @@
 -- What two multisets have in common, counted from the first entry on.
-use Rattle.std.proofs.Common.{◌≡◌, ℕ, ◌+◌, ◌*◌, ◌≤◌, ◌<◌, ◌⊎◌, inl, inr, List, [], ◌∷◌, take, drop, get_or, length, zero, suc, min, cond, ltb, Bool, true, false, refl, ap, arith}
+use Rattle.std.proofs.Common.{◌≡◌, ℕ, ◌+◌, ◌*◌, ◌≤◌, ◌<◌, ◌⊎◌, inl, List, [], ◌∷◌, take, drop, get_or, length, zero, suc, min, ltb, refl, ap, arith}
 use Rattle.std.proofs.lemmas.Bool.{ltb-true, ltb-false}
 use Rattle.std.proofs.lemmas.List.{drop-drop}
 use lib.Lanes.{zip2, sel_l, sum_l}
@@ -11,17 +11,9 @@ pub record IsCommonSoFar (u v : List ℕ) (n total : ℕ) : Type 0 where
   pub whole : total + common_size (drop n u) (drop n v) ≡ common_size u v
   pub small : total ≤ n * 4_294_967_295
 
--- of two entries the first is chosen where it is below the second
-lesser_where : (b : Bool) (x y : ℕ) → ltb x y ≡ b → cond b x y ≡ min x y
-lesser_where true x y is = omega (arith, ltb-true x y is)
-lesser_where false x y is = omega (arith, ltb-false x y is)
-
-lesser_is_min : (x y : ℕ) → cond (ltb x y) x y ≡ min x y
-lesser_is_min x y = lesser_where (ltb x y) x y refl
-
 -- so the lesser of each two are chosen
 pub lesser_are_minima : (u v : List ℕ) → sel_l (zip2 ltb u v) u v ≡ zip2 min u v
-lesser_are_minima (x ∷ u) (y ∷ v) = rw (lesser_is_min x y, lesser_are_minima u v) refl
+lesser_are_minima (x ∷ u) (y ∷ v) = grind (arith, ltb, ltb-true, ltb-false, lesser_are_minima u v)
 lesser_are_minima _ _ = refl
 
 -- what two multisets have in common are the minima of their entries, added
@@ -55,13 +47,8 @@ common_of_chunks (x ∷ a) (y ∷ b) = common_size x y + common_of_chunks a b
 chunks_then : (n k m : ℕ) (u v : List ℕ) → m ≡ k * n
     → common_of_chunks (first_chunks n k u) (first_chunks n k v) + common_size (drop m u) (drop m v) ≡ common_size u v
 unfolding common_of_chunks
-chunks_then n zero m u v is =
-    let none : m ≡ 0 = omega (arith, is) in
-    rw none (omega arith)
-chunks_then n (suc k) m u v is =
-    let more : m ≡ n + k * n = omega (arith, is) in
-    rw (more, ← drop-drop (k * n) n u, ← drop-drop (k * n) n v)
-    (omega (arith, common_split n u v, chunks_then n k (k * n) (drop n u) (drop n v) refl))
+chunks_then n zero m u v is = grind (arith)
+chunks_then n (suc k) m u v is = grind (arith, drop-drop, common_split, chunks_then n k (k * n) (drop n u) (drop n v) refl)
 
 pub chunks_and_rest : (n k : ℕ) (u v : List ℕ)
     → common_of_chunks (first_chunks n k u) (first_chunks n k v) + common_size (drop (k * n) u) (drop (k * n) v) ≡ common_size u v
@@ -75,8 +62,7 @@ common_small u v small = omega (arith, common_of_minima u v, minima_small u v sm
 pub no_chunks : (a b : List (List ℕ)) → (length a ≡ 0) ⊎ (length b ≡ 0) → common_of_chunks a b ≡ 0
 unfolding common_of_chunks
 no_chunks (x ∷ a) (y ∷ b) (inl none) = omega (arith, none)
-no_chunks (x ∷ a) (y ∷ b) (inr none) = omega (arith, none)
-no_chunks _ _ none = refl
+no_chunks a b none = grind (arith)
 
 -- where so much is counted before the chunks a and b, it is the whole with the first of them and before the others
 pub next_counted : (total rest whole : ℕ) (a b : List (List ℕ)) (x y : List ℕ) (c d : List (List ℕ)) → a ≡ x ∷ c → b ≡ y ∷ d
@@ -87,5 +73,4 @@ next_counted total rest whole a b x y c d first second counted = omega (arith, r
 
 -- of two lists that are walked side by side one has come to its end
 pub one_ends : {X Y P Q : Type 0} {R : X → Type 0} {S : Y → Type 0} → ((x : X) × (P × R x)) ⊎ ((y : Y) × (Q × S y)) → P ⊎ Q
-one_ends (inl (x, (ended, is))) = inl ended
-one_ends (inr (y, (ended, is))) = inr ended
+one_ends h = grind (arith)

@@ -52,10 +52,7 @@ map-each f g h e (x ∷ xs) = rw (e x, map-each f g h e xs) refl
 -- with a number for each coordinate
 some_so_far : (u : ℕ) (vectors : List (List ℕ)) → map some_numbers (fields_so_far u vectors) ≡ map fields_of_vector (take u vectors) ++ map (λ v. zero_fields) (drop u vectors)
 some_so_far zero vectors = map-each some_numbers (λ v. no_fields) (λ v. zero_fields) (λ v. refl) vectors
-some_so_far (suc u) vectors =
-    map-append some_numbers (map fields_of_vector (take (suc u) vectors)) (map (λ v. zero_fields) (drop (suc u) vectors))
-    ∙ ap (λ fs. fs ++ map some_numbers (map (λ v. zero_fields) (drop (suc u) vectors))) (map-each some_numbers fields_of_vector fields_of_vector (λ v. refl) (take (suc u) vectors))
-    ∙ ap (λ fs. map fields_of_vector (take (suc u) vectors) ++ fs) (map-each some_numbers (λ v. zero_fields) (λ v. zero_fields) (λ v. refl) (drop (suc u) vectors))
+some_so_far (suc u) vectors = grind (arith, map-append, zero_fields, map-each)
 
 -- the coordinates of vector u are put
 fields-more : (vectors : List (List ℕ)) (u : ℕ) (v : List ℕ) (vs : List Vertex) → slice_get vectors u ≡ Some v → map (λ w. w.util) vs ≡ fields_so_far u vectors → at_place (put_numbers (pos (slice_index v 0)) (pos (slice_index v 1)) (pos (slice_index v 2))) u (map (λ w. some_numbers w.util) vs) ≡ fields_so_far (suc u) vectors

@@ -1,5 +1,5 @@
 -- The arcs to vectors that begin alike; sizes that they cannot have in common; and the vectors down to one and from it.
-use Rattle.std.proofs.Common.{◌≡◌, ℕ, suc, ◌+◌, ◌-◌, ◌<◌, ◌≤◌, ◌⊎◌, min, pos, Bool, true, false, cond, List, [], ◌∷◌, ◌++◌, length, map, filter, reverse, take, drop, sum, get_or, refl, sym, ap, ap₂, subst, ◌∙◌, inl, inr, arith, append-nil, append_assoc}
+use Rattle.std.proofs.Common.{◌≡◌, ℕ, suc, ◌+◌, ◌-◌, ◌≤◌, ◌⊎◌, min, pos, Bool, false, cond, List, [], ◌∷◌, ◌++◌, length, map, filter, reverse, take, drop, sum, get_or, refl, sym, ap, ap₂, subst, ◌∙◌, inl, arith, append-nil, append_assoc}
 use Rattle.std.specs.List.{Contains}
 use Rattle.std.proofs.lemmas.List.{drop_at, length-append, map-append, reverse-append, reverse-reverse, take_at}
 use Rattle.std.proofs.lemmas.List.Elements.{All-contains_itself}
@@ -13,13 +13,13 @@ use Rattle.sgb_vec.specs.Sums.{BoundedSum, bounded_sums}
 use Rattle.sgb_vec.proofs.Lists.{All-reverse, filter-none, made-append, reverse-first}
 use Rattle.sgb_vec.proofs.SumMembers.{Contains-bounded_sums, bounded_sums-rise}
 use Rattle.sgb_vec.proofs.SumSuccessors.{sum-cons}
-use Rattle.sgb_gen.specs.LocalLists.{LinksData, LocalArc}
+use Rattle.sgb_gen.specs.LocalLists.{LinksData}
 use Rattle.sgb_gen.specs.Subsets.{common_size, is_wanted_size}
 use Rattle.sgb_gen.specs.VectorGraphs.{vertex_among}
 use Rattle.sgb_gen.specs.inner.Descents.{IsBegun, arcs_under, down_from, down_to, row, rows}
 use Rattle.sgb_gen.specs.inner.LocalSimplexes.{with_arcs}
 use Rattle.sgb_gen.specs.inner.LocalSubsets.{arcs_by_walk, arcs_to}
-use Rattle.sgb_gen.proofs.Descents.{row-within, rows-end, rows-parts, sums-end, sums-past, sums-rows}
+use Rattle.sgb_gen.proofs.Descents.{row-within, rows-end, rows-parts, sums-rows}
 use Rattle.sgb_gen.proofs.PairWalks.{with_more}
 use Rattle.sgb_gen.proofs.RisingVectors.{vertex_in_rising}
 
@@ -29,33 +29,16 @@ use Rattle.sgb_gen.proofs.RisingVectors.{vertex_in_rising}
 pub under-append : (sb : ℕ) (front : List ℕ) (c : ℕ) (x : List ℕ) (us ws : List (List ℕ)) → arcs_under sb front c x (us ++ ws) ≡ arcs_under sb front c x us ++ arcs_under sb front c x ws
 under-append sb front c x us ws = made-append (λ v. is_wanted_size sb (common_size x v + c)) (λ v. record { tip = front ++ v; len = pos 1 }) us ws
 
--- an entry that all have stands at the end of their beginning as well
-made_front : (b : Bool) (front v : List ℕ) (e : ℕ) (vs : List (List ℕ)) (arcs : List LocalArc) → map {B = LocalArc} (λ w. record { tip = front ++ w; len = pos 1 }) vs ≡ arcs
-    → map {B = LocalArc} (λ w. record { tip = front ++ w; len = pos 1 }) (cond b ((e ∷ v) ∷ vs) vs) ≡ cond b (record { tip = (front ++ e ∷ []) ++ v; len = pos 1 } ∷ arcs) arcs
-made_front true front v e vs arcs same = ap₂ (λ t l. record { tip = t; len = pos 1 } ∷ l) (sym (append_assoc front (e ∷ []) v)) same
-made_front false front v e vs arcs same = same
-
-made_cond : (b : Bool) (front v : List ℕ) (vs : List (List ℕ)) → map {B = LocalArc} (λ w. record { tip = front ++ w; len = pos 1 }) (cond b (v ∷ vs) vs) ≡ cond b (record { tip = front ++ v; len = pos 1 } ∷ map {B = LocalArc} (λ w. record { tip = front ++ w; len = pos 1 }) vs) (map {B = LocalArc} (λ w. record { tip = front ++ w; len = pos 1 }) vs)
-made_cond true front v vs = refl
-made_cond false front v vs = refl
-
 pub under-front : (sb : ℕ) (front : List ℕ) (c h : ℕ) (x : List ℕ) (e : ℕ) (vs : List (List ℕ)) → arcs_under sb front c (h ∷ x) (map (λ v. e ∷ v) vs) ≡ arcs_under sb (front ++ e ∷ []) (c + min h e) x vs
 under-front sb front c h x e [] = refl
-under-front sb front c h x e (v ∷ vs) =
-    let passes : List ℕ → Bool = λ w. is_wanted_size sb (common_size (h ∷ x) w + c) in
-    let same : common_size (h ∷ x) (e ∷ v) + c ≡ common_size x v + (c + min h e) = omega arith in
-    made_front (passes (e ∷ v)) front v e (filter passes (map (λ w. e ∷ w) vs)) _ (under-front sb front c h x e vs)
-    ∙ ap (λ k. cond (is_wanted_size sb k) (record { tip = (front ++ e ∷ []) ++ v; len = pos 1 } ∷ arcs_under sb (front ++ e ∷ []) (c + min h e) x vs) (arcs_under sb (front ++ e ∷ []) (c + min h e) x vs)) same
-    ∙ sym (made_cond (is_wanted_size sb (common_size x v + (c + min h e))) (front ++ e ∷ []) v (filter (λ w. is_wanted_size sb (common_size x w + (c + min h e))) vs))
+under-front sb front c h x e (v ∷ vs) = grind (arith, min, filter, cond, append_assoc, under-front sb front c h x e vs)
 
 -- ---- what two vectors may have in common
 
 common-most : (x v : List ℕ) → (common_size x v ≤ sum x) × (common_size x v ≤ sum v)
 common-most [] v = (omega arith, omega arith)
 common-most (h ∷ x) [] = (omega arith, omega arith)
-common-most (h ∷ x) (e ∷ v) =
-    let rest = common-most x v in
-    (omega (arith, sum-cons h x, rest.0), omega (arith, sum-cons e v, rest.1))
+common-most (h ∷ x) (e ∷ v) = grind (arith, sum-cons, common-most x v)
 
 common-least : (bs x v : List ℕ) → IsWithin x bs → IsWithin v bs → sum v + sum x ≤ common_size x v + sum bs
 common-least [] [] [] hx hv = omega arith
@@ -75,8 +58,7 @@ under-unwanted sb front c bs x room shared left begun none =
       unwanted : (v : List ℕ) → Contains (bounded_sums left bs) v → is_wanted_size sb (common_size x v + c) ≡ false
       unwanted v there =
           let is = (Contains-bounded_sums left bs v).0 there in
-          let most = common-most x v in
-          none (common_size x v) (omega (arith, common-least bs x v begun.within is.0, is.1, begun.bounds_add, begun.own_add, most.0)) (omega (arith, most.1, is.1)) (omega (arith, most.0, begun.own_add))
+          grind (arith, common-most, common-least, is)
 
 -- ---- where nothing is left to be placed
 
@@ -85,7 +67,8 @@ abbrev pub zeros : List ℕ → List ℕ
 zeros bs = map (λ b. 0) bs
 
 sums-zero : (bs : List ℕ) → bounded_sums 0 bs ≡ zeros bs ∷ []
-sums-zero [] = sums-end
+unfolding bounded_sums box
+sums-zero [] = grind (arith)
 sums-zero (b ∷ bs) =
     sym (reverse-reverse (bounded_sums 0 (b ∷ bs)))
     ∙ ap reverse (sums-rows 0 b bs ∙ ap (rows 0 bs 0) {x = b + 1} {y = b + 1 - 0} (omega arith) ∙ rows-end 0 bs 0 b (omega arith) ∙ ap (rows 0 bs 0) {x = min 0 b + 1 - 0} {y = 1} (omega arith))
@@ -95,12 +78,8 @@ common-zero : (x bs : List ℕ) → common_size x (zeros bs) ≡ 0
 common-zero (h ∷ x) (b ∷ bs) = omega (arith, common-zero x bs)
 common-zero _ _ = refl
 
-made_one : (b : Bool) (front v : List ℕ) → map {B = LocalArc} (λ w. record { tip = front ++ w; len = pos 1 }) (cond b (v ∷ []) []) ≡ cond b (record { tip = front ++ v; len = pos 1 } ∷ []) []
-made_one true front v = refl
-made_one false front v = refl
-
 pub under-zeros : (sb : ℕ) (front : List ℕ) (c left : ℕ) (bs x : List ℕ) (b : Bool) → left ≡ 0 → is_wanted_size sb c ≡ b → arcs_under sb front c x (reverse (bounded_sums left bs)) ≡ cond b (record { tip = front ++ zeros bs; len = pos 1 } ∷ []) []
-under-zeros sb front c left bs x b none test = grind (arith, sums-zero, common-zero, made_one)
+under-zeros sb front c left bs x b none test = grind (arith, sums-zero, common-zero)
 
 -- ---- the vectors above one and below it
 
@@ -135,11 +114,7 @@ parted (b ∷ bs) (x ∷ xs) h =
     let r = x + sum xs in
     let upper = rows r bs (x + 1) (b - x) in
     let lower = rows r bs 0 x in
-    let middle : row r bs x ≡ map (λ v. x ∷ v) (above bs xs) ++ (x ∷ xs) ∷ map (λ v. x ∷ v) (below bs xs) =
-    row-within r x bs (omega arith)
-    ∙ ap (λ k. map (λ v. x ∷ v) (reverse (bounded_sums k bs))) (omega arith)
-    ∙ ap (map (λ v. x ∷ v)) (parted bs xs h.1)
-    ∙ map-append (λ v. x ∷ v) (above bs xs) (xs ∷ below bs xs) in
+    let middle : row r bs x ≡ map (λ v. x ∷ v) (above bs xs) ++ (x ∷ xs) ∷ map (λ v. x ∷ v) (below bs xs) = grind (arith, row-within, reverse, map-append, above, below, parted bs xs h.1) in
     ap (λ k. reverse (bounded_sums k (b ∷ bs))) (sum-cons x xs)
     ∙ sums-rows r b bs
     ∙ ap (rows r bs 0) {y = x + 1 + (b - x)} (omega (arith, h.0))
@@ -178,8 +153,7 @@ module _ (bs x : List ℕ) (h : IsWithin x bs) where
       (sym (ap (λ vs. get_or vs k x) whole ∙ get_or-append_seam (reverse (below bs x)) x (reverse (above bs x)) x)))
 
   pub to-dropped : reverse (drop (vertex_among vectors x) vectors) ≡ down_to bs x
-  to-dropped =
-      cc (whole, drop_at (reverse (below bs x)) (x ∷ reverse (above bs x)) (vertex_among vectors x) (sym place), reverse-first x (reverse (above bs x)), reverse-reverse (above bs x), to-above bs x h)
+  to-dropped = grind (arith, whole, drop_at, reverse, below, above, vectors, place, reverse-first, reverse-reverse, to-above)
 
   pub from-taken : reverse (take (vertex_among vectors x + 1) vectors) ≡ down_from bs x
   from-taken =
@@ -195,9 +169,7 @@ module _ (bs x : List ℕ) (h : IsWithin x bs) where
   arcs_alike sb vs = ap (λ t. map (λ v. record { tip = v; len = pos 1 }) (filter t vs)) (fun_ext (λ v. ap (is_wanted_size sb) (omega arith)))
 
   pub walk-descended : (directed : Bool) (sb : ℕ) → arcs_by_walk directed sb vectors x ≡ arcs_under sb [] 0 x (down_to bs x) ++ cond directed [] (arcs_under sb [] 0 x (down_from bs x))
-  walk-descended true sb = arcs_alike sb (reverse (drop (vertex_among vectors x) vectors)) ∙ ap (arcs_under sb [] 0 x) to-dropped ∙ sym (append-nil (arcs_under sb [] 0 x (down_to bs x)))
-  walk-descended false sb =
-      cc (arcs_alike sb (reverse (drop (vertex_among vectors x) vectors)), to-dropped, arcs_alike sb (reverse (take (vertex_among vectors x + 1) vectors)), from-taken)
+  walk-descended directed sb = grind (arith, arcs_alike, reverse, vectors, to-dropped, append-nil, from-taken)
 
 -- ---- steps of the descent
 
@@ -205,22 +177,18 @@ module _ (bs x : List ℕ) (h : IsWithin x bs) where
 abbrev pub HasEnded : List ℕ → List ℕ → Type 0
 HasEnded bs x = (length x ≡ 0) ⊎ (length bs ≡ 0)
 
-both_ended : (bs x : List ℕ) → IsWithin x bs → HasEnded bs x → (bs ≡ []) × (x ≡ [])
+pub both_ended : (bs x : List ℕ) → IsWithin x bs → HasEnded bs x → (bs ≡ []) × (x ≡ [])
 both_ended [] [] h none = (refl, refl)
 both_ended (b ∷ bs) (x ∷ xs) h (inl e) = absurd (omega arith)
-both_ended (b ∷ bs) (x ∷ xs) h (inr e) = absurd (omega arith)
-both_ended _ _ h none = absurd h
+both_ended bs x h none = grind (arith)
 
 pub ended-zero : (bs x : List ℕ) → IsWithin x bs → HasEnded bs x → sum x ≡ 0
 ended-zero bs x h none = ap sum (both_ended bs x h none).1
 
--- then more than 0 is no sum, and x is the one vector
-pub ended-all : (sb : ℕ) (front : List ℕ) (c left : ℕ) (bs x : List ℕ) → IsWithin x bs → HasEnded bs x → 0 < left → arcs_under sb front c x (reverse (bounded_sums left bs)) ≡ []
-ended-all sb front c left bs x h none some = grind (arith, both_ended, sums-past)
-
 pub ended-part : (part : List ℕ → List ℕ → List (List ℕ)) → ((x : List ℕ) → part [] x ≡ [] ∷ []) → (sb : ℕ) (front : List ℕ) (c left : ℕ) (bs x : List ℕ) → IsWithin x bs → HasEnded bs x → left ≡ sum x
     → arcs_under sb front c x (reverse (bounded_sums left bs)) ≡ arcs_under sb front c x (part bs x)
-ended-part part one sb front c left bs x h none all = grind (arith, both_ended, sums-end)
+unfolding bounded_sums box
+ended-part part one sb front c left bs x h none all = grind (arith, both_ended)
 
 -- all vectors by their rows
 pub all-rows : (sb : ℕ) (front : List ℕ) (c left b h most : ℕ) (bs xs bounds x : List ℕ) → bounds ≡ b ∷ bs → x ≡ h ∷ xs → most ≡ min left b → arcs_under sb front c (h ∷ xs) (rows left bs 0 (most + 1 - 0)) ≡ arcs_under sb front c x (reverse (bounded_sums left bounds))

@@ -31,9 +31,7 @@ module _ (sb room shared left c b h : ℕ) (front bounds x : List ℕ) (begun : 
 
   none_of : (low n : ℕ) → ((e : ℕ) → low ≤ e → e < low + n → HasNoArcs sb room shared left c b h e) → arcs_of low n ≡ []
   none_of low zero none = refl
-  none_of low (suc n) none =
-      under-append sb front c (h ∷ x) (row left bounds (low + n)) (rows left bounds low n)
-      ∙ ap₂ (λ l m. l ++ m) (none (low + n) (omega arith) (omega arith) front bounds x begun) (none_of low n (λ e from to. none e from (omega arith)))
+  none_of low (suc n) none = grind (arith, under-append, none_of low n (λ e from to. none e from (omega arith)))
 
   pub none-below : (low least end : ℕ) → low ≤ least → least ≤ end → ((e : ℕ) → low ≤ e → e < least → HasNoArcs sb room shared left c b h e) → arcs_of low (end - low) ≡ arcs_of least (end - least)
   none-below low least end more within none =

@@ -1,5 +1,5 @@
 -- The vectors of a bounded sum by their first entries, the last vector first, and the arcs to them.
-use Rattle.std.proofs.Common.{◌≡◌, ℕ, zero, suc, ◌+◌, ◌-◌, ◌<◌, ◌≤◌, ◌⊎◌, min, true, false, cond, eqb, List, [], ◌∷◌, ◌++◌, map, filter, reverse, sum, refl, sym, ap, ap₂, ◌∙◌, inl, inr, arith, append-nil, append_assoc}
+use Rattle.std.proofs.Common.{◌≡◌, ℕ, zero, suc, ◌+◌, ◌-◌, ◌<◌, ◌≤◌, ◌⊎◌, min, cond, eqb, List, [], ◌∷◌, ◌++◌, map, filter, reverse, sum, refl, sym, ap, ap₂, ◌∙◌, inl, inr, arith, append-nil, append_assoc}
 use Rattle.std.specs.List.{Contains, flat_map, range_with_len}
 use Rattle.std.proofs.lemmas.Bool.{cases_lt, le-leb, ne_eqb}
 use Rattle.std.proofs.lemmas.Bool.Decides.{nat_tests}
@@ -20,19 +20,9 @@ reverse-front e [] = refl
 reverse-front e (v ∷ vs) =
     cc (reverse-first (e ∷ v) (map (λ w. e ∷ w) vs), reverse-front e vs, map-append (λ w. e ∷ w) (reverse vs) (v ∷ []), reverse-first v vs)
 
--- tests of sums with an entry in front
-sum_test : (e r : ℕ) (v : List ℕ) → e ≤ r → eqb (sum (e ∷ v)) r ≡ eqb (sum v) (r - e)
-sum_test e r v h = let whole = sum-cons e v in grind (arith, nat_tests)
-
 sums-front : (e r : ℕ) (vs : List (List ℕ)) → e ≤ r → filter (λ v. eqb (sum v) r) (map (λ v. e ∷ v) vs) ≡ map (λ v. e ∷ v) (filter (λ v. eqb (sum v) (r - e)) vs)
 sums-front e r [] h = refl
-sums-front e r (v ∷ vs) h =
-    rw (sum_test e r v h, sums-front e r vs h)
-    (elim (eqb (sum v) (r - e)) as (λ b. cond b ((e ∷ v) ∷ map (λ w. e ∷ w) (filter (λ w. eqb (sum w) (r - e)) vs)) (map (λ w. e ∷ w) (filter (λ w. eqb (sum w) (r - e)) vs))
-    ≡ map (λ w. e ∷ w) (cond b (v ∷ filter (λ w. eqb (sum w) (r - e)) vs) (filter (λ w. eqb (sum w) (r - e)) vs))) [
-      | true ↦ refl
-      | false ↦ refl
-    ])
+sums-front e r (v ∷ vs) h = grind (arith, eqb, cond, filter, sum-cons, nat_tests, sums-front e r vs h)
 
 sums-above : (e r : ℕ) (vs : List (List ℕ)) → r < e → filter (λ v. eqb (sum v) r) (map (λ v. e ∷ v) vs) ≡ []
 sums-above e r [] h = refl
@@ -45,26 +35,15 @@ row-within r e bs h = rw (le-leb e r h) refl
 pub row-above : (r e : ℕ) (bs : List ℕ) → r < e → row r bs e ≡ []
 row-above r e bs h = grind (arith, nat_tests)
 
-row-filtered : (r e : ℕ) (bs : List ℕ) → reverse (filter (λ v. eqb (sum v) r) (map (λ v. e ∷ v) (box (map (λ b. b + 1) bs)))) ≡ row r bs e
-unfolding bounded_sums
-row-filtered r e bs = grind (arith, cases_lt, sums-above, row-above, sums-front, reverse-front, row-within)
-
 -- the row of the least entry comes last
 pub rows-first : (r : ℕ) (bs : List ℕ) (a n : ℕ) → rows r bs a (suc n) ≡ rows r bs (a + 1) n ++ row r bs a
 rows-first r bs a zero = ap (λ e. row r bs e ++ []) (omega arith) ∙ append-nil (row r bs a)
-rows-first r bs a (suc n) =
-    ap₂ (λ e l. row r bs e ++ l) (omega arith) (rows-first r bs a n)
-    ∙ sym (append_assoc (row r bs (a + 1 + n)) (rows r bs (a + 1) n) (row r bs a))
+rows-first r bs a (suc n) = grind (arith, append_assoc, rows-first r bs a n)
 
 rows-filtered : (r : ℕ) (bs : List ℕ) (a n : ℕ) → reverse (filter (λ v. eqb (sum v) r) (flat_map (λ e. map (λ v. e ∷ v) (box (map (λ b. b + 1) bs))) (range_with_len a n))) ≡ rows r bs a n
+unfolding bounded_sums
 rows-filtered r bs a zero = refl
-rows-filtered r bs a (suc n) =
-    let vs = box (map (λ b. b + 1) bs) in
-    let others = flat_map (λ e. map (λ v. e ∷ v) vs) (range_with_len (a + 1) n) in
-    ap reverse (filter-append (λ v. eqb (sum v) r) (map (λ v. a ∷ v) vs) others)
-    ∙ reverse-append (filter (λ v. eqb (sum v) r) (map (λ v. a ∷ v) vs)) (filter (λ v. eqb (sum v) r) others)
-    ∙ ap₂ (λ l m. l ++ m) (rows-filtered r bs (a + 1) n) (row-filtered r a bs)
-    ∙ sym (rows-first r bs a n)
+rows-filtered r bs a (suc n) = grind (arith, reverse, filter-append, eqb, reverse-append, filter, rows-first, cases_lt, sums-above, row-above, sums-front, reverse-front, row-within, rows-filtered r bs (a + 1) n)
 
 -- all vectors, by their first entries
 pub sums-rows : (r b : ℕ) (bs : List ℕ) → reverse (bounded_sums r (b ∷ bs)) ≡ rows r bs 0 (b + 1)
@@ -133,8 +112,3 @@ rows-parts r bs low m (suc n) =
     ∙ sym (append_assoc (row r bs (low + m + n)) (rows r bs (low + m) n) (rows r bs low m)) where
       more : {k : ℕ} → k ≡ suc (m + n) → rows r bs low k ≡ row r bs (low + (m + n)) ++ rows r bs low (m + n)
       more is = ap (rows r bs low) is
-
--- and where nothing more is to be placed there is one end
-pub sums-end : bounded_sums 0 [] ≡ [] ∷ []
-unfolding bounded_sums box
-sums-end = refl

@@ -1,5 +1,5 @@
 -- The graph of a family, made step by step, is the one that is described.
-use Rattle.std.proofs.Common.{◌≡◌, ℕ, Bool, true, List, [], ◌∷◌, length, map, Result, Ok, Err, refl, sym, ap, subst, ◌∙◌, arith}
+use Rattle.std.proofs.Common.{◌≡◌, ℕ, Bool, true, List, [], ◌∷◌, length, map, Result, Ok, refl, sym, ap, subst, ◌∙◌, arith}
 use Rattle.std.specs.List.{All}
 use Rattle.std.proofs.lemmas.List.Elements.{All-cons, All-head, All-map, All-nil, All-tail}
 use Rattle.std.specs.Result.{IsErr, IsErrAnd}
@@ -70,5 +70,4 @@ graph_made id number directed vectors read moves names fresh grown placed new sa
 
 -- out of memory is an answer for any graph
 pub no_room : (d : Description) (r : Result GraphData Panic) (P : Panic → Type 0) → IsErr r × IsErrAnd r P → ((e : Panic) → P e → e ≡ NoRoom) → IsAnswerOf (Ok d) r
-no_room d (Ok g) P h n = absurd h.1
-no_room d (Err e) P h n = n e h.1
+no_room d r P h n = grind (arith)

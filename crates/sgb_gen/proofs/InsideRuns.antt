@@ -1,5 +1,5 @@
 -- The list of a vertex from which no side is near, by leaps: sides that wrap around make no difference.
-use Rattle.std.proofs.Common.{◌≡◌, ◌≢◌, ℕ, suc, ◌+◌, ◌-◌, ◌++◌, ◌<◌, ◌≤◌, ◌&&◌, ℤ, pos, negsuc, neg_ℤ, ◌+ℤ◌, ◌*ℤ◌, nat_abs, Bool, true, false, cond, List, [], ◌∷◌, length, get_or, map, reverse, Some, refl, sym, ap, ap₂, subst, ◌∙◌, arith, true≢false}
+use Rattle.std.proofs.Common.{◌≡◌, ◌≢◌, ℕ, suc, ◌+◌, ◌++◌, ◌<◌, ◌≤◌, ◌&&◌, ℤ, pos, negsuc, neg_ℤ, ◌+ℤ◌, ◌*ℤ◌, nat_abs, Bool, true, false, cond, List, [], ◌∷◌, length, get_or, map, reverse, Some, refl, sym, ap, ap₂, subst, ◌∙◌, arith, true≢false}
 use Rattle.std.specs.Prelude.{◌||◌}
 use Rattle.std.specs.Bool.{OnTrue}
 use Rattle.std.specs.List.{All, Contains}
@@ -36,15 +36,7 @@ use Rattle.sgb_gen.proofs.Vertices.{other_is}
 -- a coordinate that is far enough from both ends of its side leads to the same one, whether it wraps around or not
 side_alike : (v w : Bool) (n x d : ℕ) (a : ℤ) → nat_abs a ≤ d → d ≤ x → x + d < n
     → coordinate_on (record { size = n; wraps = v }) (pos x +ℤ pos 1 *ℤ a) ≡ coordinate_on (record { size = n; wraps = w }) (pos x +ℤ pos 1 *ℤ a)
-side_alike v w n x d (pos c) small behind ahead =
-    let there : pos x +ℤ pos 1 *ℤ pos c ≡ pos (x + c) = omega (arith, ints) in
-    let below : x + c < n = omega (arith, small, ahead) in
-    cc (there, side_itself v n (x + c) below, side_itself w n (x + c) below)
-side_alike v w n x d (negsuc c) small behind ahead =
-    let there : pos x +ℤ pos 1 *ℤ negsuc c ≡ pos (x - suc c) = omega (arith, ints, small, behind) in
-    let below : x - suc c < n = omega (arith, ahead) in
-    ap (coordinate_on (record { size = n; wraps = v })) there ∙ side_itself v n (x - suc c) below
-    ∙ sym (ap (coordinate_on (record { size = n; wraps = w })) there ∙ side_itself w n (x - suc c) below)
+side_alike v w n x d a small behind ahead = grind (arith, ints, side_itself, negsuc)
 
 -- so one step leads to the same place
 pub place_alike : (v w : ℤ) (d k : ℕ) (sizes x : List ℕ) (t : List ℤ) → IsInside d sizes x → All (λ e. nat_abs e ≤ d) t
@@ -111,16 +103,11 @@ module _ (b : BoardData) (x : List ℕ) (d : ℕ) (below : IsBelow x b.sizes) (l
         let apart : v ≡ own_vertex b t x there short → ⊥ = λ e. omega (arith, less, e) in
         let one = comes_from b t x there short v (ap (option_map (vertex_among (box b.sizes))) (leads_one (opposite t) long_back small_back stay.1)) apart in
         let ahead : y ≢ x = λ same. onward_elsewhere b.sizes (pos 0) x t 1 (on_sides (pos 0)) long onward (omega arith) (placed_flat t long small stay.0 ∙ ap Some same) in
-        let behind : z ≢ x = λ same. apart (ap (vertex_among (box b.sizes)) same) in
-        leaps_earlier b t x there short v one less
-        ∙ ap₂ (λ p q. edge_arcs x 1 p ++ edge_arcs x 1 q) (leads_one t long small stay.0) (leads_one (opposite t) long_back small_back stay.1)
-        ∙ ap₂ (λ p q. p ++ q) (one_arc x y ahead) (one_arc x z behind)
-        ∙ sym (ap₂ (λ p q. reverse p ++ q) (one_from t long small stay.0) (one_from (opposite t) long_back small_back stay.1))
+        grind (arith, leaps_earlier, there, short, leads_one, one_arc, reverse, one_from, long_back, small_back, stay, y, z, v, earlier, less, apart, one, ahead)
 
     run_arcs : (directed : Bool) → b.directed ≡ directed
         → reverse (arcs_onward b.directed x (moves_by (sides_of b.sizes b.wrap) b.piece (box b.sizes) t)) ≡ reverse (arcs_from b x t) ++ arcs_back b x (opposite t)
-    run_arcs true directed = directed_run b x t directed below
-    run_arcs false directed = edges_run b x t directed both_ways
+    run_arcs x0 directed = grind (arith, directed_run, edges_run, both_ways)
 
     pub inside_run : IsRun b x t
     inside_run = record { arcs = run_arcs b.directed refl; ahead = leaps_there b leaper x t; back = leaps_there b leaper x (opposite t) }
@@ -144,5 +131,4 @@ pub all_runs : (b : BoardData) (x : List ℕ) (ts : List (List ℤ)) (d : ℕ) (
 all_runs b x ts d true leaping near have below wide small onward leaper flat inside = onward_runs b x ts below wide onward
 all_runs b x ts d false true true have below wide small onward leaper flat inside =
     λ k e h. inside_run b x d below leaper inside (get_or ts k e) (wide k e h) (small k e h) (flat k e h)
-all_runs b x ts d false true false have below wide small onward leaper flat inside = absurd (true≢false (sym have))
-all_runs b x ts d false false near have below wide small onward leaper flat inside = absurd (true≢false (sym have))
+all_runs b x ts d straight leaping near have below wide small onward leaper flat inside = grind (arith, true≢false)

@@ -1,5 +1,5 @@
 -- Vertices from which no side is near: moves of length 1 lead to places of the board.
-use Rattle.std.proofs.Common.{◌≡◌, ℕ, zero, suc, ◌+◌, ◌-◌, ◌<◌, ◌≤◌, ℤ, pos, negsuc, neg_ℤ, ◌+ℤ◌, ◌*ℤ◌, nat_abs, Bool, true, false, ◌&&◌, List, [], ◌∷◌, length, get_or, refl, ap, ap₂, ◌∙◌, arith}
+use Rattle.std.proofs.Common.{◌≡◌, ℕ, zero, suc, ◌+◌, ◌<◌, ◌≤◌, ℤ, pos, negsuc, neg_ℤ, ◌+ℤ◌, ◌*ℤ◌, nat_abs, Bool, true, ◌&&◌, List, [], ◌∷◌, length, get_or, refl, ap₂, arith}
 use Rattle.std.specs.List.{All}
 use Rattle.std.specs.Option.{is_some}
 use Rattle.std.proofs.lemmas.Int.{ints}
@@ -7,7 +7,7 @@ use Rattle.std.proofs.lemmas.List.{length-map}
 use Rattle.std.proofs.lemmas.List.Elements.{All-map, AllZip-get_or, length_all_zip}
 use Rattle.sgb_vec.specs.Lexicographic.{IsBelow}
 use Rattle.sgb_gen.specs.MovedCoordinates.{parts_from}
-use Rattle.sgb_gen.specs.Moves.{coordinate_on, is_bit_set, opposite, within_size}
+use Rattle.sgb_gen.specs.Moves.{coordinate_on, is_bit_set, opposite}
 use Rattle.sgb_gen.specs.inner.MovedCoordinates.{IsInside, StayAtOne, parts_stay}
 use Rattle.sgb_gen.proofs.BoundedMoves.{on_side}
 use Rattle.sgb_gen.proofs.NextSignings.{size-neg}
@@ -15,13 +15,7 @@ use Rattle.sgb_gen.proofs.TurnedMoves.{side_start}
 
 -- a coordinate that is far enough from both ends of its side
 side_inside : (w : Bool) (n x d : ℕ) (a : ℤ) → nat_abs a ≤ d → d ≤ x → x + d < n → is_some (coordinate_on (record { size = n; wraps = w }) (pos x +ℤ pos 1 *ℤ a)) ≡ true
-side_inside true n x d a small behind ahead = refl
-side_inside false n x d (pos c) small behind ahead =
-    let there : pos x +ℤ pos 1 *ℤ pos c ≡ pos (x + c) = omega (arith, ints) in
-    ap (λ y. is_some (within_size n y)) there ∙ on_side n (x + c) (omega (arith, small, ahead))
-side_inside false n x d (negsuc c) small behind ahead =
-    let there : pos x +ℤ pos 1 *ℤ negsuc c ≡ pos (x - suc c) = omega (arith, ints, small, behind) in
-    ap (λ y. is_some (within_size n y)) there ∙ on_side n (x - suc c) (omega (arith, ahead))
+side_inside w n x d a small behind ahead = grind (arith, ints, on_side, negsuc)
 
 -- no entry is greater than this
 abbrev AreWithin : ℕ → List ℤ → Type 0
@@ -34,8 +28,7 @@ opposite_within d t small = All-map (λ e. nat_abs e ≤ d) neg_ℤ t (λ j e h.
 module _ (sizes : List ℕ) (wrap : ℤ) (x : List ℕ) (d : ℕ) (inside : IsInside d sizes x) where
   one_inside : (k : ℕ) (a : ℤ) → k < length sizes → nat_abs a ≤ d
       → is_some (coordinate_on (record { size = get_or sizes k 0; wraps = is_bit_set wrap k }) (pos (get_or x k 0) +ℤ pos 1 *ℤ a)) ≡ true
-  one_inside k a within small =
-      side_inside (is_bit_set wrap k) (get_or sizes k 0) (get_or x k 0) d a small (inside k within).0 (inside k within).1
+  one_inside k a within small = grind (arith, side_inside)
 
   parts_inside : (t : List ℤ) (k : ℕ) → k + length t ≤ length sizes → AreWithin d t → parts_stay sizes wrap x 1 (parts_from k t) ≡ true
   parts_inside [] k within small = refl
@@ -59,11 +52,8 @@ module _ (sizes : List ℕ) (wrap : ℤ) (x : List ℕ) (below : IsBelow x sizes
   stay_home [] within = refl
   stay_home (p ∷ parts) within =
       let here : p.0 < length sizes = within 0 p (omega arith) in
-      let on : get_or x p.0 0 < get_or sizes p.0 0 = AllZip-get_or (λ a s. a < s) x sizes p.0 0 0 below (omega (arith, here, length_all_zip (λ a s. a < s) x sizes below)) in
-      ap₂ (λ a b. a && b) (ap is_some (side_start (is_bit_set wrap p.0) (get_or sizes p.0 0) (get_or x p.0 0) p.1 on))
-      (stay_home parts (λ j e h. within (suc j) e (omega (arith, h))))
+      grind (arith, AllZip-get_or, length_all_zip, side_start, here, stay_home parts (λ j e h. within (suc j) e (omega (arith, h))))
 
   pub stay_near : (parts : List (ℕ × ℤ)) (l : ℕ) → All (λ p. p.0 < length sizes) parts → parts_stay sizes wrap x 1 parts ≡ true → l ≤ 1 → parts_stay sizes wrap x l parts ≡ true
   stay_near parts zero within near few = stay_home parts within
-  stay_near parts (suc zero) within near few = near
-  stay_near parts (suc (suc l)) within near few = absurd (omega (arith, few))
+  stay_near parts l within near few = grind (arith)

@@ -8,7 +8,7 @@ use Rattle.sgb_vec.specs.Sums.{bounded_sums}
 use Rattle.sgb_vec.proofs.SumMembers.{IsWithin-length}
 use Rattle.sgb_gen.specs.LocalLists.{LinksData, LocalArc}
 use Rattle.sgb_gen.specs.Subsets.{is_wanted_size}
-use Rattle.sgb_gen.specs.inner.Descents.{arcs_under, front_of, row, rows}
+use Rattle.sgb_gen.specs.inner.Descents.{arcs_under, front_of, row}
 use Rattle.sgb_gen.specs.inner.LocalSimplexes.{with_arcs}
 use Rattle.sgb_gen.proofs.Descents.{sums-past}
 use Rattle.sgb_gen.proofs.DescentArcs.{all-rows, row-under, under-append, under-zeros, zeros}
@@ -37,16 +37,8 @@ module _ (sb : ℕ) (front : List ℕ) (c b h : ℕ) (bs xs : List ℕ) where
   unit-first =
       sym (all-rows sb front c 1 b h (min 1 b) bs xs (b ∷ bs) (h ∷ xs) refl refl refl)
       ∙ elim (cases_lt 0 b) [
-        | inl some ↦
-            ap (λ n. arcs_under sb front c (h ∷ xs) (rows 1 bs 0 n)) {x = min 1 b + 1 - 0} {y = 2} (omega arith)
-            ∙ under-append sb front c (h ∷ xs) (row 1 bs 1) (row 1 bs 0 ++ [])
-            ∙ ap₂ (λ l m. l ++ m) first_row (ap (arcs_under sb front c (h ∷ xs)) (append-nil (row 1 bs 0)) ∙ later_row)
-            ∙ ap (λ t. cond (t && is_wanted_size sb (c + min h 1)) (unit_arc front bs ∷ []) [] ++ later) (sym (lt-ltb 0 b some))
-        | inr none ↦
-            ap (λ n. arcs_under sb front c (h ∷ xs) (rows 1 bs 0 n)) {x = min 1 b + 1 - 0} {y = 1} (omega arith)
-            ∙ ap (arcs_under sb front c (h ∷ xs)) (append-nil (row 1 bs 0))
-            ∙ later_row
-            ∙ ap (λ t. cond (t && is_wanted_size sb (c + min h 1)) (unit_arc front bs ∷ []) [] ++ later) (sym (le-ltb 0 b none))
+        | inl some ↦ grind (arith, front, min, under-append, first_row, append-nil, later_row, cond, unit_arc, later, lt-ltb)
+        | inr none ↦ grind (arith, front, min, append-nil, later_row, cond, unit_arc, later, le-ltb)
       ]
 
 -- ---- a vector whose entries from a place on are 0
@@ -96,14 +88,12 @@ units-more links new start_links sb tip c start i n b h wanted bounds x all fits
     let front = take (start + i) tip in
     let bs = drop (i + 1) bounds in
     let xs = drop (i + 1) x in
-    let bounds_are : drop i bounds ≡ b ∷ bs = drop_more bounds i 0 (omega arith) ∙ ap (λ k. k ∷ bs) (sym b_is) in
-    let x_is : drop i x ≡ h ∷ xs = drop_more x i 0 (omega arith) ∙ ap (λ k. k ∷ xs) (sym h_is) in
     let long : length bs ≡ n - (i + 1) = omega (arith, length-drop (i + 1) bounds, same, count) in
     let later = arcs_under sb (front ++ 0 ∷ []) c xs (reverse (bounded_sums 1 bs)) in
     let unit : List LocalArc = cond wanted (record { tip = set tip (start + i) 1; len = pos 1 } ∷ []) [] in
     let unit_is : unit ≡ cond (ltb 0 b && is_wanted_size sb (c + min h 1)) (unit_arc front bs ∷ []) [] =
     ap₂ (λ t v. cond t (record { tip = v; len = pos 1 } ∷ []) []) wanted_is (unit-set tip start n i fits rest within bs long) in
-    cc (new_is, zero-more tip start n i fits rest within, append_assoc links.arcs unit later, unit_is, unit-first sb front c b h bs xs, x_is, bounds_are, so_far)
+    grind (arith, drop_more, zero-more, append_assoc, later, unit-first, front, front, bs, xs, later, unit, unit_is)
 
 -- and no place is left
 pub none-left : (sb : ℕ) (front : List ℕ) (c left i : ℕ) (bounds x : List ℕ) → 0 < left → length x ≤ i → length bounds ≤ i → arcs_under sb front c (drop i x) (reverse (bounded_sums left (drop i bounds))) ≡ []

@@ -1,5 +1,5 @@
 -- The list of a vertex by a displacement where no move is longer than 1.
-use Rattle.std.proofs.Common.{◌≡◌, ◌∙◌, ◌<◌, ℕ, ℤ, Bool, false, not, cond, List, [], ◌∷◌, ◌++◌, Option, Some, None, reverse, refl, sym, ap, ap₂, subst, arith, append-nil}
+use Rattle.std.proofs.Common.{◌≡◌, ◌∙◌, ◌<◌, ℕ, ℤ, Bool, false, not, cond, List, [], ◌∷◌, ◌++◌, Some, None, reverse, refl, sym, ap, ap₂, subst, arith, append-nil}
 use Rattle.std.specs.Prelude.{◌==◌}
 use Rattle.std.specs.List.{AllPairs, Contains}
 use Rattle.std.specs.List.Sorted.{IsPermutation}
@@ -83,18 +83,10 @@ module _ (b : BoardData) (t : List ℤ) (x : List ℕ) (there : Contains (box b.
 
   -- what holds of no start and of one at x holds of those at x
   own-shape : (P : List (ℕ × ℕ) → Type 0) → P [] → P ((own_vertex, 1) ∷ []) → P own
-  own-shape P none one = cases (leads b x t 1) refl
-    where
-      cases : (o : Option (List ℕ)) → leads b x t 1 ≡ o → P own
-      cases None e = subst P (sym (own-none e)) none
-      cases (Some y) e = subst P (sym (own-one y e)) one
+  own-shape P none one = grind (arith, leads, own, own-none, own-one)
 
   own_made : made own ≡ own_arcs
-  own_made = cases (leads b x t 1) refl
-    where
-      cases : (o : Option (List ℕ)) → leads b x t 1 ≡ o → made own ≡ own_arcs
-      cases None e = ap made (own-none e) ∙ sym (ap (edge_arcs x 1) e)
-      cases (Some y) e = ap made (own-one y e) ∙ made_own
+  own_made = grind (arith, leads, made, own, own_arcs, own-none, own-one, made_own)
 
   single : (p : ℕ × ℕ) → AllPairs IsEarlier (p ∷ [])
   single p = AllPairs-cons IsEarlier p [] (All-nil (IsEarlier p)) (AllPairs-none IsEarlier)
@@ -110,10 +102,7 @@ module _ (b : BoardData) (t : List ℤ) (x : List ℕ) (there : Contains (box b.
 
   -- no edge comes to x from another vertex
   pub leaps_alone : others ≡ [] → reverse all_arcs ≡ own_arcs
-  leaps_alone none =
-      let whole : own ++ others ≡ own = ap (λ os. own ++ os) none ∙ append-nil own in
-      ap reverse (of_list own (subst (λ ss. IsPermutation ss own) (sym whole) (IsPermutation-refl own)) (own-shape (AllPairs IsEarlier) (AllPairs-none IsEarlier) (single (own_vertex, 1))) ∙ own_made)
-      ∙ edge_turned x 1 (leads b x t 1)
+  leaps_alone none = grind (arith, own, others, append-nil, reverse, of_list, IsPermutation-refl, own-shape, IsEarlier, AllPairs-none, single, own_vertex, own_made, edge_turned, leads)
 
   -- one comes from a later vertex
   pub leaps_later : (v : ℕ) → others ≡ (v, 1) ∷ [] → own_vertex < v → reverse all_arcs ≡ other_arcs ++ own_arcs

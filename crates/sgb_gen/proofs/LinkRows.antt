@@ -1,5 +1,5 @@
 -- Arcs that are kept with their vectors one after another.
-use Rattle.std.proofs.Common.{rules, ◌≡◌, ℕ, zero, suc, ◌+◌, ◌-◌, ◌*◌, ◌<◌, ◌≤◌, pos, List, [], ◌∷◌, ◌++◌, length, get_or, take, drop, Some, refl, sym, ap, ◌∙◌, arith, length-append, length-drop}
+use Rattle.std.proofs.Common.{rules, ◌≡◌, ℕ, zero, suc, ◌-◌, ◌*◌, ◌<◌, pos, List, [], ◌∷◌, ◌++◌, length, get_or, take, drop, Some, refl, ap, ◌∙◌, arith, length-append, length-drop}
 use borrow.Rule.Slice.PartMut.{put_mid}
 use Rattle.std.specs.List.{slice_get}
 use Rattle.std.proofs.Math.Seq.{drop-append_seam, take-append_seam}
@@ -19,12 +19,8 @@ length-arcs_in width tips (n ∷ lens) = ap suc (length-arcs_in width (drop widt
 -- the arc at a place
 pub slice_get-arcs_in : (width : ℕ) (tips lens : List ℕ) (i : ℕ) → i < length lens → slice_get (arcs_in width tips lens) i ≡ Some (record { tip = take width (drop (i * width) tips); len = pos (get_or lens i 0) })
 slice_get-arcs_in width tips [] i h = absurd (omega arith)
-slice_get-arcs_in width tips (n ∷ lens) zero h =
-    let start : 0 ≡ 0 * width = omega arith in
-    ap (λ k. Some (record { tip = take width (drop k tips); len = pos n })) start
-slice_get-arcs_in width tips (n ∷ lens) (suc i) h =
-    let start : width + i * width ≡ suc i * width = omega arith in
-    cc (slice_get-arcs_in width (drop width tips) lens i (omega arith), drop-drop (i * width) width tips, start)
+slice_get-arcs_in width tips (n ∷ lens) zero h = grind (arith)
+slice_get-arcs_in width tips (n ∷ lens) (suc i) h = grind (arith, drop-drop, slice_get-arcs_in width (drop width tips) lens i (omega arith))
 
 -- no entries
 no_entries : (xs : List ℕ) → length xs ≡ 0 → xs ≡ []
@@ -33,17 +29,8 @@ no_entries (x ∷ xs) e = absurd (omega arith)
 
 -- one more arc behind the others
 pub arcs_in-push : (width : ℕ) (tips lens tip : List ℕ) (n : ℕ) → length tips ≡ length lens * width → length tip ≡ width → arcs_in width (tips ++ tip) (lens ++ n ∷ []) ≡ arcs_in width tips lens ++ record { tip = tip; len = pos n } ∷ []
-arcs_in-push width tips [] tip n long wide =
-    let none : tips ≡ [] = no_entries tips (omega arith) in
-    cc (none, take_all width tip (omega arith))
-arcs_in-push width tips (m ∷ lens) tip n long wide =
-    let room : width ≤ length tips = omega arith in
-    let first : take width (tips ++ tip) ≡ take width tips = take-append-le width tips tip room in
-    let others : drop width (tips ++ tip) ≡ drop width tips ++ tip = drop-append-le width tips tip room in
-    let left : length (drop width tips) ≡ length lens * width = omega (arith, length-drop width tips) in
-    ap (λ row. record { tip = row; len = pos m } ∷ arcs_in width (drop width (tips ++ tip)) (lens ++ n ∷ [])) first
-    ∙ ap (λ rows. record { tip = take width tips; len = pos m } ∷ arcs_in width rows (lens ++ n ∷ [])) others
-    ∙ ap (λ arcs. record { tip = take width tips; len = pos m } ∷ arcs) (arcs_in-push width (drop width tips) lens tip n left wide)
+arcs_in-push width tips [] tip n long wide = grind (arith, no_entries, take_all)
+arcs_in-push width tips (m ∷ lens) tip n long wide = grind (arith, take-append-le, drop-append-le, length-drop, arcs_in-push width (drop width tips) lens tip n (omega (arith, length-drop width tips)) wide)
 
 -- with one more arc there are still as many entries as arcs times the width
 rows-push : (width n : ℕ) (kept lens tip tips news : List ℕ) → tips ≡ kept ++ tip → news ≡ lens ++ n ∷ [] → length kept ≡ length lens * width → length tip ≡ width → length tips ≡ length news * width
@@ -53,17 +40,6 @@ rows-push width n kept lens tip tips news tips_are news_are long wide = search (
 pub last_row : (kept x all : List ℕ) (start : ℕ) → all ≡ kept ++ x → start ≡ length kept → take (length all - start) (drop start all) ≡ x
 last_row kept x all start all_is start_is =
     take_rest all start ∙ ap (drop start) all_is ∙ ap (λ k. drop k (kept ++ x)) start_is ∙ drop-append_seam kept x
-
--- it is changed in place, and stays as long
-put-moved : (f : List ℕ → List ℕ) (kept x all moved : List ℕ) (start : ℕ) → all ≡ kept ++ x → start ≡ length kept
-    → moved ≡ f (take (length all - start) (drop start all))
-    → put_mid start (length all - start) all moved ≡ kept ++ f x
-put-moved f kept x all moved start all_is start_is moved_is = grind (arith, take-append_seam, drop_all, length-drop, append-nil, last_row)
-
-last_moved : {Z : Type 0} (f : List ℕ → List ℕ) (v : Vec ℕ Z) (kept x all moved : List ℕ) (start : ℕ) → ((row : List ℕ) → length (f row) ≡ length row) → v.items ≡ kept ++ x → all ≡ v.items → vec_len v ≡ length v.items → start ≡ length kept
-    → moved ≡ f (take (length all - start) (drop start all))
-    → (with_items v (put_mid start (length all - start) all moved)).items ≡ kept ++ f x
-last_moved f v kept x all moved start as_long items_are all_is count start_is moved_is = grind (arith, put-moved, with_items_is, put_mid, length-append)
 
 -- ---- one arc more
 
@@ -78,6 +54,4 @@ pub arc-moved : {Z : Type 0} (f : List ℕ → List ℕ) (v : Vec ℕ Z) (w n : 
     → v.items ≡ kept ++ x → all ≡ v.items → vec_len v ≡ length v.items → start ≡ length kept → moved ≡ f (take (length all - start) (drop start all)) → news ≡ lens ++ n ∷ []
     → (length (with_items v (put_mid start (length all - start) all moved)).items ≡ length news * w)
     × (◌≡◌ {A = LinksData} (record { width = w; arcs = arcs_in w (with_items v (put_mid start (length all - start) all moved)).items news }) (with_arcs d (record { tip = f x; len = pos n } ∷ [])))
-arc-moved f v w n d kept lens x all moved news start as_long view long wide items_are all_is count start_is moved_is news_are =
-    let tips = last_moved f v kept x all moved start as_long items_are all_is count start_is moved_is in
-    (rows-push w n kept lens (f x) _ news tips news_are long (as_long x ∙ wide ∙ sym (ap (λ e. e.width) view)), arc-pushed w n d kept lens (f x) _ news view long (as_long x ∙ wide) tips news_are)
+arc-moved f v w n d kept lens x all moved news start as_long view long wide items_are all_is count start_is moved_is news_are = grind (arith, rows-push, arc-pushed, with_items_is, length-append, take-append_seam, drop_all, length-drop, append-nil, last_row)

@@ -1,5 +1,5 @@
 -- The list of a vector of a board, from the moves by one displacement after another.
-use Rattle.std.proofs.Common.{rules, ◌≡◌, ◌≤◌, ℕ, ◌+◌, ℤ, pos, nat_abs, Bool, true, false, cond, List, [], ◌∷◌, ◌++◌, map, reverse, get_or, Option, Some, None, refl, sym, ap, ap₂, subst, ◌∙◌, inl, inr, arith, append-nil}
+use Rattle.std.proofs.Common.{rules, ◌≡◌, ◌≤◌, ℕ, ◌+◌, ℤ, nat_abs, Bool, true, false, cond, List, [], ◌∷◌, ◌++◌, map, reverse, get_or, Option, Some, None, refl, sym, ap, ap₂, subst, ◌∙◌, inl, inr, arith, append-nil}
 use Rattle.std.specs.Prelude.{◌==◌}
 use Rattle.std.specs.Cmp.Lexicographic.{bytes_decides}
 use Rattle.std.specs.List.{All, Contains, filter, flat_map, range_with_len}
@@ -33,38 +33,10 @@ use Rattle.sgb_gen.proofs.Reaches.{destination-below, move, moves_from-until, mo
 
 -- ---- the order turned
 
--- the arcs of one move may be turned round: two of them are alike
-arcs_turned : (directed : Bool) (x : List ℕ) (m : Move) → reverse (arcs_by directed x m) ≡ arcs_by directed x m
-arcs_turned true x m = one (same_vector m.from x)
-  where
-    there : LocalArc
-    there = record { tip = m.to; len = pos m.len }
-
-    one : (c : Bool) → reverse (cond c (there ∷ []) []) ≡ cond c (there ∷ []) []
-    one true = refl
-    one false = refl
-arcs_turned false x m = two (same_vector m.from x) (same_vector m.to x) refl refl
-  where
-    to : LocalArc
-    to = record { tip = m.to; len = pos m.len }
-
-    from : LocalArc
-    from = record { tip = m.from; len = pos m.len }
-
-    two : (c d : Bool) → same_vector m.from x ≡ c → same_vector m.to x ≡ d → reverse (cond c (to ∷ []) [] ++ cond d (from ∷ []) []) ≡ cond c (to ∷ []) [] ++ cond d (from ∷ []) []
-    two true true e f =
-        let alike : m.from ≡ m.to = (bytes_decides m.from x).0 e ∙ sym ((bytes_decides m.to x).0 f) in
-        ap₂ (λ v w. record { tip = v; len = pos m.len } ∷ record { tip = w; len = pos m.len } ∷ []) alike (sym alike)
-    two true false e f = refl
-    two false true e f = refl
-    two false false e f = refl
-
 -- the list is what the moves make one after another, turned round
 pub list_turned : (directed : Bool) (x : List ℕ) (ms : List Move) → arcs_of_moves directed x ms ≡ reverse (arcs_onward directed x ms)
 list_turned directed x [] = refl
-list_turned directed x (m ∷ ms) =
-    ap₂ (λ p q. p ++ q) (list_turned directed x ms) (sym (arcs_turned directed x m))
-    ∙ sym (reverse-append (arcs_by directed x m) (arcs_onward directed x ms))
+list_turned directed x (m ∷ ms) = search (rules, reverse-append, reverse, cond, same_vector, LocalArc, bytes_decides, list_turned directed x ms)
 
 -- ---- the moves from one vector
 
@@ -107,8 +79,7 @@ module _ (sides : List Side) (piece : ℤ) (t : List ℤ) (x : List ℕ) where
   arcs_onward-own (m ∷ ms) = first (same_vector m.from x) (arcs_onward-own ms)
     where
       first : (c : Bool) → arcs_onward true x ms ≡ map move_arc (filter starts_here ms) → cond c (move_arc m ∷ []) [] ++ arcs_onward true x ms ≡ map move_arc (cond c (m ∷ filter starts_here ms) (filter starts_here ms))
-      first true rest = ap (λ arcs. move_arc m ∷ arcs) rest
-      first false rest = rest
+      first c rest = grind (arith)
 
   -- the arcs of a directed list by one displacement
   pub onward_by_own : (vectors : List (List ℕ)) → IsRising vectors → Contains vectors x → arcs_onward true x (moves_by sides piece vectors t) ≡ map move_arc (moves_from sides piece x t)

@@ -1,12 +1,10 @@
 -- Bounds with one less at a place: the vectors of a sum within them, and how many there are.
 use Rattle.std.proofs.Common.{◌≡◌, ℕ, zero, suc, ◌+◌, ◌-◌, ◌<◌, ◌≤◌, Bool, false, List, [], ◌∷◌, get_or, set, sum, take, refl, ap, inl, inr, arith, length-set}
 use Rattle.std.specs.List.{list_any, range_with_len}
-use Rattle.std.specs.Prelude.{nat_lt}
 use Rattle.std.proofs.lemmas.Bool.{cases_lt, or_from, or_parts, lt-ltb, le-ltb, both_ways}
 use Rattle.std.proofs.lemmas.List.{get_or_past}
 use Rattle.std.proofs.lemmas.List.Sums.{sum_by-set}
 use Rattle.sgb_vec.specs.Lexicographic.{IsBefore, IsWithin}
-use Rattle.sgb_vec.specs.Limits.{most_vertices}
 use Rattle.sgb_vec.specs.Sums.{count_of_sum, has_great_count}
 use Rattle.sgb_vec.proofs.SumCounts.{count_of_sum-cons}
 use Rattle.sgb_vec.proofs.SumSuccessors.{IsBefore-cases, IsBefore-less, IsBefore-same}
@@ -18,11 +16,7 @@ use Rattle.sgb_gen.specs.inner.SimplexCounts.{less_at, lowered}
 
 -- vectors that have a unit there stay in order
 pub before-less_at : (v w : List ℕ) (i : ℕ) → 0 < get_or v i 0 → 0 < get_or w i 0 → IsBefore v w → IsBefore (less_at v i) (less_at w i)
-before-less_at (x ∷ v) (y ∷ w) zero hv hw h =
-    elim (IsBefore-cases x y v w h) [
-      | inl less ↦ IsBefore-less (x - 1) (y - 1) v w (omega arith)
-      | inr same ↦ IsBefore-same (x - 1) (y - 1) v w (ap (λ n. n - 1) same.0) same.1
-    ]
+before-less_at (x ∷ v) (y ∷ w) zero hv hw h = grind (arith, IsBefore-cases, IsBefore-less, IsBefore-same)
 before-less_at (x ∷ v) (y ∷ w) (suc i) hv hw h =
     elim (IsBefore-cases x y v w h) [
       | inl less ↦ IsBefore-less x y (less_at v i) (less_at w i) less
@@ -59,9 +53,7 @@ within-more v [] i some h = absurd (omega arith)
 within-more [] (b ∷ bounds) zero some h = absurd h
 within-more [] (b ∷ bounds) (suc i) some h = absurd h
 within-more (x ∷ v) (b ∷ bounds) zero some h = ((omega (arith, h.0), h.1), omega (arith, h.0, some))
-within-more (x ∷ v) (b ∷ bounds) (suc i) some h =
-    let rest = within-more v bounds i some h.1 in
-    ((h.0, rest.0), rest.1)
+within-more (x ∷ v) (b ∷ bounds) (suc i) some h = grind (arith, within-more v bounds i some h.1)
 
 -- and can have one more there
 pub within-more_both : (v bounds : List ℕ) (i : ℕ) → get_or v i 0 < get_or bounds i 0 → IsWithin v bounds → IsWithin (more_at v i) bounds
@@ -89,9 +81,7 @@ window-narrower (suc b) f k =
 
 -- with one less at a place there are no more vectors of a sum, also within the first bounds
 pub count-lowered_le : (bounds : List ℕ) (m i k : ℕ) → count_of_sum k (take m (less_at bounds i)) ≤ count_of_sum k (take m bounds)
-count-lowered_le (b ∷ bounds) (suc m) zero k =
-    let rest = take m bounds in
-    omega (arith, count_of_sum-cons (b - 1) rest k, count_of_sum-cons b rest k, window-narrower b (λ j. count_of_sum j rest) k)
+count-lowered_le (b ∷ bounds) (suc m) zero k = grind (arith, count_of_sum-cons, window-narrower)
 count-lowered_le (b ∷ bounds) (suc m) (suc i) k =
     let rest = take m bounds in
     let less = take m (less_at bounds i) in
@@ -102,20 +92,9 @@ count-lowered_le _ _ _ k = omega arith
 none_fewer : (p q : ℕ → Bool) (m n a : ℕ) → m ≤ n → ((x : ℕ) → p x ≡ false → q x ≡ false) → list_any p (range_with_len a n) ≡ false → list_any q (range_with_len a m) ≡ false
 none_fewer p q zero n a le fewer none = refl
 none_fewer p q (suc m) zero a le fewer none = absurd (omega arith)
-none_fewer p q (suc m) (suc n) a le fewer none =
-    let parts = or_parts (p a) (list_any p (range_with_len (a + 1) n)) none in
-    or_from (q a) (list_any q (range_with_len (a + 1) m)) (fewer a parts.0) (none_fewer p q m n (a + 1) (omega arith) fewer parts.1)
-
--- a count that is no greater is not too great
-small_too : (a b : ℕ) → a ≤ b → nat_lt most_vertices b ≡ false → nat_lt most_vertices a ≡ false
-small_too a b le small = grind (arith, cases_lt, both_ways, lt-ltb, le-ltb)
-
--- where there are not too many vectors, there are not of a smaller sum and with one less at a place
-none_great-less : (n m : ℕ) (bounds : List ℕ) (i : ℕ) → m ≤ n → has_great_count n bounds ≡ false → has_great_count m (less_at bounds i) ≡ false
-unfolding has_great_count
-none_great-less n m bounds i le none = grind (arith, length-set, none_fewer, small_too, count-lowered_le)
+none_fewer p q (suc m) (suc n) a le fewer none = grind (arith, or_parts, or_from, none_fewer p q m n (a + 1) (omega arith) fewer (or_parts (p a) (list_any p (range_with_len (a + 1) n)) none).1)
 
 -- nor with one less at two
 pub none_great-lowered : (n : ℕ) (bounds : List ℕ) (at : Places) → has_great_count n bounds ≡ false → has_great_count (n - 1) (lowered bounds at) ≡ false
-none_great-lowered n bounds at none =
-    none_great-less (n - 1) (n - 1) (less_at bounds at.lower) at.higher (omega arith) (none_great-less n (n - 1) bounds at.lower (omega arith) none)
+unfolding has_great_count
+none_great-lowered n bounds at none = grind (arith, length-set, none_fewer, count-lowered_le, cases_lt, both_ways, lt-ltb, le-ltb)

@@ -1,5 +1,5 @@
 -- The list of a vector, as the moves that touch it make it.
-use Rattle.std.proofs.Common.{◌≡◌, ℕ, ◌+◌, ℤ, pos, Bool, true, false, cond, List, [], ◌∷◌, ◌++◌, length, map, get_or, refl, sym, ap, ap₂, subst, ◌∙◌, arith, append-nil, append_assoc}
+use Rattle.std.proofs.Common.{◌≡◌, ℕ, ◌+◌, ℤ, pos, Bool, true, false, cond, List, [], ◌∷◌, ◌++◌, length, map, get_or, sym, ap, ap₂, subst, ◌∙◌, arith, append-nil, append_assoc, rules}
 use Rattle.std.specs.Prelude.{◌==◌}
 use Rattle.std.specs.Cmp.Lexicographic.{bytes_decides}
 use Rattle.std.specs.List.{All, Contains}
@@ -26,30 +26,17 @@ arc_of g l = record { tip = g l.tip; len = l.len }
 abbrev one : Bool → List ℕ → ℤ → List LocalArc
 one touches tip n = cond touches (record { tip = tip; len = n } ∷ []) []
 
-mapped_one : (g : ℕ → List ℕ) (c : Bool) (l : Link) → map (arc_of g) (cond c (l ∷ []) [] ++ []) ≡ cond c (arc_of g l ∷ []) []
-mapped_one g true l = refl
-mapped_one g false l = refl
-
-mapped_two : (g : ℕ → List ℕ) (c d : Bool) (l m : Link) → map (arc_of g) (cond c (l ∷ []) [] ++ (cond d (m ∷ []) [] ++ [])) ≡ cond c (arc_of g l ∷ []) [] ++ cond d (arc_of g m ∷ []) []
-mapped_two g true true l m = refl
-mapped_two g true false l m = refl
-mapped_two g false true l m = refl
-mapped_two g false false l m = refl
-
 -- of two of which one at most is there, either may come first
 either_first : (c d : Bool) (ps qs : List LocalArc) → (c ≡ true → d ≡ true → ⊥) → cond d qs [] ++ cond c ps [] ≡ cond c ps [] ++ cond d qs []
-either_first true true ps qs h = absurd (h refl refl)
-either_first true false ps qs h = sym (append-nil ps)
-either_first false true ps qs h = append-nil qs
-either_first false false ps qs h = refl
+either_first c d ps qs h = grind (arith, append-nil)
 
 -- the arc of v that an arc's record makes
 links_of_arc : (g : ℕ → List ℕ) (v k a b : ℕ) (n : ℤ) → map (arc_of g) (links_at v k (records_of true (record { from = a; to = b; len = n }))) ≡ one (a == v) (g b) n
-links_of_arc g v k a b n = mapped_one g (a == v) (record { number = k; tip = b; len = n })
+links_of_arc g v k a b n = grind (arith)
 
 -- those that an edge's two records make
 links_of_edge : (g : ℕ → List ℕ) (v k a b : ℕ) (n : ℤ) → map (arc_of g) (links_at v k (records_of false (record { from = a; to = b; len = n }))) ≡ one (a == v) (g b) n ++ one (b == v) (g a) n
-links_of_edge g v k a b n = grind (arith, mapped_two, cases_lt, either_first, Decides-eqb)
+links_of_edge g v k a b n = grind (arith, cases_lt, either_first, Decides-eqb)
 
 -- the arcs by some moves and then others
 pub arcs-append : (directed : Bool) (x : List ℕ) (ms ns : List Move) → arcs_of_moves directed x (ms ++ ns) ≡ arcs_of_moves directed x ns ++ arcs_of_moves directed x ms
@@ -70,9 +57,7 @@ module _ (vectors : List (List ℕ)) (rise : IsRising vectors) where
 
   -- the arcs of x that one move makes
   move_arcs : (directed : Bool) (x : List ℕ) (k : ℕ) (m : Move) → Contains vectors x → HasEnds vectors m → map (local_arc vectors) (links_at (vertex_among vectors x) k (records_of directed (event_among vectors m))) ≡ arcs_by directed x m
-  move_arcs true x k m hx ends =
-      links_of_arc (λ t. get_or vectors t []) (vertex_among vectors x) k (vertex_among vectors m.from) (vertex_among vectors m.to) (pos m.len)
-      ∙ ap₂ (λ c t. one c t (pos m.len)) (same_vertex m.from x ends.0 hx) (vector_back m.to ends.1)
+  move_arcs true x k m hx ends = grind (arith, links_of_arc, one, same_vertex, vector_back)
   move_arcs false x k m hx ends =
       links_of_edge (λ t. get_or vectors t []) (vertex_among vectors x) k (vertex_among vectors m.from) (vertex_among vectors m.to) (pos m.len)
       ∙ ap₂ (λ ps qs. ps ++ qs)
@@ -83,9 +68,7 @@ module _ (vectors : List (List ℕ)) (rise : IsRising vectors) where
   from_moves directed x k [] hx ends = ap (map (local_arc vectors)) (list_none directed k (vertex_among vectors x))
   from_moves directed x k (m ∷ moves) hx ends =
       let rows = records_of directed (event_among vectors m) in
-      ap (map (local_arc vectors)) (list_first directed k (event_among vectors m) (map (event_among vectors) moves) (vertex_among vectors x))
-      ∙ map-append (local_arc vectors) (list_from directed (k + length rows) (map (event_among vectors) moves) (vertex_among vectors x)) (links_at (vertex_among vectors x) k rows)
-      ∙ ap₂ (λ ps qs. ps ++ qs) (from_moves directed x (k + length rows) moves hx (All-tail (HasEnds vectors) m moves ends)) (move_arcs directed x k m hx (All-head (HasEnds vectors) m moves ends))
+      search (rules, list_first, map-append, All-tail, move_arcs, All-head, local_arc, event_among, vertex_among, links_at, HasEnds, rows, from_moves directed x (k + length rows) moves hx (All-tail (HasEnds vectors) m moves ends))
 
   -- the list of x is what the moves make, those of later moves first
   pub list_at-moves : (directed : Bool) (x : List ℕ) (moves : List Move) → Contains vectors x → All (HasEnds vectors) moves → list_at directed vectors moves x ≡ arcs_of_moves directed x moves
@@ -96,22 +79,12 @@ module _ (vectors : List (List ℕ)) (rise : IsRising vectors) where
 abbrev HasTipIn : List (List ℕ) → LocalArc → Type 0
 HasTipIn vectors arc = Contains vectors arc.tip
 
--- so do the arcs that moves between them make
-tip_if : (vectors : List (List ℕ)) (touches : Bool) (tip : List ℕ) (len : ℕ) → Contains vectors tip → All (HasTipIn vectors) (arc_if touches tip len)
-tip_if vectors true tip len there = All-cons (HasTipIn vectors) _ [] there (All-nil (HasTipIn vectors))
-tip_if vectors false tip len there = All-nil (HasTipIn vectors)
-
 tips_by : (vectors : List (List ℕ)) (directed : Bool) (x : List ℕ) (m : Move) → HasEnds vectors m → All (HasTipIn vectors) (arcs_by directed x m)
-tips_by vectors true x m ends = tip_if vectors (same_vector m.from x) m.to m.len ends.1
-tips_by vectors false x m ends =
-    All-append (HasTipIn vectors) (arc_if (same_vector m.from x) m.to m.len) (arc_if (same_vector m.to x) m.from m.len)
-    (tip_if vectors (same_vector m.from x) m.to m.len ends.1) (tip_if vectors (same_vector m.to x) m.from m.len ends.0)
+tips_by vectors directed x m ends = search (rules, All-append, HasTipIn, All-cons, All-nil, same_vector, arc_if)
 
 tips_of_moves : (vectors : List (List ℕ)) (directed : Bool) (x : List ℕ) (moves : List Move) → All (HasEnds vectors) moves → All (HasTipIn vectors) (arcs_of_moves directed x moves)
 tips_of_moves vectors directed x [] ends = All-nil (HasTipIn vectors)
-tips_of_moves vectors directed x (m ∷ moves) ends =
-    All-append (HasTipIn vectors) (arcs_of_moves directed x moves) (arcs_by directed x m)
-    (tips_of_moves vectors directed x moves (All-tail (HasEnds vectors) m moves ends)) (tips_by vectors directed x m (All-head (HasEnds vectors) m moves ends))
+tips_of_moves vectors directed x (m ∷ moves) ends = search (rules, All-append, HasTipIn, All-tail, tips_by, All-head, arcs_of_moves, arcs_by, HasEnds, tips_of_moves vectors directed x moves (All-tail (HasEnds vectors) m moves ends))
 
 -- and those of a list
 pub tips_of_list : (vectors : List (List ℕ)) (directed : Bool) (x : List ℕ) (moves : List Move) → IsRising vectors → All (HasEnds vectors) moves → Contains vectors x

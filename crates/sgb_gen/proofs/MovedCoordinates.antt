@@ -7,7 +7,7 @@ use Rattle.std.proofs.lemmas.Int.{ints}
 use Rattle.std.proofs.lemmas.List.{at_drop_more, drop_all}
 use Rattle.std.proofs.lemmas.List.Elements.{All-cons, All-nil, AllZip-get_or, length_all_zip}
 use Rattle.sgb_vec.specs.Lexicographic.{IsBelow}
-use Rattle.sgb_gen.specs.Moves.{is_bit_set, sides_of, coordinate_on, in_front, place}
+use Rattle.sgb_gen.specs.Moves.{sides_of, in_front, place}
 use Rattle.sgb_gen.specs.MovedCoordinates.{part_at, parts_from, parts_of, parts_put}
 use Rattle.sgb_gen.specs.inner.MovedCoordinates.{parts_stay}
 use Rattle.sgb_gen.proofs.Places.{after_known, after_known-none, after_known-push, coordinates_from, coordinates-step}
@@ -33,8 +33,7 @@ module _ (sizes : List ℕ) (wrap : ℤ) (x : List ℕ) (l : ℕ) where
       → ((w : List ℕ) → moved_by sizes wrap x l parts w ≡ chosen (parts_stay sizes wrap x l parts) (parts_put sizes wrap x l parts w))
       → option_map_or (λ c. moved_by sizes wrap x l parts (set there p.0 c)) o None
       ≡ chosen (is_some o && parts_stay sizes wrap x l parts) (parts_put sizes wrap x l parts (set there p.0 (unwrap_or o 0)))
-  one_put p parts there None rest = refl
-  one_put p parts there (Some c) rest = rest (set there p.0 c)
+  one_put p parts there o rest = grind (arith, set)
 
   all_put : (parts : List (ℕ × ℤ)) (there : List ℕ) → moved_by sizes wrap x l parts there ≡ chosen (parts_stay sizes wrap x l parts) (parts_put sizes wrap x l parts there)
   all_put [] there = refl
@@ -46,18 +45,12 @@ module _ (sizes : List ℕ) (wrap : ℤ) (x : List ℕ) (l : ℕ) where
   part_put : (k : ℕ) (known xs : List ℕ) (parts : List (ℕ × ℤ)) (a : ℕ) (o : Option ℕ) (others : Option (List ℕ)) → length known ≡ k
       → ((c : ℕ) → after_known (known ++ c ∷ []) others ≡ moved_by sizes wrap x l parts ((known ++ c ∷ []) ++ xs))
       → after_known known (in_front o others) ≡ option_map_or (λ c. moved_by sizes wrap x l parts (set (known ++ a ∷ xs) k c)) o None
-  part_put k known xs parts a None others e rest = refl
-  part_put k known xs parts a (Some c) others e rest =
-      cc (after_known-push known c others, rest c, append_assoc known (c ∷ []) xs, set-append_seam known a xs c, e)
+  part_put k known xs parts a o others e rest = grind (arith, after_known-push, append_assoc, set-append_seam)
 
   next_there : (u : ℤ) (k : ℕ) (known xs : List ℕ) (t : List ℤ) (others : Option (List ℕ)) → length known ≡ k → get_or x k 0 < get_or sizes k 0
       → ((c : ℕ) → after_known (known ++ c ∷ []) others ≡ moved_by sizes wrap x l (parts_from (k + 1) t) ((known ++ c ∷ []) ++ xs))
       → after_known known (in_front (part_at sizes wrap x l (k, u)) others) ≡ moved_by sizes wrap x l (parts_from k (u ∷ t)) (known ++ get_or x k 0 ∷ xs)
-  next_there (pos zero) k known xs t others e below rest =
-      let still : part_at sizes wrap x l (k, pos 0) ≡ Some (get_or x k 0) =
-      ap (coordinate_on (record { size = get_or sizes k 0; wraps = is_bit_set wrap k })) (unmoved (get_or x k 0) l)
-      ∙ side_itself (is_bit_set wrap k) (get_or sizes k 0) (get_or x k 0) below in
-      cc (still, after_known-push known (get_or x k 0) others, rest (get_or x k 0), append_assoc known (get_or x k 0 ∷ []) xs)
+  next_there (pos zero) k known xs t others e below rest = grind (arith, unmoved, side_itself, after_known-push, append_assoc)
   next_there (pos (suc c)) k known xs t others e below rest =
       part_put k known xs (parts_from (k + 1) t) (get_or x k 0) (part_at sizes wrap x l (k, pos (suc c))) others e rest
   next_there (negsuc c) k known xs t others e below rest =
@@ -66,8 +59,7 @@ module _ (sizes : List ℕ) (wrap : ℤ) (x : List ℕ) (l : ℕ) where
   all_there : (t : List ℤ) (n k : ℕ) (known : List ℕ) → k + n ≡ length sizes → length x ≡ length sizes → length t ≡ length sizes → length known ≡ k
       → ((j : ℕ) → j < length sizes → get_or x j 0 < get_or sizes j 0)
       → after_known known (coordinates_from sizes wrap x t l k) ≡ moved_by sizes wrap x l (parts_from k (drop k t)) (known ++ drop k x)
-  all_there t zero k known sum long_x long_t e below =
-      cc (drop_all k sizes (omega (arith, sum)), drop_all k t (omega (arith, sum, long_t)), drop_all k x (omega (arith, sum, long_x)))
+  all_there t zero k known sum long_x long_t e below = grind (arith, drop_all)
   all_there t (suc n) k known sum long_x long_t e below =
       let u = get_or t k (pos 0) in
       let here : k < length sizes = omega (arith, sum) in
@@ -89,9 +81,7 @@ place_by_parts sizes wrap x t l below long =
 -- it has as many entries
 pub length-put : (sizes : List ℕ) (wrap : ℤ) (x : List ℕ) (l : ℕ) (parts : List (ℕ × ℤ)) (there : List ℕ) → length (parts_put sizes wrap x l parts there) ≡ length there
 length-put sizes wrap x l [] there = refl
-length-put sizes wrap x l (p ∷ parts) there =
-    let c = unwrap_or (part_at sizes wrap x l p) 0 in
-    length-put sizes wrap x l parts (set there p.0 c) ∙ length-set there p.0 c
+length-put sizes wrap x l (p ∷ parts) there = simp (set, length-set, length-put sizes wrap x l parts (set there p.0 (unwrap_or (part_at sizes wrap x l p) 0)))
 
 -- ---- their numbers
 

@@ -1,5 +1,5 @@
 -- The moves by one displacement in order: by the vectors where they start, and then by their lengths.
-use Rattle.std.proofs.Common.{◌≡◌, ℕ, ◌<◌, ◌⊎◌, ℤ, List, [], ◌∷◌, length, get_or, Option, Some, None, refl, sym, ap, subst, subst₂, ◌∙◌, inl, inr, arith}
+use Rattle.std.proofs.Common.{◌≡◌, ℕ, ◌<◌, ◌⊎◌, ℤ, List, [], ◌∷◌, length, get_or, Option, Some, None, refl, sym, ap, subst, subst₂, inl, inr, arith}
 use Rattle.std.specs.List.{All, AllPairs, Contains, cons_option, filter_map, flat_map, slice_get}
 use Rattle.std.specs.Option.{option_map, option_map_or}
 use Rattle.std.proofs.lemmas.Bool.{cases_lt}
@@ -21,15 +21,12 @@ all_made Q h [] each = All-nil Q
 all_made Q h (x ∷ xs) each = with_first (h x) refl (all_made Q h xs (λ z y there made. each z y (Contains-other x z xs there) made))
   where
     with_first : (o : Option _) → h x ≡ o → All Q (filter_map h xs) → All Q (cons_option o (filter_map h xs))
-    with_first None e rest = rest
-    with_first (Some y) e rest = All-cons Q y (filter_map h xs) (each x y (Contains-first x xs) e) rest
+    with_first o e rest = grind (arith, All-cons, Contains-first)
 
 pub made_there : {X Y : Type 0} (h : X → Option Y) (xs : List X) (x : X) (y : Y) → Contains xs x → h x ≡ Some y → Contains (filter_map h xs) y
 made_there h [] x y there made = absurd (omega (arith, there.1))
 made_there h (z ∷ xs) x y there made = elim (Contains-cases z x xs there) [
-  | inl same ↦
-      let own : h z ≡ Some y = ap h same ∙ made in
-      subst (λ o. Contains (cons_option o (filter_map h xs)) y) (sym own) (Contains-first y (filter_map h xs))
+  | inl same ↦ grind (arith, Contains-first)
   | inr later ↦ behind (h z) (made_there h xs x y later made)
 ]
   where
@@ -46,10 +43,7 @@ all_lead sides piece t y =
     (λ l m there made. led l m (place sides y t l) refl there made)
   where
     led : (l : ℕ) (m : Move) (o : Option (List ℕ)) → place sides y t l ≡ o → Contains (reach sides piece y t) l → option_map (λ z. move y l z) o ≡ Some m → (m.from ≡ y) × LeadsTo sides piece y t m.len m.to
-    led l m None e there made = absurd cc
-    led l m (Some z) e there made =
-        let same : move y l z ≡ m = cc in
-        subst (λ (n : Move). (n.from ≡ y) × LeadsTo sides piece y t n.len n.to) same (refl, (there, e))
+    led l m o e there made = grind (arith, move)
 
 -- and where a move leads, it is there
 pub move_there : (sides : List Side) (piece : ℤ) (t : List ℤ) (y z : List ℕ) (l : ℕ) → LeadsTo sides piece y t l z → Contains (moves_from sides piece y t) (move y l z)
@@ -74,8 +68,7 @@ rise_until x leads (l ∷ ls) h =
     Less m n = m.len < n.len
 
     next : (o : Option (List ℕ)) → All (λ m. l < m.len) (moves_until x leads ls) → AllPairs (λ m n. m.len < n.len) (moves_until x leads ls) → AllPairs (λ m n. m.len < n.len) (option_map_or (λ y. move x l y ∷ moves_until x leads ls) o [])
-    next None above rest = AllPairs-none (λ (m n : Move). m.len < n.len)
-    next (Some y) above rest = AllPairs-cons (λ (m n : Move). m.len < n.len) (move x l y) (moves_until x leads ls) above rest
+    next o above rest = grind (arith, AllPairs-none, AllPairs-cons, move, moves_until)
 
 pub lengths_rise : (sides : List Side) (piece : ℤ) (t : List ℤ) (y : List ℕ) → AllPairs (λ m n. m.len < n.len) (moves_from sides piece y t)
 lengths_rise sides piece t y = grind (arith, moves_from-until, rise_until, range-rises)
@@ -125,10 +118,6 @@ vertices_in_order vectors v w rise (i, in_v, at_v) (j, in_w, at_w) before =
       | inr more ↦
           elim (cases_lt j i) [
             | inl less ↦ absurd (before_none v (before_trans v w v before (before_later vectors j i w v rise less there here)))
-            | inr equal ↦
-                let same : i ≡ j = omega (arith, more, equal) in
-                let alike : ◌≡◌ {A = Option (List ℕ)} (Some v) (Some w) = sym here ∙ ap (slice_get vectors) same ∙ there in
-                let one : v ≡ w = cc in
-                absurd (before_none v (subst (IsBefore v) (sym one) before))
+            | inr equal ↦ grind (arith, before_none)
           ]
     ])

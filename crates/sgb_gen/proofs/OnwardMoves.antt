@@ -1,23 +1,19 @@
 -- Moves by a displacement that leads onward, and back by its opposite: the vectors come in order.
-use Rattle.std.proofs.Common.{◌≡◌, ◌≢◌, ℕ, zero, suc, ◌+◌, ◌<◌, ℤ, pos, negsuc, ◌+ℤ◌, ◌*ℤ◌, Bool, true, false, not, List, [], ◌∷◌, length, map, Some, sym, ap, ◌∙◌, arith, true≢false}
+use Rattle.std.proofs.lemmas.Bool.{cases_lt, cond-true, lt-ltb, cond-false, le-ltb}
+use Rattle.std.proofs.Common.{◌≡◌, ◌≢◌, ℕ, zero, ◌+◌, ◌<◌, ℤ, pos, negsuc, ◌+ℤ◌, ◌*ℤ◌, true, List, [], ◌∷◌, length, map, Some, arith, true≢false, ltb}
 use Rattle.std.proofs.lemmas.Int.{ints}
 use Rattle.std.proofs.lemmas.Nat.{mul-le}
 use Rattle.sgb_vec.specs.Lexicographic.{IsBefore, IsBelow}
 use Rattle.sgb_vec.proofs.SumSuccessors.{IsBefore-less, IsBefore-same}
-use Rattle.sgb_gen.specs.Moves.{LeadsTo, Side, coordinate_on, is_bit_set, opposite, place, sides_from_bit, within_size}
+use Rattle.sgb_gen.specs.Moves.{LeadsTo, Side, opposite, place, sides_from_bit}
 use Rattle.sgb_gen.specs.inner.Moves.{leads_onward}
 use Rattle.sgb_gen.proofs.OrderedLists.{before_none}
 use Rattle.sgb_gen.proofs.Riders.{Contains-rider_reach}
-use Rattle.sgb_gen.proofs.TurnedMoves.{in_front-parts, in_front-some, leaper_one, place_home, place_start, within_is}
+use Rattle.sgb_gen.proofs.TurnedMoves.{in_front-parts, place_home, place_start}
 
 -- the farther back, the less
 lower : (c e l m a b : ℕ) → l < m → pos c +ℤ pos l *ℤ negsuc e ≡ pos a → pos c +ℤ pos m *ℤ negsuc e ≡ pos b → b < a
 lower c e l m a b less near far = grind (arith, mul-le, ints)
-
--- on a side that does not wrap around a coordinate is within it
-unwrapped : (n : ℕ) (wraps : Bool) (y : ℤ) (c : ℕ) → not wraps ≡ true → coordinate_on (record { size = n; wraps = wraps }) y ≡ Some c → within_size n y ≡ Some c
-unwrapped n true y c clear e = absurd (true≢false (sym clear))
-unwrapped n false y c clear e = e
 
 -- back by the opposite a greater length leads to an earlier vector
 pub farther_earlier : (k : ℕ) (sizes : List ℕ) (wrap : ℤ) (x : List ℕ) (t : List ℤ) (l m : ℕ) (y z : List ℕ)
@@ -25,28 +21,14 @@ pub farther_earlier : (k : ℕ) (sizes : List ℕ) (wrap : ℤ) (x : List ℕ) (
     → place (sides_from_bit k sizes wrap) x (opposite t) l ≡ Some y → place (sides_from_bit k sizes wrap) x (opposite t) m ≡ Some z → IsBefore z y
 farther_earlier k [] wrap x (u ∷ t) l m y z long onward less near far = absurd (omega (arith, long))
 farther_earlier k (n ∷ sizes) wrap [] (u ∷ t) l m y z long onward less near far = absurd (cc)
-farther_earlier k (n ∷ sizes) wrap (c ∷ x) (u ∷ t) l m [] z long onward less near far = absurd (in_front-some _ _ near)
-farther_earlier k (n ∷ sizes) wrap (c ∷ x) (u ∷ t) l m (a ∷ y) [] long onward less near far = absurd (in_front-some _ _ far)
-farther_earlier k (n ∷ sizes) wrap (c ∷ x) (pos zero ∷ t) l m (a ∷ y) (b ∷ z) long onward less near far =
-    let one = in_front-parts _ _ a y near in
-    let two = in_front-parts _ _ b z far in
-    let still : pos c +ℤ pos m *ℤ pos 0 ≡ pos c +ℤ pos l *ℤ pos 0 = omega (arith, ints) in
-    let alike : ◌≡◌ (Some b) (Some a) = sym two.0 ∙ ap (coordinate_on (record { size = n; wraps = is_bit_set wrap k })) still ∙ one.0 in
-    let same : b ≡ a = cc in
-    IsBefore-same b a z y same (farther_earlier (k + 1) sizes wrap x t l m y z (omega (arith, long)) onward less one.1 two.1)
-farther_earlier k (n ∷ sizes) wrap (c ∷ x) (pos (suc e) ∷ t) l m (a ∷ y) (b ∷ z) long onward less near far =
-    let one = in_front-parts _ _ a y near in
-    let two = in_front-parts _ _ b z far in
-    let wraps = is_bit_set wrap k in
-    IsBefore-less b a z y
-    (lower c e l m a b less
-    (within_is n (pos c +ℤ pos l *ℤ negsuc e) a (unwrapped n wraps (pos c +ℤ pos l *ℤ negsuc e) a onward one.0))
-    (within_is n (pos c +ℤ pos m *ℤ negsuc e) b (unwrapped n wraps (pos c +ℤ pos m *ℤ negsuc e) b onward two.0)))
-farther_earlier k _ wrap _ _ l m _ _ long onward less near far = absurd (true≢false (sym onward))
+farther_earlier k (n ∷ sizes) wrap (c ∷ x) (u ∷ t) l m [] z long onward less near far = grind (arith)
+farther_earlier k (n ∷ sizes) wrap (c ∷ x) (u ∷ t) l m (a ∷ y) [] long onward less near far = grind (arith)
+farther_earlier k (n ∷ sizes) wrap (c ∷ x) (pos zero ∷ t) l m (a ∷ y) (b ∷ z) long onward less near far = grind (arith, in_front-parts, ints, IsBefore-same, farther_earlier (k + 1) sizes wrap x t l m y z (omega (arith, long)) onward less (in_front-parts _ _ a y near).1 (in_front-parts _ _ b z far).1)
+farther_earlier k sizes wrap x t l m y z long onward less near far = grind (arith, in_front-parts, IsBefore-less, lower, negsuc, true≢false, cases_lt, cond-true, ltb, lt-ltb, cond-false, le-ltb)
 
 -- a move has a length
 pub some_length : (sides : List Side) (piece : ℤ) (x : List ℕ) (t : List ℤ) (l : ℕ) (y : List ℕ) → IsBelow x (map (λ s. s.size) sides) → LeadsTo sides piece x t l y → 0 < l
-some_length sides (pos p) x t l y below leads = omega (arith, leaper_one (place sides x t 1) l leads.0)
+some_length sides (pos p) x t l y below leads = grind (arith)
 some_length sides (negsuc p) x t l y below leads = omega (arith, ((Contains-rider_reach sides x t l below).0 leads.0).0)
 
 -- back by the opposite is an earlier vector

@@ -1,5 +1,5 @@
 -- Whether a displacement leads onward, by the first coordinate that it moves.
-use Rattle.std.proofs.Common.{◌≡◌, ℕ, zero, suc, ◌+◌, ℤ, pos, Bool, true, false, not, List, [], ◌∷◌, length, slice_index_or, refl, ◌∙◌, sym, ap, arith}
+use Rattle.std.proofs.Common.{◌≡◌, ℕ, zero, suc, ◌+◌, ℤ, pos, Bool, true, false, not, List, ◌∷◌, length, slice_index_or, refl, ◌∙◌, sym, ap, arith}
 use Rattle.std.proofs.lemmas.Bool.Decides.{nat_tests}
 use Rattle.std.specs.Int.Signed.{lt_z}
 use Rattle.sgb_gen.specs.Moves.{is_bit_set}
@@ -16,17 +16,14 @@ by_parts wrap k (pos zero ∷ t) = by_parts wrap (k + 1) t
 by_parts wrap k _ = refl
 
 none : (wrap : ℤ) (parts : List (ℕ × ℤ)) → length parts ≡ 0 → goes_onward wrap parts ≡ false
-none wrap [] e = refl
-none wrap (p ∷ parts) e = absurd (omega (arith, e))
+none wrap parts e = grind (arith)
 
 ahead : (wrap : ℤ) (parts : List (ℕ × ℤ)) → lt_z (pos 0) (slice_index_or parts 0 (0, pos 0)).1 ≡ true
     → goes_onward wrap parts ≡ not (is_bit_set wrap (slice_index_or parts 0 (0, pos 0)).0)
-ahead wrap ((k, pos (suc c)) ∷ parts) e = refl
-ahead wrap _ e = absurd cc
+ahead wrap parts e = grind (arith)
 
 behind : (wrap : ℤ) (parts : List (ℕ × ℤ)) → lt_z (pos 0) (slice_index_or parts 0 (0, pos 0)).1 ≡ false → goes_onward wrap parts ≡ false
-behind wrap ((k, pos (suc c)) ∷ parts) e = absurd (grind (arith, nat_tests))
-behind wrap _ e = refl
+behind wrap parts e = grind (arith, nat_tests)
 
 module _ (wrap : ℤ) (t : List ℤ) (parts : List (ℕ × ℤ)) (is : parts ≡ parts_of t) where
   -- it moves no coordinate

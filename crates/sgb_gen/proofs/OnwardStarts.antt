@@ -1,6 +1,6 @@
 -- The edges that touch a vector by a displacement that leads onward, with no sorting: those from farther vertices first, and
 -- then those from the vector itself, the shorter first.
-use Rattle.std.proofs.Common.{◌≡◌, ◌≢◌, ℕ, ◌<◌, ℤ, Bool, true, false, not, cond, List, [], ◌∷◌, ◌++◌, length, map, reverse, get_or, Some, refl, sym, ap, ap₂, subst, ◌∙◌, arith}
+use Rattle.std.proofs.Common.{◌≡◌, ◌≢◌, ℕ, ◌<◌, ℤ, Bool, true, false, not, cond, List, [], ◌∷◌, ◌++◌, length, map, reverse, get_or, Some, refl, sym, ap, ap₂, subst, ◌∙◌, arith, rules}
 use Rattle.std.specs.Prelude.{◌==◌}
 use Rattle.std.specs.List.{All, AllPairs, Contains, flat_map}
 use Rattle.std.specs.List.Sorted.{IsPermutation}
@@ -70,16 +70,11 @@ module _ (b : BoardData) (t : List ℤ) (x : List ℕ) (there : Contains (box b.
 
   -- the vertex behind x is less
   behind_less : (m : Move) → Leads (opposite t) m → vertex_among vectors m.to < u
-  behind_less m lead =
-      earlier_vertex m.to x (vector_there b t x there (opposite t) m.to m.len lead.1) there
-      (back_earlier b.sizes b.wrap x t m.len m.to below_x long onward (some_length sides b.piece x (opposite t) m.len m.to below_x lead.1) lead.1.1)
+  behind_less m lead = search (rules, earlier_vertex, vector_there, back_earlier, below_x, some_length, sides, opposite)
 
   -- the farther, the less
   farther_less : (m n : Move) → Leads (opposite t) m → Leads (opposite t) n → m.len < n.len → IsEarlier (from_behind n) (from_behind m)
-  farther_less m n lead_m lead_n less =
-      first_less (from_behind n) (from_behind m)
-      (earlier_vertex n.to m.to (vector_there b t x there (opposite t) n.to n.len lead_n.1) (vector_there b t x there (opposite t) m.to m.len lead_m.1)
-      (farther_earlier 0 b.sizes b.wrap x t m.len n.len m.to n.to long onward less lead_m.1.1 lead_n.1.1))
+  farther_less m n lead_m lead_n less = search (rules, first_less, from_behind, earlier_vertex, vector_there, farther_earlier, opposite)
 
   abbrev pub starts : List (ℕ × ℕ)
   starts = map from_behind (reverse behind) ++ map from_here ahead
@@ -123,10 +118,7 @@ module _ (b : BoardData) (t : List ℤ) (x : List ℕ) (there : Contains (box b.
       (subst (λ ss. IsPermutation (own ++ others) (ss ++ own)) turned (IsPermutation-trans (own ++ others) (others ++ own) (reverse others ++ own) (IsPermutation-append_comm own others) joined))
 
   in_order : starts ≡ touching b t x there
-  in_order =
-      in_order_same b t x there starts starts_rise
-      (All-permutation (Contains (touching b t x there)) (starts_of sides b.piece vectors x t) starts moved (starts_touch b t x there))
-      (All-weaker (Contains (starts_of sides b.piece vectors x t)) (Contains starts) (λ s found. Contains-permutation (starts_of sides b.piece vectors x t) starts s moved found) (touching b t x there) (touching_found b t x there))
+  in_order = search (rules, in_order_same, starts, starts_rise, All-permutation, touching, sides, vectors, moved, starts_touch, All-weaker, Contains-permutation, touching_found)
 
   -- ---- their arcs
 
@@ -135,8 +127,7 @@ module _ (b : BoardData) (t : List ℤ) (x : List ℕ) (there : Contains (box b.
 
   -- an edge to another vector makes one arc
   one_arc : (m : Move) (ts : List ℤ) (c : Bool) → cond c t (opposite t) ≡ ts → Leads ts m → m.to ≢ x → edge_arcs x m.len (destination sides b.piece x (cond c t (opposite t)) m.len) ≡ move_arc m ∷ []
-  one_arc m ts c by lead other =
-      cc (by, leads_there sides b.piece ts x m.len m.to below_x lead.1, other_is m.to x other)
+  one_arc m ts c by lead other = grind (arith, leads_there, sides, below_x, other_is)
 
   arc_behind : (m : Move) → Leads (opposite t) m → edge (from_behind m) ≡ move_arc m ∷ []
   arc_behind m lead = grind (arith, behind_less, ne_eqb, one_arc)

@@ -1,5 +1,5 @@
 -- Vectors and lists of them in lexicographic order.
-use Rattle.std.proofs.Common.{◌≡◌, ℕ, zero, suc, ◌<◌, List, [], ◌∷◌, length, get_or, refl, sym, ap₂, subst, ◌∙◌, inl, inr, arith}
+use Rattle.std.proofs.Common.{◌≡◌, ℕ, zero, suc, ◌<◌, List, [], ◌∷◌, length, get_or, refl, sym, subst, ◌∙◌, inl, inr, arith, rules}
 use Rattle.std.specs.List.{All, Contains}
 use Rattle.std.specs.Cmp.Lexicographic.{nat_list_cmp_total}
 use Rattle.std.proofs.lemmas.Cmp.{tied_itself}
@@ -35,11 +35,7 @@ rising_same (v ∷ vs) [] hv hw there back = absurd (Contains-none v (All-head (
 rising_same (v ∷ vs) (w ∷ ws) hv hw there back =
     let after_v = AllPairs-first IsBefore v vs hv in
     let after_w = AllPairs-first IsBefore w ws hw in
-    let same : v ≡ w = first_same v w vs ws after_v after_w (All-head (Contains (w ∷ ws)) v vs there) (All-head (Contains (v ∷ vs)) w ws back) in
-    ap₂ (λ x xs. x ∷ xs) same
-    (rising_same vs ws (AllPairs-others IsBefore v vs hv) (AllPairs-others IsBefore w ws hw)
-    (others_there v w vs ws same after_v (All-tail (Contains (w ∷ ws)) v vs there))
-    (others_there w v ws vs (sym same) after_w (All-tail (Contains (v ∷ vs)) w ws back)))
+    search (rules, first_same, All-head, AllPairs-others, others_there, All-tail, IsBefore, after_v, after_w, rising_same vs ws (AllPairs-others IsBefore v vs hv) (AllPairs-others IsBefore w ws hw) (others_there v w vs ws (first_same v w vs ws after_v after_w (All-head (Contains (w ∷ ws)) v vs there) (All-head (Contains (v ∷ vs)) w ws back)) after_v (All-tail (Contains (w ∷ ws)) v vs there)) (others_there w v ws vs (sym (first_same v w vs ws after_v after_w (All-head (Contains (w ∷ ws)) v vs there) (All-head (Contains (v ∷ vs)) w ws back))) after_w (All-tail (Contains (v ∷ vs)) w ws back)))
 
 -- a vector is before another where the first entries are alike and the next one is less
 pub before_at : (v w : List ℕ) (p : ℕ) → ((i : ℕ) → i < p → get_or v i 0 ≡ get_or w i 0) → get_or v p 0 < get_or w p 0 → p < length v → p < length w → IsBefore v w

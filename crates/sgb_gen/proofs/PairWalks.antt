@@ -1,5 +1,5 @@
 -- Arcs that are put behind others, pair of places by pair.
-use Rattle.std.proofs.Common.{◌≡◌, ℕ, pos, Bool, true, false, cond, if◌then◌else◌, ◌+◌, ◌<◌, ◌≤◌, List, [], ◌∷◌, ◌++◌, map, reverse, refl, sym, ap, ◌∙◌, arith, append-nil, append_assoc, ◌-◌}
+use Rattle.std.proofs.Common.{◌≡◌, ℕ, pos, ◌+◌, ◌<◌, ◌≤◌, List, [], ◌∷◌, ◌++◌, reverse, sym, ap, ◌∙◌, arith, append-nil, append_assoc, ◌-◌}
 use Rattle.std.specs.List.{flat_map, range_with_len}
 use Rattle.std.proofs.lemmas.List.{reverse-append}
 use Rattle.std.proofs.lemmas.List.Concat.{flat_map-append}
@@ -8,7 +8,7 @@ use Rattle.sgb_gen.specs.inner.LocalSimplexes.{arc_by_unit, can_return, returned
 use Rattle.sgb_gen.specs.Simplexes.{Places, pairs_of_places}
 use Rattle.sgb_gen.specs.inner.Simplexes.{can_shift, shifted, pairs_from}
 use Rattle.sgb_vec.proofs.Lists.{made-append, range-more}
-use Rattle.sgb_gen.proofs.SimplexEvents.{pairs_left, pairs_left-next, pairs_left-none, pairs_after, pairs_after-all, pairs_after-next}
+use Rattle.sgb_gen.proofs.SimplexEvents.{pairs_left, pairs_left-next, pairs_after, pairs_after-next}
 
 -- no arcs
 pub with_none : (links : LinksData) → links ≡ with_arcs links []
@@ -38,7 +38,7 @@ pub left-next : (n j k : ℕ) → k < n → reverse (pairs_left n j k) ≡ rever
 left-next n j k h = ap reverse (pairs_left-next n j k h) ∙ reverse-append (record { lower = j; higher = k } ∷ []) (pairs_left n j (k + 1))
 
 pub left-none : (n j k : ℕ) → n ≤ k → reverse (pairs_left n j k) ≡ []
-left-none n j k h = ap reverse (pairs_left-none n j k h)
+left-none n j k h = grind (arith, reverse)
 
 -- one pair more, of what is made of pairs
 pub pair_more : (f : List Places → List LocalArc) → ((ps qs : List Places) → f (ps ++ qs) ≡ f ps ++ f qs) → (n j h : ℕ) (start links new : LinksData) → 0 < h → h ≤ n → links ≡ with_arcs start (f (reverse (pairs_left n j h)))
@@ -54,7 +54,7 @@ pub after-next : (n j : ℕ) → j < n → reverse (pairs_after n j) ≡ reverse
 after-next n j h = ap reverse (pairs_after-next n j h) ∙ reverse-append (pairs_from n j) (pairs_after n (j + 1))
 
 pub after-all : (n : ℕ) → reverse (pairs_after n 0) ≡ reverse (pairs_of_places n)
-after-all n = ap reverse (pairs_after-all n)
+after-all n = grind (arith, reverse)
 
 -- those of the places below j
 abbrev pub pairs_below : ℕ → ℕ → List Places
@@ -63,13 +63,8 @@ pairs_below n j = flat_map (pairs_down n) (range_with_len 0 j)
 pub below-next : (n j : ℕ) → pairs_below n (j + 1) ≡ pairs_below n j ++ pairs_down n j
 below-next n j = grind (arith, range-more, flat_map-append, append-nil)
 
--- the arc by one pair, as the code makes it
-arc_in_list : (b : Bool) (arc : Places → LocalArc) (at : Places) → (if b then arc at ∷ [] else []) ≡ map arc (cond b (at ∷ []) [])
-arc_in_list true arc at = refl
-arc_in_list false arc at = refl
-
 pub back-one : (bounds x : List ℕ) (at : Places) → arc_by_unit bounds x at.higher at.lower ≡ arcs_back bounds x (at ∷ [])
-back-one bounds x at = arc_in_list (can_return bounds x at) (arc_back x) at
+back-one bounds x at = grind (arith, arc_back)
 
 pub on-one : (bounds x : List ℕ) (at : Places) → arc_by_unit bounds x at.lower at.higher ≡ arcs_on bounds x (at ∷ [])
-on-one bounds x at = arc_in_list (can_shift bounds x at) (arc_on x) at
+on-one bounds x at = grind (arith, arc_on)

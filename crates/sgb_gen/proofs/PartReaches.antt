@@ -1,6 +1,6 @@
 -- How far the coordinates that a displacement moves stay on a board, and where they stand then.
 use lib.Signed.{lt_z}
-use Rattle.std.proofs.Common.{◌≡◌, ℕ, zero, suc, ◌+◌, ◌-◌, ◌*◌, ◌/◌, ◌<◌, ◌≤◌, ℤ, pos, negsuc, ◌+ℤ◌, ◌*ℤ◌, nat_abs, of_z, w32, Bool, true, false, ◌&&◌, ltb, List, [], ◌∷◌, length, get_or, set, drop, take, Some, None, refl, sym, ap, ap₂, ◌∙◌, inl, inr, arith, true≢false}
+use Rattle.std.proofs.Common.{◌≡◌, ℕ, ◌+◌, ◌-◌, ◌/◌, ◌<◌, ◌≤◌, ℤ, pos, negsuc, ◌+ℤ◌, ◌*ℤ◌, nat_abs, of_z, w32, Bool, true, false, ◌&&◌, ltb, List, [], ◌∷◌, length, get_or, set, drop, take, sym, ap, ap₂, ◌∙◌, inl, inr, arith, true≢false}
 use Rattle.std.specs.Option.{is_some, unwrap_or}
 use Rattle.std.proofs.Math.Nat.{le-div_iff_mul-le}
 use Rattle.std.proofs.Math.Bool.{and-false}
@@ -16,60 +16,28 @@ use Rattle.sgb_gen.proofs.BoundedMoves.{on_side}
 -- on a side that does not wrap, as many steps ahead as fit into what is left of it
 pub ahead_stays : (w : Bool) (n x l : ℕ) (t : ℤ) → w ≡ false → x < n → lt_z (pos 0) t ≡ true → l ≤ (n - 1 - x) / nat_abs t
     → is_some (coordinate_on (record { size = n; wraps = w }) (pos x +ℤ pos l *ℤ t)) ≡ true
-ahead_stays true n x l t clear below ahead fits = absurd (true≢false clear)
-ahead_stays false n x l (pos zero) clear below ahead fits = absurd (cc)
-ahead_stays false n x l (pos (suc a)) clear below ahead fits =
-    let some : 0 < suc a = omega arith in
-    on_side n (x + l * suc a) (omega (arith, below, (le-div_iff_mul-le some).0 fits))
-ahead_stays false n x l (negsuc a) clear below ahead fits = absurd (true≢false (sym ahead))
+ahead_stays w n x l t clear below ahead fits = grind (arith, true≢false, on_side, le-div_iff_mul-le)
 
 -- an amount other than 0
 pub some_amount : (t : ℤ) → (of_z w32 t ≡ 0 → ⊥) → 0 < nat_abs t
-some_amount (pos zero) h = absurd (h refl)
-some_amount _ h = omega arith
+some_amount t h = grind (arith)
 
 -- and as many back as fit into what is behind
 pub back_stays : (w : Bool) (n x l : ℕ) (t : ℤ) → w ≡ false → x < n → lt_z (pos 0) t ≡ false → l ≤ x / nat_abs t → 0 < nat_abs t
     → is_some (coordinate_on (record { size = n; wraps = w }) (pos x +ℤ pos l *ℤ t)) ≡ true
-back_stays true n x l t clear below back fits some = absurd (true≢false clear)
-back_stays false n x l (pos zero) clear below back fits some = absurd (omega arith)
-back_stays false n x l (pos (suc a)) clear below back fits some = absurd (omega (arith, ltb-false 0 (suc a) back))
-back_stays false n x l (negsuc a) clear below back fits some =
-    let room : l * suc a ≤ x = (le-div_iff_mul-le some).0 fits in
-    let there : pos x +ℤ pos l *ℤ negsuc a ≡ pos (x - l * suc a) = omega (arith, ints, room) in
-    ap (λ y. is_some (within_size n y)) there ∙ on_side n (x - l * suc a) (omega (arith, below))
+back_stays w n x l t clear below back fits some = grind (arith, true≢false, ltb-false, le-div_iff_mul-le, negsuc, ints, on_side)
 
 off_side : (n : ℕ) (y : ℤ) → ((c : ℕ) → y ≡ pos c → n ≤ c) → is_some (within_size n y) ≡ false
-off_side n (pos c) h = ap is_some (cond-false (ltb c n) (Some c) None (le-ltb c n (h c refl)))
-off_side n (negsuc c) h = refl
+off_side n y h = grind (arith, cond-false, ltb, le-ltb)
 
 -- one step more leaves it
 pub ahead_leaves : (w : Bool) (n x q : ℕ) (t : ℤ) → w ≡ false → x < n → lt_z (pos 0) t ≡ true → q ≡ (n - 1 - x) / nat_abs t
     → is_some (coordinate_on (record { size = n; wraps = w }) (pos x +ℤ pos (q + 1) *ℤ t)) ≡ false
-ahead_leaves true n x q t clear below ahead is = absurd (true≢false clear)
-ahead_leaves false n x q (pos zero) clear below ahead is = absurd (cc)
-ahead_leaves false n x q (pos (suc a)) clear below ahead is =
-    let some : 0 < suc a = omega arith in
-    let far : n - 1 - x < (q + 1) * suc a =
-    elim (cases_lt (n - 1 - x) ((q + 1) * suc a)) [
-      | inl less ↦ less
-      | inr fits ↦ absurd (omega (arith, is, (le-div_iff_mul-le some).1 fits))
-    ] in
-    off_side n (pos x +ℤ pos (q + 1) *ℤ pos (suc a)) (λ c e. omega (arith, ints, e, far, below))
-ahead_leaves false n x q (negsuc a) clear below ahead is = absurd (true≢false (sym ahead))
+ahead_leaves w n x q t clear below ahead is = grind (arith, true≢false, cases_lt, le-div_iff_mul-le, off_side, ints)
 
 pub back_leaves : (w : Bool) (n x q : ℕ) (t : ℤ) → w ≡ false → x < n → lt_z (pos 0) t ≡ false → q ≡ x / nat_abs t → 0 < nat_abs t
     → is_some (coordinate_on (record { size = n; wraps = w }) (pos x +ℤ pos (q + 1) *ℤ t)) ≡ false
-back_leaves true n x q t clear below back is some = absurd (true≢false clear)
-back_leaves false n x q (pos zero) clear below back is some = absurd (omega arith)
-back_leaves false n x q (pos (suc a)) clear below back is some = absurd (omega (arith, ltb-false 0 (suc a) back))
-back_leaves false n x q (negsuc a) clear below back is some =
-    let far : x < (q + 1) * suc a =
-    elim (cases_lt x ((q + 1) * suc a)) [
-      | inl less ↦ less
-      | inr fits ↦ absurd (omega (arith, is, (le-div_iff_mul-le some).1 fits))
-    ] in
-    off_side n (pos x +ℤ pos (q + 1) *ℤ negsuc a) (λ c e. absurd (omega (arith, ints, e, far)))
+back_leaves w n x q t clear below back is some = grind (arith, true≢false, ltb-false, cases_lt, le-div_iff_mul-le, off_side, negsuc, ints)
 
 -- ---- one of the parts after another
 
@@ -119,9 +87,6 @@ module _ (sizes : List ℕ) (wrap : ℤ) (x : List ℕ) (most : ℕ) (parts : Li
           ∙ list_all-append (λ p. is_some (part_at sizes wrap x (new + 1) p)) (take i parts) (part_of parts i ∷ [])
           ∙ ap (λ b. parts_stay sizes wrap x (new + 1) (take i parts) && (b && true)) (end fewer)
           ∙ and-false (parts_stay sizes wrap x (new + 1) (take i parts))
-      | inr same ↦
-          let e : new ≡ old = omega (arith, same, less) in
-          list_all_kept (λ p. is_some (part_at sizes wrap x (new + 1) p)) parts i
-          (ap (λ n. parts_stay sizes wrap x (n + 1) (take i parts)) e ∙ so.end (omega (arith, e, h)))
+      | inr same ↦ grind (arith, list_all_kept)
     ];
   }

@@ -1,5 +1,5 @@
 -- A place, coordinate by coordinate.
-use Rattle.std.proofs.Common.{◌≡◌, ℕ, ◌+◌, ◌<◌, ℤ, pos, ◌+ℤ◌, ◌*ℤ◌, List, [], ◌∷◌, ◌++◌, length, get_or, drop, Option, Some, None, refl, sym, ap, ◌∙◌, append_assoc}
+use Rattle.std.proofs.Common.{◌≡◌, ℕ, ◌+◌, ◌<◌, ℤ, pos, ◌+ℤ◌, ◌*ℤ◌, List, [], ◌∷◌, ◌++◌, length, get_or, drop, Option, Some, ◌∙◌, append_assoc, arith}
 use Rattle.std.specs.Option.{option_map}
 use Rattle.std.proofs.lemmas.List.{at_drop_more}
 use Rattle.sgb_gen.specs.Moves.{is_bit_set, sides_from_bit, coordinate_on, in_front, place}
@@ -26,9 +26,7 @@ coordinates-step sizes wrap x t l k h i j =
 
 -- a known coordinate
 pub after_known-push : (known : List ℕ) (c : ℕ) (rest : Option (List ℕ)) → after_known known (in_front (Some c) rest) ≡ after_known (known ++ c ∷ []) rest
-after_known-push known c (Some v) = ap Some (sym (append_assoc known (c ∷ []) v))
-after_known-push known c None = refl
+after_known-push known c rest = grind (arith, append_assoc)
 
 pub after_known-none : (rest : Option (List ℕ)) → after_known [] rest ≡ rest
-after_known-none (Some v) = refl
-after_known-none None = refl
+after_known-none rest = grind (arith)

@@ -1,6 +1,5 @@
 -- A rider stops: as many steps as the board has places lead out of it or back to the start.
-use lib.IntN.{ -ℤ-+ℤ_cancel as sub-add_cancel}
-use Rattle.std.proofs.Common.{◌≡◌, ℕ, zero, suc, ◌+◌, ◌-◌, ◌*◌, ◌%◌, ◌<◌, ◌≤◌, ◌↔◌, ◌⊎◌, ℤ, pos, negsuc, ◌+ℤ◌, ◌*ℤ◌, neg_ℤ, nat_abs, Bool, true, false, not, ltb, List, [], ◌∷◌, map, length, get_or, take, Option, Some, None, refl, sym, ap, ap₂, subst, ◌∙◌, inl, inr, arith}
+use Rattle.std.proofs.Common.{◌≡◌, ℕ, zero, suc, ◌+◌, ◌-◌, ◌*◌, ◌%◌, ◌<◌, ◌≤◌, ◌↔◌, ◌⊎◌, ℤ, pos, negsuc, ◌+ℤ◌, ◌*ℤ◌, nat_abs, Bool, true, false, ltb, List, [], ◌∷◌, map, length, get_or, take, Option, Some, None, refl, sym, ap, ◌∙◌, inl, inr, arith, rules}
 use Rattle.std.proofs.Math.Nat.{add-mul-mod_self_left, mod-eq_of_lt}
 use Rattle.std.specs.Cmp.Lexicographic.{bytes_decides}
 use Rattle.std.specs.Int.{int_rem_euclid}
@@ -25,26 +24,13 @@ turns n q x (pos a) h =
     ap (λ m. m % n) whole ∙ add-mul-mod_self_left x n (q * a) ∙ mod-eq_of_lt h
 turns n q x (negsuc a) h =
     let back : q * (a + 1) * n ≡ q * n * suc a = omega arith in
-    let home : (pos x +ℤ pos (q * n) *ℤ negsuc a) +ℤ pos (q * (a + 1) * n) ≡ pos x =
-    ap (λ m. (pos x +ℤ pos (q * n) *ℤ negsuc a) +ℤ pos m) back ∙ sub-add_cancel (pos x) (pos (q * n * suc a)) in
+    let home : (pos x +ℤ pos (q * n) *ℤ negsuc a) +ℤ pos (q * (a + 1) * n) ≡ pos x = grind (arith, negsuc) in
     ap nat_abs (int_rem_euclid_is (pos x +ℤ pos (q * n) *ℤ negsuc a) (pos n) n (q * (a + 1)) x (omega arith) refl home) ∙ mod-eq_of_lt h
-
--- below 0 nothing is within a side
-below_zero : (n x y : ℕ) → x < y → within_size n (pos x +ℤ neg_ℤ (pos y)) ≡ None
-below_zero n x zero h = absurd (omega arith)
-below_zero n x (suc y) h = ap (within_size n) (cond-true (ltb x (suc y)) (negsuc (suc y - suc x)) (pos (x - suc y)) (lt-ltb x (suc y) h))
 
 -- a step of a side's size or more leads out of it, or is none
 strides : (n x l : ℕ) (t : ℤ) → x < n → n ≤ l → OutOrHome (within_size n (pos x +ℤ pos l *ℤ t)) x
-strides n x l (pos zero) h far =
-    let still : x + l * 0 ≡ x = omega arith in
-    inr (ap (λ m. within_size n (pos m)) still ∙ cond-true (ltb x n) (Some x) None (lt-ltb x n h))
-strides n x l (pos (suc a)) h far =
-    let out : n ≤ x + l * suc a = omega arith in
-    inl (cond-false (ltb (x + l * suc a) n) (Some (x + l * suc a)) None (le-ltb (x + l * suc a) n out))
-strides n x l (negsuc a) h far =
-    let out : x < l * suc a = omega arith in
-    inl (below_zero n x (l * suc a) out)
+strides n x l (pos zero) h far = grind (arith, cond-true, ltb, lt-ltb)
+strides n x l t h far = grind (arith, cond-false, ltb, le-ltb, cond-true, negsuc, lt-ltb)
 
 -- the same of one coordinate, at a length that the side's size divides
 coordinates : (s : Side) (q x : ℕ) (t : ℤ) → x < s.size → 0 < q → OutOrHome (coordinate_on s (pos x +ℤ pos (q * s.size) *ℤ t)) x
@@ -52,9 +38,7 @@ coordinates s q x t h p = grind (arith, mul-le, turns, strides)
 
 -- a coordinate in front
 home_in_front : (o : Option ℕ) (p : Option (List ℕ)) (x : ℕ) (v : List ℕ) → OutOrHome o x → OutOrHome p v → OutOrHome (in_front o p) (x ∷ v)
-home_in_front o p x v (inl e) r = inl (ap (λ c. in_front c p) e)
-home_in_front o p x v (inr e) (inl f) = inl (ap₂ in_front e f)
-home_in_front o p x v (inr e) (inr f) = inr (ap₂ in_front e f)
+home_in_front o p x v h r = grind (arith)
 
 -- the first factor of a product above 0 is above 0
 first_factor : (m n : ℕ) → 0 < m * n → 0 < m
@@ -68,24 +52,18 @@ places (s ∷ sides) (y ∷ x) [] m l e p b = inl refl
 places (s ∷ sides) (y ∷ x) (u ∷ t) m l e p b =
     let q = m * places_count sides in
     let whole : q * s.size ≡ l = omega arith in
-    let some : 0 < q * s.size = omega arith in
-    let here = subst (λ k. OutOrHome (coordinate_on s (pos y +ℤ pos k *ℤ u)) y) whole (coordinates s q y u b.0 (first_factor q s.size some)) in
-    let rest = places sides x t (m * s.size) l (omega arith) p b.1 in
-    home_in_front (coordinate_on s (pos y +ℤ pos l *ℤ u)) (place sides x t l) y x here rest
+    grind (arith, OutOrHome, coordinates, first_factor, home_in_front, q, whole, places sides x t (m * s.size) l (omega arith) p b.1)
 places _ _ t m l e p b = absurd b
 
 -- a board that has a place has more than none
 places_count-pos : (sides : List Side) (x : List ℕ) → IsBelow x (map (λ s. s.size) sides) → 0 < places_count sides
 places_count-pos [] [] b = omega arith
-places_count-pos (s ∷ sides) (y ∷ x) b =
-    let rest = places_count-pos sides x b.1 in
-    omega (arith, b.0, mul-le 1 1 s.size (places_count sides) (omega (arith, b.0)) (omega arith))
+places_count-pos (s ∷ sides) (y ∷ x) b = search (rules, mul-le, places_count, places_count-pos sides x b.1)
 places_count-pos _ _ b = absurd b
 
 -- out or home is not elsewhere
 not_elsewhere : (x : List ℕ) (p : Option (List ℕ)) → OutOrHome p x → is_elsewhere x p ≡ false
-not_elsewhere x p (inl e) = ap (is_elsewhere x) e
-not_elsewhere x p (inr e) = ap (is_elsewhere x) e ∙ ap not ((bytes_decides x x).1 refl)
+not_elsewhere x p h = search (rules, is_elsewhere, bytes_decides)
 
 -- a rider stops after as many steps as there are places
 pub rider-stops : (sides : List Side) (x : List ℕ) (t : List ℤ) → IsBelow x (map (λ s. s.size) sides) → is_elsewhere x (place sides x t (places_count sides)) ≡ false

@@ -1,9 +1,8 @@
 -- Vectors in strictly rising lexicographic order: where one stands, and how a search in halves comes to its place.
-use Rattle.std.proofs.Common.{◌≡◌, ℕ, ◌<◌, ◌≤◌, true, false, List, length, refl, sym, ap, ◌∙◌, inl, inr, arith}
+use Rattle.std.proofs.Common.{◌≡◌, ℕ, ◌<◌, ◌≤◌, true, false, List, length, refl, sym, arith, rules}
 use Rattle.std.specs.Prelude.{Some}
 use Rattle.std.specs.Ordering.{nat_cmp, is_gt, ordering_reverse}
 use Rattle.std.specs.Cmp.Lexicographic.{slice_cmp, nat_list_cmp_total}
-use Rattle.std.specs.declared.cmp.Ordering.TheVariants.{Less, Greater}
 use Rattle.std.specs.List.{Contains, slice_get}
 use Rattle.std.proofs.lemmas.Bool.{cases_order, cases_lt, true≢false}
 use Rattle.std.proofs.lemmas.Cmp.{tied_itself}
@@ -16,10 +15,7 @@ use Rattle.sgb_vec.proofs.SumSuccessors.{IsBefore-asymmetric}
 
 -- a vector at an earlier place is before one at a later place
 pub before_later : (vectors : List (List ℕ)) (i j : ℕ) (v w : List ℕ) → IsRising vectors → i < j → slice_get vectors i ≡ Some v → slice_get vectors j ≡ Some w → IsBefore v w
-before_later vectors i j v w rises less here there =
-    let at_i = get_or_from_slice_get vectors i v v here in
-    let at_j = get_or_from_slice_get vectors j w v there in
-    rw (at_i, at_j) at (rises i j v less (slice_get_within vectors j w there))
+before_later vectors i j v w rises less here there = grind (arith, get_or_from_slice_get, slice_get_within)
 
 -- which is that of its vertex
 pub vertex_in_rising : (vectors : List (List ℕ)) (i : ℕ) (v : List ℕ) → IsRising vectors → slice_get vectors i ≡ Some v → vertex_among vectors v ≡ i
@@ -43,26 +39,8 @@ between-all vectors v n (k, within, at) e =
 
 -- a vector that is greater than v stands after it
 pub between-lower : (vectors : List (List ℕ)) (v w : List ℕ) (low high middle : ℕ) → IsRising vectors → slice_get vectors middle ≡ Some w → is_gt (slice_cmp nat_cmp w v) ≡ true → IsBetween vectors v low high → IsBetween vectors v low middle
-between-lower vectors v w low high middle rises there after b =
-    let less : b.place < middle = elim (cases_order b.place middle) [
-      | inl same ↦
-          let one : Some v ≡ Some w = sym b.at ∙ ap (slice_get vectors) same ∙ there in
-          let equal : w ≡ v = cc in
-          let tied = tied_itself nat_list_cmp_total v in
-          absurd (true≢false (sym after ∙ ap is_gt (ap (λ u. slice_cmp nat_cmp u v) equal ∙ tied)))
-      | inr (inl less) ↦ less
-      | inr (inr more) ↦ absurd (true≢false (sym after ∙ ap is_gt (before_later vectors middle b.place w v rises more there b.at)))
-    ] in
-    record { place = b.place; from = b.from; below = less; at = b.at }
+between-lower vectors v w low high middle rises there after b = search (rules, cases_order, tied_itself, true≢false, before_later, nat_list_cmp_total, is_gt, slice_cmp, nat_cmp)
 
 -- and one that is not greater stands before it, or is v
 pub between-upper : (vectors : List (List ℕ)) (v w : List ℕ) (low high middle : ℕ) → IsRising vectors → slice_get vectors middle ≡ Some w → is_gt (slice_cmp nat_cmp w v) ≡ false → IsBetween vectors v low high → IsBetween vectors v middle high
-between-upper vectors v w low high middle rises there not_after b =
-    let from : middle ≤ b.place = elim (cases_lt b.place middle) [
-      | inl less ↦
-          let before : slice_cmp nat_cmp v w ≡ Less = before_later vectors b.place middle v w rises less b.at there in
-          let after : slice_cmp nat_cmp w v ≡ Greater = nat_list_cmp_total.antisymm w v ∙ ap ordering_reverse before in
-          absurd (true≢false (sym (ap is_gt after) ∙ not_after))
-      | inr more ↦ more
-    ] in
-    record { place = b.place; from = from; below = b.below; at = b.at }
+between-upper vectors v w low high middle rises there not_after b = search (rules, cases_lt, before_later, true≢false, slice_cmp, nat_cmp, nat_list_cmp_total, ordering_reverse, is_gt)

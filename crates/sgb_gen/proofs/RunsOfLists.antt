@@ -44,16 +44,12 @@ edges_run b x t directed both =
 
 pub edges_in_order : (b : BoardData) (x : List ℕ) (t : List ℤ) → IsBelow x b.sizes → length t ≡ length b.sizes → leads_onward b.wrap 0 t ≡ true
     → reverse (arcs_onward false x (moves_by (sides_of b.sizes b.wrap) b.piece (box b.sizes) t)) ≡ reverse (arcs_from b x t) ++ arcs_from b x (opposite t)
-edges_in_order b x t below long onward =
-    let ahead = arcs_from b x t in
-    let behind = arcs_from b x (opposite t) in
-    cc (onward_in_order b t x (Contains-from_IsBelow b.sizes x below) long onward, reverse-append (reverse behind) ahead, reverse-reverse behind)
+edges_in_order b x t below long onward = simp (onward_in_order, Contains-from_IsBelow, reverse-append, reverse, reverse-reverse)
 
 -- where a displacement leads onward, its arcs are those ahead, the longest first, and then those back
 pub onward_run : (b : BoardData) (x : List ℕ) (t : List ℤ) (d : Bool) → b.directed ≡ d → IsBelow x b.sizes → length t ≡ length b.sizes → leads_onward b.wrap 0 t ≡ true
     → reverse (arcs_onward b.directed x (moves_by (sides_of b.sizes b.wrap) b.piece (box b.sizes) t)) ≡ reverse (arcs_from b x t) ++ arcs_back b x (opposite t)
-onward_run b x t true directed below long onward = directed_run b x t directed below
-onward_run b x t false directed below long onward = edges_run b x t directed (edges_in_order b x t below long onward)
+onward_run b x t d directed below long onward = grind (arith, directed_run, edges_run, edges_in_order)
 
 -- the arcs by the first of some displacements, with the next one
 pub next_run_first : (b : BoardData) (x : List ℕ) (ts : List (List ℤ)) (k : ℕ) (t : List ℤ) → slice_get ts k ≡ Some t → IsRun b x t

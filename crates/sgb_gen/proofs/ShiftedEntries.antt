@@ -1,5 +1,5 @@
 -- The entries of a vector of which a unit has gone from one place to another, and where it stands among others.
-use Rattle.std.proofs.Common.{◌≡◌, ◌≢◌, ℕ, ◌+◌, ◌-◌, ◌<◌, ◌⊎◌, true, List, length, get_or, set, sum, sym, ap, ◌∙◌, inl, inr, arith, length-set}
+use Rattle.std.proofs.Common.{◌≡◌, ◌≢◌, ℕ, ◌+◌, ◌-◌, ◌<◌, ◌⊎◌, true, List, length, get_or, set, sum, sym, ◌∙◌, inl, inr, arith, length-set}
 use Rattle.std.proofs.lemmas.Bool.{and_parts, and_from, cases_eq, ltb-true}
 use Rattle.std.proofs.lemmas.Bool.Decides.{Decides-ltb}
 use Rattle.std.proofs.lemmas.List.{ext_get_or, get_or-set_same, get_or-set_other}
@@ -45,15 +45,8 @@ module _ (v : List ℕ) (i j a b : ℕ) (apart : i ≢ j) where
       let long_w : length w ≡ length v = length-set u j d ∙ long_u in
       ext_get_or 0 (set w i c) v (length-set w i c ∙ long_w)
       (λ k within. elim (cases_eq k i) [
-        | inl same ↦
-            ap (λ m. get_or (set w i c) m 0) same ∙ get_or-set_same w i c 0 (omega (arith, long_w)) ∙ is_c ∙ ap (λ m. get_or v m 0) (sym same)
-        | inr from_i ↦
-            get_or-set_other w i k c 0 from_i
-            ∙ elim (cases_eq k j) [
-              | inl same ↦
-                  ap (λ m. get_or (set u j d) m 0) same ∙ get_or-set_same u j d 0 (omega (arith, long_u)) ∙ is_d ∙ ap (λ m. get_or v m 0) (sym same)
-              | inr from_j ↦ get_or-set_other u j k d 0 from_j ∙ written-other k from_i from_j
-            ]
+        | inl same ↦ grind (arith, set, get_or-set_same)
+        | inr from_i ↦ grind (arith, get_or-set_other, cases_eq, set, get_or-set_same, written-other)
       ])
 
 -- a vector stays as long when a unit goes
@@ -126,15 +119,7 @@ module _ (bounds v : List ℕ) (at : Places) (pair : IsPair (length v) at) where
 
 -- by different pairs a vector becomes different ones
 pub shifted-once : (bounds v : List ℕ) (p q : Places) → IsPair (length v) p → IsPair (length v) q → can_shift bounds v p ≡ true → RisesTo p q → shifted v p ≡ shifted v q → ⊥
-shifted-once bounds v p q in_p in_q can (inl less) same =
-    let says = can_shift-says bounds v p can in
-    let entry : get_or (shifted v p) p.lower 0 ≡ get_or (shifted v q) p.lower 0 = ap (λ w. get_or w p.lower 0) same in
-    let other : get_or (shifted v q) p.lower 0 ≡ get_or v p.lower 0 = shifted-other bounds v q in_q p.lower (omega (arith, less)) (omega (arith, less, in_q.0)) in
-    absurd (omega (arith, entry, other, shifted-low bounds v p in_p, says.0))
-shifted-once bounds v p q in_p in_q can (inr (level, less)) same =
-    let entry : get_or (shifted v p) p.higher 0 ≡ get_or (shifted v q) p.higher 0 = ap (λ w. get_or w p.higher 0) same in
-    let other : get_or (shifted v q) p.higher 0 ≡ get_or v p.higher 0 = shifted-other bounds v q in_q p.higher (omega (arith, level, in_p.0)) (omega (arith, less)) in
-    absurd (omega (arith, entry, other, shifted-high bounds v p in_p))
+shifted-once bounds v p q in_p in_q can h same = grind (arith, can_shift-says, shifted-other, shifted-low, shifted-high)
 
 -- a unit that goes to a lower place, or comes from a higher one, makes a greater vector
 pub returned-before : (bounds v : List ℕ) (p q : Places) → IsPair (length v) p → IsPair (length v) q → can_return bounds v q ≡ true → FallsTo p q → IsBefore (returned v q) (returned v p)
@@ -149,13 +134,8 @@ returned-before bounds v p q in_p in_q can (inr (level, less)) =
     let says = can_return-says bounds v q can in
     before_at (returned v q) (returned v p) q.higher
     (λ i low. elim (cases_eq i q.lower) [
-      | inl same ↦
-          let at_p : i ≡ p.lower = omega (arith, same, level) in
-          ap (λ k. get_or (returned v q) k 0) same ∙ returned-low bounds v q in_q
-          ∙ ap (λ k. get_or v k 0 + 1) (sym level) ∙ sym (returned-low bounds v p in_p) ∙ ap (λ k. get_or (returned v p) k 0) (sym at_p)
-      | inr other ↦
-          returned-other bounds v q in_q i (omega (arith, low)) other
-          ∙ sym (returned-other bounds v p in_p i (omega (arith, low, less)) (λ e. other (e ∙ level)))
+      | inl same ↦ grind (arith, returned-low)
+      | inr other ↦ grind (arith, returned-other)
     ])
     (omega (arith, says.0, returned-high bounds v q in_q, returned-other bounds v p in_p q.higher (omega (arith, less)) (omega (arith, level, in_q.0))))
     (omega (arith, length-returned bounds v q in_q, in_q.1)) (omega (arith, length-returned bounds v p in_p, in_q.1))

@@ -1,5 +1,5 @@
 -- The moves of a simplex counted: by pairs of places, as vectors of a smaller sum.
-use Rattle.std.proofs.Common.{rules, ◌≡◌, ℕ, ◌+◌, ◌-◌, ◌*◌, ◌<◌, ◌≤◌, ℤ, pos, true, false, cond, ◌⊎◌, Result, Ok, Err, List, [], ◌∷◌, ◌++◌, length, map, get_or, sum, refl, sym, ap, subst, ◌∙◌, inl, inr, arith, length-append}
+use Rattle.std.proofs.Common.{rules, ◌≡◌, ℕ, ◌+◌, ◌-◌, ◌*◌, ◌<◌, ◌≤◌, ℤ, pos, true, false, ◌⊎◌, Result, Ok, Err, List, [], ◌∷◌, ◌++◌, length, map, get_or, sum, refl, sym, ap, subst, ◌∙◌, inl, inr, arith, length-append}
 use Rattle.std.specs.List.{All, AllPairs, Contains, filter, flat_map}
 use Rattle.std.proofs.lemmas.Bool.{and_from, cases_lt, le-ltb}
 use Rattle.std.proofs.lemmas.Bool.Decides.{Decides-ltb}
@@ -105,11 +105,7 @@ module _ (s : BoundedSum) (at : Places) (order : at.lower < at.higher) where
       let says = can_shift-says s.bounds x at can in
       let is = (Contains-bounded_sums s.total s.bounds x).0 h in
       let adds = sum-less_at x at.lower says.0 in
-      elim none [
-        | inl empty ↦ absurd (omega (arith, adds, is.1, empty))
-        | inr (inl low) ↦ absurd (omega (arith, low, says.0, entry_within x s.bounds at.lower is.0))
-        | inr (inr high) ↦ absurd (omega (arith, high, says.1))
-      ]
+      grind (arith, entry_within, says, is, adds)
 
   pub shifts-none : (s.total ≡ 0) ⊎ (get_or s.bounds at.lower 0 ≡ 0) ⊎ (get_or s.bounds at.higher 0 ≡ 0) → 0 ≡ shifts_count s at
   shifts-none none = search (rules, filter-none, never_true, cannot, Contains-get_or)
@@ -120,19 +116,10 @@ pub shifts_by-append : (s : BoundedSum) (ps qs : List Places) → shifts_by s (p
 shifts_by-append s [] qs = omega arith
 shifts_by-append s (at ∷ ps) qs = omega (arith, shifts_by-append s ps qs)
 
-moves_first : (bounds x : List ℕ) (at : Places) (ps : List Places) → length (moves_by bounds x (at ∷ ps)) ≡ cond (can_shift bounds x at) 1 0 + length (moves_by bounds x ps)
-moves_first bounds x at ps = grind (arith, length-map, passing_first)
-
 -- the moves to all of some vectors, by one pair and by others
 moves_parted : (bounds : List ℕ) (at : Places) (ps : List Places) (xs : List (List ℕ)) → length (flat_map (λ x. moves_by bounds x (at ∷ ps)) xs) ≡ length (filter (λ x. can_shift bounds x at) xs) + length (flat_map (λ x. moves_by bounds x ps) xs)
 moves_parted bounds at ps [] = refl
-moves_parted bounds at ps (x ∷ xs) =
-    let rest = moves_parted bounds at ps xs in
-    let all = length-append (moves_by bounds x (at ∷ ps)) (flat_map (λ y. moves_by bounds y (at ∷ ps)) xs) in
-    let others = length-append (moves_by bounds x ps) (flat_map (λ y. moves_by bounds y ps) xs) in
-    let here = moves_first bounds x at ps in
-    let passing = passing_first (can_shift bounds x at) x (filter (λ y. can_shift bounds y at) xs) in
-    omega (arith, rest, all, others, here, passing)
+moves_parted bounds at ps (x ∷ xs) = grind (arith, length-append, passing_first, length-map, moves_parted bounds at ps xs)
 
 moves_none : (bounds : List ℕ) (xs : List (List ℕ)) → length (flat_map (λ x. moves_by bounds x []) xs) ≡ 0
 moves_none bounds [] = refl
@@ -175,25 +162,16 @@ found s = Ok s
 ok_same : (s t : BoundedSum) → found s ≡ found t → s ≡ t
 ok_same s t e = cc e
 
--- the smaller sum is accepted
-sum_lowered : (s : BoundedSum) (at : Places) → s.total ≤ most_vertices → has_great_count s.total s.bounds ≡ false → sum_of (pos (s.total - 1)) (lowered s.bounds at) ≡ Ok (record { total = s.total - 1; bounds = lowered s.bounds at })
-sum_lowered s at small none = grind (arith, le-ltb, none_great-lowered)
-
 -- so what is made of it is it, but for want of memory
 pub family_lowered : (s : BoundedSum) (at : Places) (z : ℤ) (bounds : List ℕ) (r : Result BoundedSum Panic) → s.total ≤ most_vertices → has_great_count s.total s.bounds ≡ false → z ≡ pos (s.total - 1) → bounds ≡ lowered s.bounds at
     → (r ≡ sum_of z bounds) ⊎ (r ≡ Err NoRoom) → (r ≡ Ok (record { total = s.total - 1; bounds = lowered s.bounds at })) ⊎ (r ≡ Err NoRoom)
-family_lowered s at z bounds r small none total lower (inl made) = inl (made ∙ ap (λ y. sum_of y bounds) total ∙ ap (sum_of (pos (s.total - 1))) lower ∙ sum_lowered s at small none)
-family_lowered s at z bounds r small none total lower (inr refused) = inr refused
+family_lowered s at z bounds r small none total lower h = grind (arith, le-ltb, none_great-lowered)
 
 -- and has as many vectors
 pub size_lowered : (s : BoundedSum) (at : Places) (r : Result BoundedSum Panic) (family : BoundedSum) → at.lower < at.higher → 0 < s.total → 0 < get_or s.bounds at.lower 0 → 0 < get_or s.bounds at.higher 0
     → r ≡ Ok family → (r ≡ Ok (record { total = s.total - 1; bounds = lowered s.bounds at })) ⊎ (r ≡ Err NoRoom) → length (bounded_sums family.total family.bounds) ≡ shifts_count s at
-size_lowered s at r family order some low high is (inl made) =
-    let same : family ≡ record { total = s.total - 1; bounds = lowered s.bounds at } = ok_same family (record { total = s.total - 1; bounds = lowered s.bounds at }) (sym is ∙ made) in
-    ap (λ f. length (bounded_sums f.total f.bounds)) same ∙ sym (shifts-lowered s at order some low high)
-size_lowered s at r family order some low high is (inr refused) = absurd (cc)
+size_lowered s at r family order some low high is h = grind (arith, ok_same, shifts-lowered)
 
 -- what is refused is refused for want of memory
 pub room_alone : (r : Result BoundedSum Panic) (made : BoundedSum) (e : Panic) → r ≡ Err e → (r ≡ Ok made) ⊎ (r ≡ Err NoRoom) → e ≡ NoRoom
-room_alone r made e is (inl there) = absurd (cc)
-room_alone r made e is (inr refused) = cc
+room_alone r made e is h = grind (arith)

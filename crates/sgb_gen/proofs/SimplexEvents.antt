@@ -1,12 +1,12 @@
 -- The events of a simplex, as its moves are made one after another.
-use Rattle.std.proofs.Common.{◌≡◌, ℕ, suc, ◌+◌, ◌-◌, ◌<◌, ◌≤◌, pos, Bool, true, false, cond, List, [], ◌∷◌, ◌++◌, length, map, Option, Some, None, refl, sym, ap, ◌∙◌, arith}
+use Rattle.std.proofs.Common.{◌≡◌, ℕ, ◌+◌, ◌-◌, ◌<◌, ◌≤◌, pos, Bool, true, false, cond, List, [], ◌∷◌, ◌++◌, length, map, Option, Some, None, sym, ◌∙◌, arith}
 use Rattle.std.specs.List.{Contains, flat_map, range_with_len, slice_get}
 use Rattle.std.proofs.lemmas.List.{map-append}
 use Rattle.std.proofs.lemmas.List.Elements.{filter-append, length_all_zip}
 use Rattle.sgb_vec.proofs.SumMembers.{Contains-bounded_sums, bounded_sums-rise}
 use Rattle.sgb_graph.specs.Events.{Event}
 use Rattle.sgb_gen.specs.VectorGraphs.{event_among, vertex_among}
-use Rattle.sgb_gen.specs.Simplexes.{SimplexData, Places, pairs_of_places, moves_to, moves_of_simplex, simplex_vectors}
+use Rattle.sgb_gen.specs.Simplexes.{SimplexData, Places, moves_to, moves_of_simplex, simplex_vectors}
 use Rattle.sgb_gen.specs.inner.Simplexes.{can_shift, shifted, pairs_from, moves_by}
 use Rattle.sgb_gen.proofs.FamilyWalks.{map-flat_map}
 use Rattle.sgb_gen.proofs.RisingVectors.{vertex_in_rising}
@@ -42,52 +42,30 @@ vertex_by s x at =
 
 -- a pair by which no unit can go adds no event
 no_vertex : (b : Bool) (u : ℕ) → cond b (Some u) None ≡ None → b ≡ false
-no_vertex true u e = absurd (cc)
-no_vertex false u e = refl
+no_vertex b u e = grind (arith)
 
 pub events_by-out : (s : SimplexData) (x : List ℕ) (at : Places) (ps : List Places) → vertex_by s x at ≡ None → events_by s x (at ∷ ps) ≡ events_by s x ps
 events_by-out s x at ps e = grind (arith, no_vertex)
 
--- one by which it can adds the event from the vertex there
-some_vertex : (b : Bool) (u w : ℕ) → cond b (Some u) None ≡ Some w → (b ≡ true) × (u ≡ w)
-some_vertex true u w e = (refl, cc)
-some_vertex false u w e = absurd (cc)
-
 pub events_by-next : (s : SimplexData) (x : List ℕ) (at : Places) (ps : List Places) (u v : ℕ) → vertex_by s x at ≡ Some u → slice_get (simplex_vectors s) v ≡ Some x → events_by s x (at ∷ ps) ≡ (record { from = u; to = v; len = pos 1 } ∷ []) ++ events_by s x ps
-events_by-next s x at ps u v e here = grind (arith, some_vertex, vertex_in_simplex)
+events_by-next s x at ps u v e here = grind (arith, vertex_in_simplex)
 
 -- the pairs of the lower place and the higher ones from k on
 abbrev pub pairs_left : ℕ → ℕ → ℕ → List Places
 pairs_left n j k = map (λ i. record { lower = j; higher = i }) (range_with_len k (n - k))
 
 pub pairs_left-next : (n j k : ℕ) → k < n → pairs_left n j k ≡ record { lower = j; higher = k } ∷ pairs_left n j (k + 1)
-pairs_left-next n j k h =
-    let count : n - k ≡ suc (n - (k + 1)) = omega arith in
-    ap (λ m. map (λ i. record { lower = j; higher = i }) (range_with_len k m)) count
-
-pub pairs_left-none : (n j k : ℕ) → n ≤ k → pairs_left n j k ≡ []
-pairs_left-none n j k h =
-    let count : n - k ≡ 0 = omega arith in
-    ap (λ m. map (λ i. record { lower = j; higher = i }) (range_with_len k m)) count
+pairs_left-next n j k h = grind (arith)
 
 -- the pairs whose lower place is j or a later one
 abbrev pub pairs_after : ℕ → ℕ → List Places
 pairs_after n j = flat_map (pairs_from n) (range_with_len j (n - j))
 
-pub pairs_after-all : (n : ℕ) → pairs_after n 0 ≡ pairs_of_places n
-pairs_after-all n =
-    let count : n - 0 ≡ n = omega arith in
-    ap (λ m. flat_map (pairs_from n) (range_with_len 0 m)) count
-
 pub pairs_after-next : (n j : ℕ) → j < n → pairs_after n j ≡ pairs_from n j ++ pairs_after n (j + 1)
-pairs_after-next n j h =
-    let count : n - j ≡ suc (n - (j + 1)) = omega arith in
-    ap (λ m. flat_map (pairs_from n) (range_with_len j m)) count
+pairs_after-next n j h = grind (arith)
 
 pub pairs_after-none : (n j : ℕ) → n ≤ j → pairs_after n j ≡ []
-pairs_after-none n j h =
-    let count : n - j ≡ 0 = omega arith in
-    ap (λ m. flat_map (pairs_from n) (range_with_len j m)) count
+pairs_after-none n j h = grind (arith)
 
 -- the events of the moves to x, and those of all moves
 abbrev pub events_to : SimplexData → List ℕ → List Event

@@ -148,9 +148,7 @@ module _ (bounds x : List ℕ) where
 
   -- one move to another vector than x
   arc_of_move : (directed : Bool) (from v : List ℕ) → same_vector v x ≡ false → arcs_by directed x (record { from = from; to = v; len = 1 }) ≡ arc_if (same_vector from x) v 1
-  arc_of_move true from v other = refl
-  arc_of_move false from v other =
-      ap (λ b. arc_if (same_vector from x) v 1 ++ arc_if b from 1) other ∙ append-nil (arc_if (same_vector from x) v 1)
+  arc_of_move directed from v other = grind (arith, append-nil)
 
   -- the moves to v by a pair and then others
   move_first : (directed : Bool) (v : List ℕ) (at : Places) (ps : List Places) → same_vector v x ≡ false
@@ -158,19 +156,11 @@ module _ (bounds x : List ℕ) where
       → (c d : Bool) → c ≡ can_shift bounds v at → d ≡ same_vector (shifted v at) x
       → arcs_of_moves directed x (map (move_by v) (cond c (at ∷ filter (can_shift bounds v) ps) (filter (can_shift bounds v) ps)))
       ≡ map unit_arc (reverse (map (λ p. v) (cond (c && d) (at ∷ filter (hits v) ps) (filter (hits v) ps))))
-  move_first directed v at ps other rest false d is_c is_d = rest
-  move_first directed v at ps other rest true false is_c is_d =
-      cc (arc_of_move directed (shifted v at) v other, is_d, append-nil (arcs_of_moves directed x (moves_by bounds v ps)), rest)
-  move_first directed v at ps other rest true true is_c is_d =
-      ap (λ l. arcs_of_moves directed x (moves_by bounds v ps) ++ l) (arc_of_move directed (shifted v at) v other ∙ ap (λ b. arc_if b v 1) (sym is_d))
-      ∙ ap (λ l. l ++ unit_arc v ∷ []) rest
-      ∙ sym (map-append unit_arc (reverse (tips_of v ps)) (v ∷ []))
-      ∙ ap (map unit_arc) (sym (reverse-first v (tips_of v ps)))
+  move_first directed v at ps other rest c d is_c is_d = grind (arith, arc_of_move, append-nil, unit_arc, map-append, reverse, tips_of, reverse-first)
 
   moves_elsewhere : (directed : Bool) (v : List ℕ) (ps : List Places) → same_vector v x ≡ false → arcs_of_moves directed x (moves_by bounds v ps) ≡ map unit_arc (reverse (tips_of v ps))
   moves_elsewhere directed v [] other = refl
-  moves_elsewhere directed v (at ∷ ps) other =
-      move_first directed v at ps other (moves_elsewhere directed v ps other) (can_shift bounds v at) (same_vector (shifted v at) x) refl refl
+  moves_elsewhere directed v (at ∷ ps) other = grind (arith, move_first, moves_elsewhere directed v ps other)
 
   -- the moves to vectors other than x
   moves_to_others : (directed : Bool) (vs : List (List ℕ)) → All (λ v. same_vector v x ≡ false) vs → arcs_of_moves directed x (flat_map (moves_to bounds) vs) ≡ map unit_arc (reverse (flat_map tips_to vs))
@@ -191,26 +181,17 @@ module _ (bounds x : List ℕ) where
   own_arcs false ps = arcs_on bounds x (reverse ps)
 
   arc_of_own_move : (directed : Bool) (from : List ℕ) → same_vector from x ≡ false → arcs_by directed x (record { from = from; to = x; len = 1 }) ≡ cond directed [] (unit_arc from ∷ [])
-  arc_of_own_move true from other = ap (λ b. arc_if b x 1) other
-  arc_of_own_move false from other =
-      ap₂ (λ b c. arc_if b x 1 ++ arc_if c from 1) other ((bytes_decides x x).1 refl)
+  arc_of_own_move directed from other = search (rules, arc_if, bytes_decides)
 
   own_first : (directed : Bool) (at : Places) (ps : List Places)
       → arcs_of_moves directed x (moves_by bounds x ps) ≡ own_arcs directed ps
       → (c : Bool) → c ≡ can_shift bounds x at → (c ≡ true → same_vector (shifted x at) x ≡ false)
       → arcs_of_moves directed x (map (move_by x) (cond c (at ∷ filter (can_shift bounds x) ps) (filter (can_shift bounds x) ps)))
       ≡ own_arcs directed ps ++ cond directed [] (map (λ p. unit_arc (shifted x p)) (cond c (at ∷ []) []))
-  own_first true at ps rest false is_c other = rest ∙ sym (append-nil [])
-  own_first false at ps rest false is_c other = rest ∙ sym (append-nil (own_arcs false ps))
-  own_first true at ps rest true is_c other =
-      ap₂ (λ a b. a ++ b) rest (arc_of_own_move true (shifted x at) (other refl))
-  own_first false at ps rest true is_c other =
-      ap₂ (λ a b. a ++ b) rest (arc_of_own_move false (shifted x at) (other refl))
+  own_first directed at ps rest c is_c other = grind (arith, append-nil, own_arcs, arc_of_own_move)
 
   own_join : (directed : Bool) (at : Places) (ps : List Places) → own_arcs directed ps ++ cond directed [] (arcs_on bounds x (at ∷ [])) ≡ own_arcs directed (at ∷ ps)
-  own_join true at ps = refl
-  own_join false at ps =
-      sym (made-append (can_shift bounds x) (λ p. unit_arc (shifted x p)) (reverse ps) (at ∷ [])) ∙ ap (arcs_on bounds x) (sym (reverse-first at ps))
+  own_join directed at ps = grind (arith, made-append, unit_arc, reverse, reverse-first)
 
   own_moves : (directed : Bool) (ps : List Places) → All (IsPair (length x)) ps → arcs_of_moves directed x (moves_by bounds x ps) ≡ own_arcs directed ps
   own_moves true [] pairs = refl
@@ -302,8 +283,7 @@ module _ (bounds x : List ℕ) where
 
   -- both parts of the list
   both_parts : (directed : Bool) → arcs_back bounds x (pairs_back (length x)) ++ own_arcs directed (pairs_of_places (length x)) ≡ arcs_by_pairs directed bounds x
-  both_parts true = append-nil (arcs_back bounds x (pairs_back (length x)))
-  both_parts false = refl
+  both_parts directed = grind (arith, append-nil)
 
   -- the list of x, where the vectors before it and after it are known
   list_in_two : (directed : Bool) (before after : List (List ℕ)) → IsRising (before ++ x ∷ after) → IsWithin x bounds
@@ -315,30 +295,12 @@ module _ (bounds x : List ℕ) where
       let from_x = rising-from before after x rise in
       let late = AllPairs-first IsBefore x after from_x in
       let moves = flat_map (moves_to bounds) in
-      let others_before : All (λ v. same_vector v x ≡ false) before =
-      All-weaker (λ w. IsBefore w x) (λ w. same_vector w x ≡ false) (λ w h. other_is w x (λ e. before_none x (subst (λ u. IsBefore u x) e h))) before early in
-      let others_after : All (λ v. same_vector v x ≡ false) after =
-      All-weaker (IsBefore x) (λ w. same_vector w x ≡ false) (λ w h. other_is w x (λ e. before_none x (subst (IsBefore x) e h))) after late in
-      let none : flat_map tips_to before ≡ [] =
-      flat_map-none tips_to before (All-weaker (λ w. IsBefore w x) (λ w. tips_to w ≡ []) none_before before early) in
-      let same : flat_map tips_to after ≡ reverse tips_back =
-      rising_same (flat_map tips_to after) (reverse tips_back) (tips-rise after (AllPairs-others IsBefore x after from_x)) tips_back-rise
-      (all_reached after members) (all_become after within member) in
-      let first : arcs_of_moves directed x (moves after) ≡ arcs_back bounds x (pairs_back (length x)) =
-      moves_to_others directed after others_after ∙ ap (λ l. map unit_arc (reverse l)) same
-      ∙ ap (map unit_arc) (reverse-reverse tips_back)
-      ∙ map-map unit_arc (returned x) (filter (can_return bounds x) (pairs_back (length x))) in
-      let second : arcs_of_moves directed x (moves_to bounds x) ≡ own_arcs directed (pairs_of_places (length x)) =
-      own_moves directed (pairs_of_places (length x)) (all_pairs-are (length x)) in
-      let third : arcs_of_moves directed x (moves before) ≡ [] =
-      moves_to_others directed before others_before ∙ ap (λ l. map unit_arc (reverse l)) none in
-      ap (arcs_of_moves directed x) (flat_map-append (moves_to bounds) before (x ∷ after))
-      ∙ arcs-append directed x (moves before) (moves (x ∷ after))
-      ∙ ap (λ l. arcs_of_moves directed x (moves (x ∷ after)) ++ l) third
-      ∙ append-nil (arcs_of_moves directed x (moves (x ∷ after)))
-      ∙ arcs-append directed x (moves_to bounds x) (moves after)
-      ∙ ap₂ (λ a b. a ++ b) first second
-      ∙ both_parts directed
+      let others_before : All (λ v. same_vector v x ≡ false) before = grind (arith, All-weaker, other_is, before_none) in
+      let others_after : All (λ v. same_vector v x ≡ false) after = grind (arith, All-weaker, other_is, before_none) in
+      let none : flat_map tips_to before ≡ [] = grind (arith, flat_map-none, tips_to, All-weaker, none_before) in
+      let same : flat_map tips_to after ≡ reverse tips_back = search (rules, rising_same, tips_to, reverse, tips_back, tips-rise, AllPairs-others, tips_back-rise, all_reached, all_become, IsBefore) in
+      let first : arcs_of_moves directed x (moves after) ≡ arcs_back bounds x (pairs_back (length x)) = grind (arith, moves_to_others, unit_arc, reverse, reverse-reverse, tips_back, map-map) in
+      search (rules, own_arcs, own_moves, all_pairs-are, moves_to_others, unit_arc, reverse, flat_map-append, arcs-append, append-nil, both_parts, arcs_of_moves, moves_to, pairs_of_places, early, from_x, late, moves, others_before, others_after, none, same, first)
 
 -- the list of a vector of a bounded sum
 arcs_in_sum : (directed : Bool) (total : ℕ) (bounds x : List ℕ) → Contains (bounded_sums total bounds) x → arcs_of_moves directed x (flat_map (moves_to bounds) (bounded_sums total bounds)) ≡ arcs_by_pairs directed bounds x
@@ -361,11 +323,7 @@ arcs_in_sum directed total bounds x h =
     let there : Contains (before ++ x ∷ after) v = subst (λ vs. Contains vs v) s.2 ((Contains-bounded_sums total bounds v).1 (within, same ∙ here.1)) in
     elim (Contains-append_cases before (x ∷ after) v there) [
       | inl early ↦ absurd (before_none x (before_trans x v x later (All-contains (λ w. IsBefore w x) before v (rising-before before after x rise) early)))
-      | inr late ↦
-          elim (Contains-cases x v after late) [
-            | inl equal ↦ absurd (before_none x (subst (IsBefore x) (sym equal) later))
-            | inr found ↦ found
-          ]
+      | inr late ↦ grind (arith, Contains-cases, before_none)
     ])
 
 -- both ends of each move are vectors of the simplex

@@ -1,12 +1,10 @@
 -- The starts of the moves that touch a vector, sorted.
-use Rattle.std.proofs.Common.{◌≡◌, ℕ, suc, ◌+◌, ◌<◌, ℤ, Bool, true, false, not, ◌&&◌, List, [], ◌∷◌, length, get_or, refl, sym, ap, ap₂, subst, ◌∙◌, inl, inr, arith}
+use Rattle.std.proofs.Common.{◌≡◌, ℕ, suc, ◌+◌, ◌<◌, ℤ, Bool, true, false, not, ◌&&◌, List, [], ◌∷◌, length, get_or, ap, ap₂, subst, ◌∙◌, arith, rules}
 use Rattle.std.specs.Prelude.{◌==◌}
-use Rattle.std.specs.Cmp.{nat_cmp_is}
 use Rattle.std.specs.List.{All, AllPairs, Contains, IsDistinct, filter}
 use Rattle.std.specs.List.Sorted.{IsPermutation, IsSorted}
 use Rattle.std.specs.Ordering.{is_lt, nat_cmp, ordering_then}
 use Rattle.std.specs.declared.cmp.Ordering.{Ordering}
-use Rattle.std.specs.declared.cmp.Ordering.TheVariants.{Less, Equal}
 use Rattle.std.proofs.Math.Bool.{and-false}
 use Rattle.std.proofs.lemmas.Bool.{cases_eq, cases_lt, eq-eqb, ne_eqb, not-true}
 use Rattle.std.proofs.lemmas.List.Elements.{All-from_recursion, All-map, All-nil, All-cons, All-weaker, filter_passes, recursion_from_All}
@@ -56,37 +54,11 @@ rise_by_next (p ∷ q ∷ ps) next =
     let rest : AllPairs IsEarlier (q ∷ ps) = rise_by_next (q ∷ ps) (λ k d h. next (suc k) d (omega (arith, h))) in
     let first : IsEarlier p q = next 0 p (omega arith) in
     let later : All (IsEarlier q) ps = AllPairs-first IsEarlier q ps rest in
-    AllPairs-cons IsEarlier p (q ∷ ps)
-    (All-cons (IsEarlier p) q ps first (All-weaker (IsEarlier q) (IsEarlier p) (λ r after. before_trans (pair p) (pair q) (pair r) first after) ps later))
-    rest
+    search (rules, AllPairs-cons, IsEarlier, All-cons, All-weaker, before_trans, pair, rest, first, later)
 
 -- a pair that is not less than another, nor the same, comes after it
 not_less : (p q : ℕ × ℕ) → is_lt (pair_cmp q p) ≡ false → same_pair p q ≡ false → IsEarlier p q
-not_less p q sorted other = elim (cases_lt p.0 q.0) [
-  | inl less ↦ first_less p q less
-  | inr more ↦
-      elim (cases_eq p.0 q.0) [
-        | inr differs ↦
-            let less : q.0 < p.0 = omega (arith, more, differs) in
-            let test : true ≡ is_lt (pair_cmp q p) = ap (λ o. is_lt (ordering_then o (nat_cmp q.1 p.1))) (nat_cmp_is q.0 p.0 Less less) in
-            absurd (true_false (test ∙ sorted))
-        | inl same ↦
-            elim (cases_lt p.1 q.1) [
-              | inl shorter ↦ second_less p q same shorter
-              | inr longer ↦
-                  elim (cases_eq p.1 q.1) [
-                    | inl alike ↦ absurd (true_false (sym (ap₂ (λ c d. c && d) (eq-eqb p.0 q.0 same) (eq-eqb p.1 q.1 alike)) ∙ other))
-                    | inr unlike ↦
-                        let less : q.1 < p.1 = omega (arith, longer, unlike) in
-                        let test : true ≡ is_lt (pair_cmp q p) = ap₂ (λ o r. is_lt (ordering_then o r)) (nat_cmp_is q.0 p.0 Equal (sym same)) (nat_cmp_is q.1 p.1 Less less) in
-                        absurd (true_false (test ∙ sorted))
-                  ]
-            ]
-      ]
-]
-  where
-    true_false : true ≡ false → ⊥
-    true_false e = cc
+not_less p q sorted other = grind (arith, cases_lt, first_less, cases_eq, pair_cmp, second_less, eq-eqb)
 
 -- pairs that are sorted, no two the same, rise
 sorted_rise : (ps : List (ℕ × ℕ)) → IsSorted pair_cmp ps → AllPairs (λ p q. same_pair p q ≡ false) ps → AllPairs IsEarlier ps
@@ -111,14 +83,8 @@ module _ (b : BoardData) (t : List ℤ) (x : List ℕ) (there : Contains (box b.
       let moves = moves_from sides b.piece x t in
       let back = moves_from sides b.piece x (opposite t) in
       let far : Move → Bool = λ m. not (vertex_among vectors m.to == u) in
-      let own : AllPairs Differ (own_starts u moves) =
-      AllPairs-map Differ (λ m. (u, m.len)) moves
-      (AllPairs-follows (λ m. m.len ≡ m.len) (λ m n. m.len < n.len) (λ m n. Differ (u, m.len) (u, n.len)) moves (λ m n p q less. lens_differ u u m.len n.len less) (λ k d h. refl) (lengths_rise sides b.piece t x)) in
-      let others : AllPairs Differ (other_starts vectors u back) =
-      AllPairs-map Differ (λ m. (vertex_among vectors m.to, m.len)) (filter far back)
-      (AllPairs-filter (λ m n. Differ (vertex_among vectors m.to, m.len) (vertex_among vectors n.to, n.len)) far back
-      (AllPairs-follows (λ m. m.len ≡ m.len) (λ m n. m.len < n.len) (λ m n. Differ (vertex_among vectors m.to, m.len) (vertex_among vectors n.to, n.len)) back
-      (λ m n p q less. lens_differ (vertex_among vectors m.to) (vertex_among vectors n.to) m.len n.len less) (λ k d h. refl) (lengths_rise sides b.piece (opposite t) x))) in
+      let own : AllPairs Differ (own_starts u moves) = search (rules, AllPairs-map, AllPairs-follows, lens_differ, lengths_rise) in
+      let others : AllPairs Differ (other_starts vectors u back) = search (rules, AllPairs-map, AllPairs-filter, AllPairs-follows, lens_differ, lengths_rise, vertex_among, opposite) in
       AllPairs-append Differ (own_starts u moves) (other_starts vectors u back) own others
       (All-map (λ p. All (Differ p) (other_starts vectors u back)) (λ m. (u, m.len)) moves
       (λ k d h.
@@ -133,11 +99,7 @@ module _ (b : BoardData) (t : List ℤ) (x : List ℕ) (there : Contains (box b.
 
   -- in an order in which they rise, they are those of the touching moves
   pub rising_starts : (ps : List (ℕ × ℕ)) → IsPermutation (starts_of (sides_of b.sizes b.wrap) b.piece (box b.sizes) x t) ps → AllPairs IsEarlier ps → ps ≡ touching b t x there
-  rising_starts ps changed rise =
-      let starts = starts_of (sides_of b.sizes b.wrap) b.piece (box b.sizes) x t in
-      in_order_same b t x there ps rise
-      (All-permutation (Contains (touching b t x there)) starts ps changed (starts_touch b t x there))
-      (All-weaker (Contains starts) (Contains ps) (λ s found. Contains-permutation starts ps s changed found) (touching b t x there) (touching_found b t x there))
+  rising_starts ps changed rise = search (rules, in_order_same, All-permutation, touching, starts_touch, All-weaker, Contains-permutation, touching_found, sides_of)
 
   -- sorted, they rise
   pub sorted_starts : (ps : List (ℕ × ℕ)) → IsPermutation (starts_of (sides_of b.sizes b.wrap) b.piece (box b.sizes) x t) ps → IsSorted pair_cmp ps → ps ≡ touching b t x there

@@ -1,5 +1,5 @@
 -- Moves from a vector that never come home, of as many lengths as the moved coordinates stay on the board.
-use Rattle.std.proofs.Common.{◌≡◌, ◌≢◌, ℕ, zero, suc, ◌+◌, ◌-◌, reverse, ◌<◌, ◌≤◌, ℤ, pos, negsuc, true, false, not, cond, List, [], ◌∷◌, length, map, Option, Some, None, refl, sym, ap, subst, ◌∙◌, inl, inr, arith}
+use Rattle.std.proofs.Common.{◌≡◌, ◌≢◌, ℕ, zero, suc, ◌+◌, ◌-◌, reverse, ◌<◌, ◌≤◌, ℤ, true, false, cond, List, [], ◌∷◌, length, map, Some, None, refl, sym, ap, subst, ◌∙◌, arith, rules}
 use Rattle.std.specs.Cmp.Lexicographic.{bytes_decides}
 use Rattle.std.proofs.lemmas.Bool.{cases_Bool, cases_lt}
 use Rattle.std.proofs.lemmas.List.{reverse-append}
@@ -7,7 +7,7 @@ use Rattle.std.proofs.lemmas.List.FromFn.{map-range_with_len_more}
 use Rattle.std.specs.List.{range_with_len}
 use Rattle.sgb_vec.specs.Lexicographic.{IsBelow}
 use Rattle.sgb_gen.specs.Boards.{BoardData}
-use Rattle.sgb_gen.specs.Moves.{Side, is_elsewhere, opposite, place, sides_of}
+use Rattle.sgb_gen.specs.Moves.{Side, opposite, place, sides_of}
 use Rattle.sgb_gen.specs.VectorGraphs.{same_vector}
 use Rattle.sgb_gen.specs.LocalLists.{LinksData, LocalArc}
 use Rattle.sgb_gen.specs.inner.LocalBoards.{move_arc}
@@ -30,12 +30,10 @@ arc_placed b x t l = arc_along b.sizes b.wrap x (parts_of t) l
 
 module _ (b : BoardData) (x : List ℕ) (t : List ℤ) (below : IsBelow x b.sizes) (long : length t ≡ length b.sizes) (away : NeverHome b x t) where
   pub leads_on : (l : ℕ) → 0 < l → parts_stay b.sizes b.wrap x l (parts_of t) ≡ true → leads b x t l ≡ Some (parts_put b.sizes b.wrap x l (parts_of t) x)
-  leads_on l some stay =
-      cc (away l some, place_by_parts b.sizes b.wrap x t l below long, stay)
+  leads_on l some stay = grind (arith, place_by_parts)
 
   leads_out : (l : ℕ) → 0 < l → parts_stay b.sizes b.wrap x l (parts_of t) ≡ false → leads b x t l ≡ None
-  leads_out l some out =
-      cc (away l some, place_by_parts b.sizes b.wrap x t l below long, out)
+  leads_out l some out = grind (arith, place_by_parts)
 
   -- where the next length leads out, no moves are left after it
   left-past : (n l : ℕ) → n ≤ longest b → l ≡ n + 1 → (n < longest b → parts_stay b.sizes b.wrap x (n + 1) (parts_of t) ≡ false) → moves_left b t x l ≡ []
@@ -48,9 +46,7 @@ module _ (b : BoardData) (x : List ℕ) (t : List ℤ) (below : IsBelow x b.size
       → (n < longest b → parts_stay b.sizes b.wrap x (n + 1) (parts_of t) ≡ false)
       → map move_arc (moves_left b t x l) ≡ map (arc_placed b x t) (range_with_len l k)
   arcs_on n zero l some sum most on end = ap (map move_arc) (left-past n l most (omega (arith, sum)) end)
-  arcs_on n (suc k) l some sum most on end =
-      ap (map move_arc) (left-next b t x l (parts_put b.sizes b.wrap x l (parts_of t) x) (omega (arith, sum, most)) (leads_on l some (on l (omega (arith, sum)))))
-      ∙ ap (λ ls. arc_placed b x t l ∷ ls) (arcs_on n k (l + 1) (omega arith) (omega (arith, sum)) most on end)
+  arcs_on n (suc k) l some sum most on end = grind (arith, left-next, leads_on, arc_placed, arcs_on n k (l + 1) (omega arith) (omega (arith, sum)) most on end)
 
   -- one for each length up to the farthest one
   pub straight_arcs : (n : ℕ) → n ≤ longest b
@@ -74,17 +70,8 @@ one_shorter f done new whole n m some same is so_far =
 
 -- ---- when a piece never comes home
 
--- what is not x is elsewhere
-not_home : (x : List ℕ) (o : Option (List ℕ)) → o ≢ Some x → cond (is_elsewhere x o) o None ≡ o
-not_home x None h = refl
-not_home x (Some y) h = elim (cases_Bool (same_vector y x)) [
-  | inl same ↦ absurd (h (ap Some ((bytes_decides y x).0 same)))
-  | inr other ↦ ap (λ c. cond (not c) (Some y) None) other
-]
-
 pub destination_away : (sides : List Side) (piece : ℤ) (x : List ℕ) (t : List ℤ) (l : ℕ) → place sides x t l ≢ Some x → destination sides piece x t l ≡ place sides x t l
-destination_away sides (pos p) x t l away = refl
-destination_away sides (negsuc p) x t l away = not_home x (place sides x t l) away
+destination_away sides piece x t l away = search (rules, cases_Bool, cond, same_vector, bytes_decides)
 
 module _ (b : BoardData) (t : List ℤ) (long : length t ≡ length b.sizes) (onward : leads_onward b.wrap 0 t ≡ true) where
   on_sides : (x : List ℕ) → IsBelow x b.sizes → IsBelow x (map (λ s. s.size) (sides_of b.sizes b.wrap))
@@ -92,8 +79,7 @@ module _ (b : BoardData) (t : List ℤ) (long : length t ≡ length b.sizes) (on
 
   -- a displacement that leads onward does not lead home, nor does its opposite
   pub onward_away : (x : List ℕ) (l : ℕ) → IsBelow x b.sizes → 0 < l → leads b x t l ≡ place (sides_of b.sizes b.wrap) x t l
-  onward_away x l below some =
-      destination_away (sides_of b.sizes b.wrap) b.piece x t l (onward_elsewhere b.sizes b.wrap x t l (on_sides x below) long onward some)
+  onward_away x l below some = grind (arith, destination_away, onward_elsewhere, on_sides)
 
   pub back_away : (x : List ℕ) (l : ℕ) → IsBelow x b.sizes → 0 < l → leads b x (opposite t) l ≡ place (sides_of b.sizes b.wrap) x (opposite t) l
   back_away x l below some =

@@ -1,5 +1,5 @@
 -- The moves of subsets counted: by the descent from each vector down to the first one.
-use Rattle.std.proofs.Common.{◌≡◌, ℕ, suc, ◌+◌, ◌-◌, ◌*◌, ◌<◌, ◌≤◌, min, Bool, true, false, not, cond, List, [], ◌∷◌, ◌++◌, length, map, filter, reverse, take, drop, sum, Some, refl, sym, ap, subst, ◌∙◌, arith, length-append}
+use Rattle.std.proofs.Common.{◌≡◌, ℕ, suc, ◌+◌, ◌-◌, ◌*◌, ◌<◌, ◌≤◌, min, Bool, true, false, not, cond, List, [], ◌∷◌, ◌++◌, length, filter, reverse, take, drop, sum, Some, refl, sym, ap, subst, ◌∙◌, arith, length-append}
 use Rattle.std.specs.List.{flat_map, range_with_len, slice_get}
 use Rattle.std.specs.Prelude.{slice_index_or}
 use Rattle.std.proofs.Math.Path.{fun_ext}
@@ -21,8 +21,8 @@ use Rattle.sgb_gen.specs.VectorGraphs.{Move, described_by, family_graph, vertex_
 use Rattle.sgb_gen.specs.inner.Descents.{IsBegun, arcs_under, down_from, row, rows}
 use Rattle.sgb_gen.specs.inner.SubsetsCounts.{moves_among, wanted_among}
 use Rattle.sgb_gen.proofs.BoardCountsBoards.{arcs-directed, arcs-undirected}
-use Rattle.sgb_gen.proofs.DescentArcs.{HasEnded, all-rows, ended-all, ended-part, from-taken, row-under, under-front, under-unwanted, under-zeros}
-use Rattle.sgb_gen.proofs.Descents.{row-within, rows-parts, sums-rows}
+use Rattle.sgb_gen.proofs.DescentArcs.{HasEnded, all-rows, ended-part, from-taken, row-under, under-front, under-unwanted, under-zeros, both_ended}
+use Rattle.sgb_gen.proofs.Descents.{row-within, rows-parts, sums-rows, sums-past}
 use Rattle.sgb_gen.proofs.FamilyWalks.{at_front, next_left}
 use Rattle.sgb_gen.proofs.RisingVectors.{vertex_in_rising}
 use Rattle.sgb_gen.proofs.SubsetsEvents.{is_among}
@@ -51,16 +51,12 @@ among-most sb c x vs =
 -- in the other order as many
 pub among-reverse : (sb c : ℕ) (x : List ℕ) (vs : List (List ℕ)) → wanted_among sb c x (reverse vs) ≡ wanted_among sb c x vs
 among-reverse sb c x [] = refl
-among-reverse sb c x (v ∷ vs) =
-    ap (wanted_among sb c x) (reverse-first v vs)
-    ∙ among-append sb c x (reverse vs) (v ∷ [])
-    ∙ omega (arith, among-reverse sb c x vs, among-append sb c x (v ∷ []) vs)
+among-reverse sb c x (v ∷ vs) = grind (arith, reverse-first, among-append, reverse, among-reverse sb c x vs)
 
 -- ---- where the descent ends
 
 one_if : (b : Bool) (arc : LocalArc) → length (cond b (arc ∷ []) []) ≡ cond b 1 0
-one_if true arc = refl
-one_if false arc = refl
+one_if b arc = grind (arith)
 
 -- nothing is left to be placed
 pub among-zeros : (sb c left : ℕ) (bs x : List ℕ) → left ≡ 0 → cond (is_wanted_size sb c) 1 0 ≡ wanted_among sb c x (reverse (bounded_sums left bs))
@@ -78,8 +74,7 @@ among-unwanted sb c bs x room shared left begun none =
 
 -- there are no more entries
 pub among-ended : (sb c left : ℕ) (bs x : List ℕ) → IsWithin x bs → HasEnded bs x → 0 < left → 0 ≡ wanted_among sb c x (reverse (bounded_sums left bs))
-among-ended sb c left bs x h none some =
-    sym (among-arcs sb [] c x (reverse (bounded_sums left bs)) ∙ ap length (ended-all sb [] c left bs x h none some))
+among-ended sb c left bs x h none some = grind (arith, among-arcs, reverse, both_ended, sums-past)
 
 pub among-ended_from : (sb c left : ℕ) (bs x : List ℕ) → IsWithin x bs → HasEnded bs x → left ≡ sum x → wanted_among sb c x (reverse (bounded_sums left bs)) ≡ wanted_among sb c x (down_from bs x)
 among-ended_from sb c left bs x h none all = among-same sb [] [] c c x x _ _ (ended-part down_from (λ y. refl) sb [] c left bs x h none all)
@@ -110,9 +105,8 @@ pub among-from : (sb c left b h lower others : ℕ) (bs xs bounds x : List ℕ) 
     → others ≡ wanted_among sb (c + min h h) xs (down_from bs xs)
     → others + lower ≡ wanted_among sb c x (down_from bounds x)
 among-from sb c left b h lower others bs xs bounds x bounds_are x_is adds lower_is others_is =
-    let whole : left ≡ h + sum xs = adds ∙ ap sum x_is ∙ sum-cons h xs in
     let own = among-same sb [] ([] ++ h ∷ []) c (c + min h h) (h ∷ xs) xs _ _ (under-front sb [] c h xs h (down_from bs xs)) in
-    cc (others_is, own, lower_is, whole, among-append sb c (h ∷ xs) (map (λ v. h ∷ v) (down_from bs xs)) (rows (h + sum xs) bs 0 h), bounds_are, x_is)
+    grind (arith, sum-cons, among-append, own)
 
 -- what is known with one more entry
 pub begun-on : (room shared left c b h e : ℕ) (bs xs bounds x : List ℕ) → bounds ≡ b ∷ bs → x ≡ h ∷ xs → e ≤ left → IsBegun bounds x room shared left c → IsBegun bs xs (room - b) (shared - h) (left - e) (c + min h e)
@@ -125,12 +119,7 @@ row-few : (r low n k : ℕ) (bs : List ℕ) → k < n → length (row r bs (low 
 row-few r low n k bs less =
     let parts : rows r bs low n ≡ rows r bs (low + suc k) (n - suc k) ++ rows r bs low (suc k) =
     ap (rows r bs low) {y = suc k + (n - suc k)} (omega arith) ∙ rows-parts r bs low (suc k) (n - suc k) in
-    omega (
-      arith,
-      ap length parts,
-      length-append (rows r bs (low + suc k) (n - suc k)) (rows r bs low (suc k)),
-      length-append (row r bs (low + k)) (rows r bs low k),
-    )
+    grind (arith, length-append, parts)
 
 length-row : (r e : ℕ) (bs : List ℕ) → e ≤ r → length (row r bs e) ≡ length (bounded_sums (r - e) bs)
 length-row r e bs within = grind (arith, row-within, length-map, length-reverse)
@@ -186,13 +175,8 @@ few-own r b h most bs xs bounds x bounds_are x_is within small few =
       ap (λ n. length (bounded_sums (r - n) bs)) {x = 0 + h} {y = h} (omega arith),
     )
 
--- those from x on down are among all
-down-few : (bs x : List ℕ) → IsWithin x bs → length (down_from bs x) ≤ length (bounded_sums (sum x) bs)
-down-few bs x h = grind (arith, from-taken, length-reverse, length-take)
-
 pub few-from : (sb c left most : ℕ) (bs x : List ℕ) → IsWithin x bs → left ≡ sum x → length (bounded_sums left bs) ≤ most → wanted_among sb c x (down_from bs x) ≤ most
-few-from sb c left most bs x h adds few =
-    omega (arith, few, ap (λ n. length (bounded_sums n bs)) adds, down-few bs x h, among-most sb c x (down_from bs x))
+few-from sb c left most bs x h adds few = grind (arith, among-most, from-taken, length-reverse, length-take)
 
 -- ---- all moves
 
@@ -204,18 +188,10 @@ moves_at s i v at =
     let us = take (i + 1) vectors in
     let w = slice_index_or vectors i [] in
     let there : w ≡ v = get_or_from_slice_get vectors i v [] at in
-    let move : List ℕ → Move = λ u. record { from = u; to = w; len = 1 } in
     let is = (Contains-bounded_sums s.sum.total s.sum.bounds v).0 (is_among vectors i v at) in
     let place : vertex_among vectors v ≡ i = vertex_in_rising vectors i v (bounded_sums-rise s.sum.total s.sum.bounds) at in
-    let down : reverse us ≡ down_from s.sum.bounds v =
-    ap (λ k. reverse (take (k + 1) vectors)) (sym place)
-    ∙ ap (λ n. reverse (take (vertex_among (bounded_sums n s.sum.bounds) v + 1) (bounded_sums n s.sum.bounds))) (sym is.1)
-    ∙ from-taken s.sum.bounds v is.0 in
-    length-map (filter (λ u. is_wanted_size sb (common_size u w)) us) move
-    ∙ ap (λ t. length (filter (λ u. is_wanted_size sb (common_size u t)) us)) there
-    ∙ ap (λ t. length (filter t us)) (fun_ext (λ u. ap (is_wanted_size sb) {x = common_size u v} {y = common_size v u + 0} (omega (arith, common-turned u v))))
-    ∙ sym (among-reverse sb 0 v us)
-    ∙ ap (wanted_among sb 0 v) down
+    let down : reverse us ≡ down_from s.sum.bounds v = grind (arith, reverse, from-taken) in
+    grind (arith, length-map, filter, fun_ext, common-turned, among-reverse, sb, vectors, us, w, there, is, place, down)
 
 -- those to all places from one on
 moves_from : (s : SubsetsData) (vs : List (List ℕ)) (k : ℕ) → vs ≡ drop k (subsets_vectors s) → length (flat_map (moves_to_place s.size_bits (subsets_vectors s)) (range_with_len k (length vs))) ≡ moves_among s.size_bits s.sum.bounds vs
@@ -223,8 +199,7 @@ moves_from s [] k is = refl
 moves_from s (v ∷ vs) k is =
     let vectors = subsets_vectors s in
     let here = moves_at s k v (at_front vectors (v ∷ vs) k v is refl) in
-    let rest = moves_from s vs (k + 1) (next_left vectors (v ∷ vs) vs k is refl) in
-    cc (length-append (moves_to_place s.size_bits vectors k) (flat_map (moves_to_place s.size_bits vectors) (range_with_len (k + 1) (length vs))), here, rest)
+    simp (next_left, length-append, vectors, here, moves_from s vs (k + 1) (next_left vectors (v ∷ vs) vs k is refl))
 
 pub moves-counted : (s : SubsetsData) → length (moves_of_subsets s) ≡ moves_among s.size_bits s.sum.bounds (subsets_vectors s)
 unfolding moves_of_subsets

@@ -1,5 +1,5 @@
 -- The events of subsets, as their moves are made one after another.
-use Rattle.std.proofs.Common.{◌≡◌, ℕ, suc, ◌+◌, ◌-◌, ◌<◌, ◌≤◌, pos, cond, List, [], ◌∷◌, ◌++◌, length, map, filter, take, drop, Some, refl, sym, ap, ◌∙◌, arith}
+use Rattle.std.proofs.Common.{◌≡◌, ℕ, ◌+◌, ◌-◌, ◌<◌, ◌≤◌, pos, cond, List, [], ◌∷◌, ◌++◌, length, map, filter, take, drop, Some, refl, sym, ap, ◌∙◌, arith}
 use Rattle.std.specs.List.{flat_map, range_with_len, slice_get, Contains}
 use Rattle.std.proofs.lemmas.List.{drop_all, length-take, get_or-take}
 use Rattle.std.proofs.lemmas.Option.{slice_get_within, slice_get_read, get_or_from_slice_get}
@@ -24,10 +24,6 @@ event_of_size size_bits i j c = cond (is_wanted_size size_bits c) (record { from
 vertex_in_sum : (s : SubsetsData) (v : List ℕ) (i : ℕ) → slice_get (subsets_vectors s) i ≡ Some v → vertex_among (subsets_vectors s) v ≡ i
 vertex_in_sum s v i at = vertex_in_rising (subsets_vectors s) i v (bounded_sums-rise s.sum.total s.sum.bounds) at
 
--- the event of the first of some vectors comes first
-events_to-first : (s : SubsetsData) (u v : List ℕ) (us : List (List ℕ)) (i j : ℕ) → slice_get (subsets_vectors s) i ≡ Some u → slice_get (subsets_vectors s) j ≡ Some v → events_to s v (u ∷ us) ≡ event_of_size s.size_bits i j (common_size u v) ++ events_to s v us
-events_to-first s u v us i j at_u at_v = grind (arith, vertex_in_sum)
-
 -- the vectors from place i on up to place j
 abbrev pub vectors_between : List (List ℕ) → ℕ → ℕ → List (List ℕ)
 vectors_between vectors i j = drop i (take (j + 1) vectors)
@@ -43,8 +39,7 @@ between-next vectors i j u h at =
 
 -- at place i the event from there comes first
 pub events_to-next : (s : SubsetsData) (u v : List ℕ) (i j : ℕ) → i ≤ j → slice_get (subsets_vectors s) i ≡ Some u → slice_get (subsets_vectors s) j ≡ Some v → events_to s v (vectors_between (subsets_vectors s) i j) ≡ event_of_size s.size_bits i j (common_size u v) ++ events_to s v (vectors_between (subsets_vectors s) (i + 1) j)
-events_to-next s u v i j h at_u at_v =
-    cc (between-next (subsets_vectors s) i j u h at_u, events_to-first s u v (vectors_between (subsets_vectors s) (i + 1) j) i j at_u at_v)
+events_to-next s u v i j h at_u at_v = grind (arith, between-next, vectors_between, vertex_in_sum)
 
 -- past place j none are left
 pub events_to-none : (s : SubsetsData) (v : List ℕ) (i j : ℕ) → j < i → events_to s v (vectors_between (subsets_vectors s) i j) ≡ []
@@ -66,15 +61,11 @@ events_from_place s j = flat_map (events_at s) (range_with_len j (length (subset
 
 -- those at it come first
 pub events_from_place-next : (s : SubsetsData) (j : ℕ) → j < length (subsets_vectors s) → events_from_place s j ≡ events_at s j ++ events_from_place s (j + 1)
-events_from_place-next s j h =
-    let count : length (subsets_vectors s) - j ≡ suc (length (subsets_vectors s) - (j + 1)) = omega arith in
-    ap (λ n. flat_map (events_at s) (range_with_len j n)) count
+events_from_place-next s j h = grind (arith, events_at)
 
 -- at last none are left
 pub events_from_place-none : (s : SubsetsData) (j : ℕ) → length (subsets_vectors s) ≤ j → events_from_place s j ≡ []
-events_from_place-none s j h =
-    let count : length (subsets_vectors s) - j ≡ 0 = omega arith in
-    ap (λ n. flat_map (events_at s) (range_with_len j n)) count
+events_from_place-none s j h = grind (arith, events_at)
 
 -- all of them are the definition's
 pub events_of-subsets : (s : SubsetsData) → events_from_place s 0 ≡ map (event_among (subsets_vectors s)) (moves_of_subsets s)

@@ -29,12 +29,10 @@ common-turned (x ∷ u) (y ∷ v) = omega (arith, common-turned u v)
 
 -- an element that is made where a test passes
 made_if : (b : Bool) (v : List ℕ) → map {B = LocalArc} (λ y. record { tip = y; len = pos 1 }) (cond b (v ∷ []) []) ≡ cond b (record { tip = v; len = pos 1 } ∷ []) []
-made_if true v = refl
-made_if false v = refl
+made_if b v = grind (arith)
 
 none_if : (b : Bool) → cond {A = List LocalArc} b [] [] ≡ []
-none_if true = refl
-none_if false = refl
+none_if b = grind (arith)
 
 -- the vectors up to one
 abbrev and_one : List (List ℕ) → List ℕ → List (List ℕ)
@@ -82,36 +80,30 @@ module _ (size_bits : ℕ) (x : List ℕ) where
   touching false a b u v = arc_if a v 1 ++ arc_if b u 1
 
   by_move : (directed a b : Bool) (u v : List ℕ) → same_vector u x ≡ a → same_vector v x ≡ b → arcs_by directed x (unit_move v u) ≡ touching directed a b u v
-  by_move true a b u v is_a is_b = ap (λ t. arc_if t v 1) is_a
-  by_move false a b u v is_a is_b = ap₂ (λ t s. arc_if t v 1 ++ arc_if s u 1) is_a is_b
+  by_move directed a b u v is_a is_b = grind (arith)
 
   one_move : (directed : Bool) (u v : List ℕ) (w : Bool) → w ≡ wanted u v → arcs_of_moves directed x (map (unit_move v) (cond w (u ∷ []) [])) ≡ cond w (arcs_by directed x (unit_move v u)) []
-  one_move directed u v true is = refl
-  one_move directed u v false is = refl
+  one_move directed u v w is = grind (arith)
 
   -- the moves to v from u and then from others
   onto_first : (directed a b : Bool) (u v : List ℕ) (us : List (List ℕ)) → same_vector u x ≡ a → same_vector v x ≡ b
       → arcs_of_moves directed x (moves_onto v (u ∷ us)) ≡ arcs_of_moves directed x (moves_onto v us) ++ cond (wanted u v) (touching directed a b u v) []
-  onto_first directed a b u v us is_a is_b =
-      cc (onto-append v (u ∷ []) us, arcs-append directed x (moves_onto v (u ∷ [])) (moves_onto v us), one_move directed u v (wanted u v) refl, by_move directed a b u v is_a is_b)
+  onto_first directed a b u v us is_a is_b = search (rules, onto-append, arcs-append, moves_onto, one_move, wanted, by_move)
 
   -- of moves between other vectors there are none
   untouched : (directed : Bool) (u v : List ℕ) (w : Bool) → cond w (touching directed false false u v) [] ≡ []
-  untouched true u v w = none_if w
-  untouched false u v w = none_if w
+  untouched directed u v w = grind (arith, none_if)
 
   others : (directed : Bool) (v : List ℕ) (us : List (List ℕ)) → Differs v → All Differs us → arcs_of_moves directed x (moves_onto v us) ≡ []
   others directed v [] other differ = refl
-  others directed v (u ∷ us) other differ =
-      cc (onto_first directed false false u v us (All-head Differs u us differ) other, others directed v us other (All-tail Differs u us differ), untouched directed u v (wanted u v))
+  others directed v (u ∷ us) other differ = grind (arith, onto_first, All-head, Differs, All-tail, untouched, wanted, others directed v us other (All-tail Differs u us differ))
 
   x_itself : same_vector x x ≡ true
   x_itself = (bytes_decides x x).1 refl
 
   -- from x to another vector there is one
   outward : (directed : Bool) (v : List ℕ) (w : Bool) → cond w (touching directed true false x v) [] ≡ cond w (record { tip = v; len = pos 1 } ∷ []) []
-  outward true v w = refl
-  outward false v w = refl
+  outward directed v w = grind (arith)
 
   from_x : (directed : Bool) (v : List ℕ) (us ws : List (List ℕ)) → Differs v → All Differs us → All Differs ws → arcs_of_moves directed x (moves_onto v (us ++ x ∷ ws)) ≡ arcs_to size_bits x (v ∷ [])
   from_x directed v us ws other before after = grind (arith, onto-append, arcs-append, onto_first, x_itself, others, outward, append-nil, to-one)
@@ -122,9 +114,7 @@ module _ (size_bits : ℕ) (x : List ℕ) where
   inward false us = arcs_to size_bits x (reverse us)
 
   inward_first : (directed : Bool) (u : List ℕ) (us : List (List ℕ)) → inward directed us ++ cond (wanted u x) (touching directed false true u x) [] ≡ inward directed (u ∷ us)
-  inward_first true u us = none_if (wanted u x)
-  inward_first false u us =
-      cc (wanted-turned u x, to-one u, back-first u us)
+  inward_first directed u us = grind (arith, none_if, wanted, wanted-turned, to-one, back-first)
 
   onto_x : (directed : Bool) (us : List (List ℕ)) → All Differs us → arcs_of_moves directed x (moves_onto x us) ≡ inward directed us
   onto_x true [] differ = refl
@@ -138,13 +128,10 @@ module _ (size_bits : ℕ) (x : List ℕ) where
   own_arcs false us = arcs_to size_bits x (x ∷ []) ++ (arcs_to size_bits x (x ∷ []) ++ arcs_to size_bits x (reverse us))
 
   twice_if : (w : Bool) (l : List LocalArc) → cond w (l ++ l) [] ≡ cond w l [] ++ cond w l []
-  twice_if true l = refl
-  twice_if false l = refl
+  twice_if w l = grind (arith)
 
   own_join : (directed : Bool) (us : List (List ℕ)) → cond (wanted x x) (touching directed true true x x) [] ++ inward directed us ≡ own_arcs directed us
-  own_join true us = append-nil (cond (wanted x x) (record { tip = x; len = pos 1 } ∷ []) []) ∙ sym (to-one x)
-  own_join false us =
-      cc (twice_if (wanted x x) (record { tip = x; len = pos 1 } ∷ []), to-one x, append_assoc (arcs_to size_bits x (x ∷ [])) (arcs_to size_bits x (x ∷ [])) (inward false us))
+  own_join directed us = grind (arith, append-nil, cond, wanted, to-one, twice_if, append_assoc, inward)
 
   at_x : (directed : Bool) (us : List (List ℕ)) → All Differs us → arcs_of_moves directed x (moves_onto x (us ++ x ∷ [])) ≡ own_arcs directed us
   at_x directed us differ = grind (arith, onto-append, arcs-append, onto_first, x_itself, onto_x, own_join)
@@ -159,52 +146,31 @@ module _ (size_bits : ℕ) (x : List ℕ) where
   after_x directed us ws [] before between differ = refl
   after_x directed us ws (v ∷ vs) before between differ =
       let other = All-head Differs v vs differ in
-      let longer : and_one (us ++ x ∷ ws) v ≡ us ++ x ∷ and_one ws v = append_assoc us (x ∷ ws) (v ∷ []) in
       let apart = All-append Differs ws (v ∷ []) between (All-cons Differs v [] other (All-nil Differs)) in
-      ap (λ l. arcs_of_moves directed x (moves_onto v l ++ moves_over l vs)) longer
-      ∙ arcs-append directed x (moves_onto v (us ++ x ∷ and_one ws v)) (moves_over (us ++ x ∷ and_one ws v) vs)
-      ∙ ap₂ (λ a b. a ++ b) (after_x directed us (and_one ws v) vs before apart (All-tail Differs v vs differ)) (from_x directed v us (and_one ws v) other before apart)
-      ∙ sym (back-first v vs)
+      grind (arith, and_one, append_assoc, moves_onto, moves_over, arcs-append, All-tail, Differs, from_x, back-first, other, apart, after_x directed us (and_one ws v) vs before apart (All-tail Differs v vs differ))
 
   -- to all vectors, with x among them
   over_all : (directed : Bool) (before us after : List (List ℕ)) → All Differs before → All Differs us → All Differs after
       → arcs_of_moves directed x (moves_over before (us ++ x ∷ after)) ≡ arcs_to size_bits x (reverse after) ++ own_arcs directed (before ++ us)
-  over_all directed before [] after h differ later =
-      arcs-append directed x (moves_onto x (and_one before x)) (moves_over (and_one before x) after)
-      ∙ ap₂ (λ a b. a ++ b) (after_x directed before [] after h (All-nil Differs) later) (at_x directed before h)
-      ∙ ap (λ l. arcs_to size_bits x (reverse after) ++ own_arcs directed l) (sym (append-nil before))
+  over_all directed before [] after h differ later = grind (arith, arcs-append, moves_onto, and_one, moves_over, after_x, All-nil, Differs, at_x, reverse, own_arcs, append-nil)
   over_all directed before (u ∷ us) after h differ later =
       let other = All-head Differs u us differ in
       let apart = All-append Differs before (u ∷ []) h (All-cons Differs u [] other (All-nil Differs)) in
-      arcs-append directed x (moves_onto u (and_one before u)) (moves_over (and_one before u) (us ++ x ∷ after))
-      ∙ ap₂ (λ a b. a ++ b) (over_all directed (and_one before u) us after apart (All-tail Differs u us differ) later) (others directed u (and_one before u) other apart)
-      ∙ append-nil (arcs_to size_bits x (reverse after) ++ own_arcs directed (and_one before u ++ us))
-      ∙ ap (λ l. arcs_to size_bits x (reverse after) ++ own_arcs directed l) (append_assoc before (u ∷ []) us)
+      grind (arith, arcs-append, moves_onto, and_one, moves_over, All-tail, Differs, others, append-nil, reverse, own_arcs, append_assoc, other, apart, over_all directed (and_one before u) us after apart (All-tail Differs u us differ) later)
 
   -- the moves of the definition are these
   moves_are : (before vs : List (List ℕ)) → flat_map (moves_to_place size_bits (before ++ vs)) (range_with_len (length before) (length vs)) ≡ moves_over before vs
   moves_are before [] = refl
-  moves_are before (v ∷ vs) =
-      let joined : and_one before v ++ vs ≡ before ++ v ∷ vs = append_assoc before (v ∷ []) vs in
-      let there : get_or (before ++ v ∷ vs) (length before) [] ≡ v = get_or-append_seam before v vs [] in
-      let front : take (length before + 1) (before ++ v ∷ vs) ≡ and_one before v = take-append-add before (v ∷ vs) 1 in
-      let count : length (and_one before v) ≡ length before + 1 = length-append before (v ∷ []) in
-      ap₂ (λ a b. a ++ b)
-      (ap₂ (λ w l. moves_onto w l) there front)
-      (ap₂ (λ l n. flat_map (moves_to_place size_bits l) (range_with_len n (length vs))) (sym joined) (sym count) ∙ moves_are (and_one before v) vs)
+  moves_are before (v ∷ vs) = grind (arith, and_one, append_assoc, get_or-append_seam, take-append-add, length-append, moves_onto, moves_are (and_one before v) vs)
 
   -- so the list is the walk's, with the vectors before x and after it
   walked : (directed : Bool) (before after : List (List ℕ)) → arcs_to size_bits x (reverse after) ++ own_arcs directed before
       ≡ cond directed (arcs_to size_bits x (reverse (x ∷ after))) (arcs_to size_bits x (reverse (x ∷ after)) ++ arcs_to size_bits x (reverse (and_one before x)))
-  walked true before after = sym (back-first x after)
-  walked false before after =
-      sym (append_assoc (arcs_to size_bits x (reverse after)) (arcs_to size_bits x (x ∷ [])) (arcs_to size_bits x (x ∷ []) ++ arcs_to size_bits x (reverse before)))
-      ∙ ap₂ (λ a b. a ++ b) (sym (back-first x after)) (sym (back-last before x))
+  walked directed before after = grind (arith, back-first, append_assoc, reverse, back-last)
 
   by_walk : (directed : Bool) (vectors : List (List ℕ)) → arcs_by_walk directed size_bits vectors x
       ≡ cond directed (arcs_to size_bits x (reverse (drop (vertex_among vectors x) vectors))) (arcs_to size_bits x (reverse (drop (vertex_among vectors x) vectors)) ++ arcs_to size_bits x (reverse (take (vertex_among vectors x + 1) vectors)))
-  by_walk true vectors = refl
-  by_walk false vectors = refl
+  by_walk directed vectors = grind (arith)
 
   pub moves-walked : (directed : Bool) (vectors : List (List ℕ)) (p : ℕ) → slice_get vectors p ≡ Some x → vertex_among vectors x ≡ p → All Differs (take p vectors) → All Differs (drop (p + 1) vectors)
       → arcs_of_moves directed x (flat_map (moves_to_place size_bits vectors) (range_with_len 0 (length vectors))) ≡ arcs_by_walk directed size_bits vectors x
@@ -238,8 +204,7 @@ module _ (vectors : List (List ℕ)) (p : ℕ) (x : List ℕ) (rise : IsRising v
   earlier_differ k d within = grind (arith, length-take, get_or-take, differs_at)
 
   later_differ : All (λ v. same_vector v x ≡ false) (drop (p + 1) vectors)
-  later_differ k d within =
-      cc (get_or-drop (p + 1) vectors k d, differs_after (p + 1 + k) d (omega arith) (omega (arith, length-drop (p + 1) vectors, within)))
+  later_differ k d within = grind (arith, get_or-drop, differs_after, length-drop)
 
 -- the vectors up to a place are vectors
 taken : (n : ℕ) (vectors : List (List ℕ)) → All (Contains vectors) (take n vectors)
@@ -263,8 +228,5 @@ pub list_by_walk : (s : SubsetsData) (x : List ℕ) → Contains (subsets_vector
 unfolding moves_of_subsets
 list_by_walk s x (p, within, there) =
     let vectors = subsets_vectors s in
-    let rise = bounded_sums-rise s.sum.total s.sum.bounds in
     let at : slice_get vectors p ≡ Some x = slice_get_read vectors (length vectors) p x refl within (sym there) in
-    list_at-moves vectors rise s.directed x (moves_of_subsets s) (p, within, there) (moves_have_ends s)
-    ∙ moves-walked s.size_bits x s.directed vectors p at (vertex_in_rising vectors p x rise at)
-    (earlier_differ vectors p x rise at) (later_differ vectors p x rise at)
+    search (rules, bounded_sums-rise, list_at-moves, moves_have_ends, moves-walked, vertex_in_rising, earlier_differ, later_differ, vectors, at)

@@ -1,5 +1,5 @@
 -- The moves of subsets as pairs of vectors: two of these pairs to a move between two vectors, one to that of a vector to itself.
-use Rattle.std.proofs.Common.{◌≡◌, ℕ, suc, ◌+◌, ◌*◌, ◌≤◌, Bool, true, false, cond, List, [], ◌∷◌, ◌++◌, length, filter, take, drop, sum, refl, sym, ap, ap₂, ◌∙◌, arith, get_or, length-append, append_assoc}
+use Rattle.std.proofs.Common.{◌≡◌, ℕ, ◌+◌, ◌*◌, ◌≤◌, Bool, cond, List, [], ◌∷◌, ◌++◌, length, filter, take, drop, sum, refl, sym, ap, ◌∙◌, arith, get_or, length-append, append_assoc}
 use Rattle.std.specs.List.{All, flat_map, range_with_len}
 use Rattle.std.specs.Prelude.{slice_index_or}
 use Rattle.std.proofs.Math.Path.{fun_ext}
@@ -10,7 +10,6 @@ use Rattle.sgb_vec.specs.Limits.{most_vertices}
 use Rattle.sgb_vec.proofs.SumMembers.{Contains-bounded_sums}
 use Rattle.sgb_vec.proofs.SumSuccessors.{sum-cons}
 use Rattle.sgb_gen.specs.Subsets.{SubsetsData, common_size, is_wanted_size, moves_of_subsets, moves_to_place, subsets_vectors}
-use Rattle.sgb_gen.specs.VectorGraphs.{Move}
 use Rattle.sgb_gen.specs.inner.SubsetsCounts.{wanted_among}
 use Rattle.sgb_gen.specs.inner.SubsetsPairs.{cell_of, pairs_among}
 use Rattle.sgb_gen.proofs.SubsetsCounts.{among-append}
@@ -30,12 +29,10 @@ pairs_alike sb [] = 0
 pairs_alike sb (v ∷ vs) = wanted_among sb 0 v (v ∷ []) + pairs_alike sb vs
 
 one_if : (b : Bool) (v : List ℕ) → length (cond b (v ∷ []) []) ≡ cond b 1 0
-one_if true v = refl
-one_if false v = refl
+one_if b v = grind (arith)
 
 one_each : (b : Bool) (u v : List ℕ) → length (cond b (u ∷ []) []) ≡ length (cond b (v ∷ []) [])
-one_each true u v = refl
-one_each false u v = refl
+one_each b u v = grind (arith)
 
 -- what two vectors have in common they have in the other order
 turned : (sb : ℕ) (u v : List ℕ) → wanted_among sb 0 u (v ∷ []) ≡ wanted_among sb 0 v (u ∷ [])
@@ -59,30 +56,15 @@ moves_here sb before vs v =
     let vectors = before ++ v ∷ vs in
     let w = slice_index_or vectors (length before) [] in
     let us = take (length before + 1) vectors in
-    let move : List ℕ → Move = λ u. record { from = u; to = w; len = 1 } in
-    let there : w ≡ v = get_or-append_seam before v vs [] in
     let these : us ≡ before ++ v ∷ [] =
     ap (take (length before + 1)) (sym (append_assoc before (v ∷ []) vs))
     ∙ take_at (before ++ v ∷ []) vs (length before + 1) (length-append before (v ∷ [])) in
-    length-map (filter (λ u. is_wanted_size sb (common_size u w)) us) move
-    ∙ ap₂ (λ t l. length (filter (λ u. is_wanted_size sb (common_size u t)) l)) there these
-    ∙ ap (λ t. length (filter t (before ++ v ∷ []))) (fun_ext (λ u. ap (is_wanted_size sb) {x = common_size u v} {y = common_size v u + 0} (omega (arith, common-turned u v))))
+    grind (arith, get_or-append_seam, length-map, filter, fun_ext, common-turned, vectors, w, us, these)
 
 -- the moves to all places from one on
 moves_on : (sb k : ℕ) (vectors before vs : List (List ℕ)) → vectors ≡ before ++ vs → k ≡ length before → length (flat_map (moves_to_place sb vectors) (range_with_len k (length vs))) ≡ pairs_among sb 0 vs before + pairs_once sb vs
 moves_on sb k vectors before [] is place = refl
-moves_on sb k vectors before (v ∷ vs) is place =
-    let here : length (moves_to_place sb vectors k) ≡ wanted_among sb 0 v (before ++ v ∷ []) =
-    ap₂ (λ l n. length (moves_to_place sb l n)) is place ∙ moves_here sb before vs v in
-    let rest = moves_on sb (k + 1) vectors (before ++ v ∷ []) vs (is ∙ sym (append_assoc before (v ∷ []) vs)) (omega (arith, place, length-append before (v ∷ []))) in
-    let all = length-append (moves_to_place sb vectors k) (flat_map (moves_to_place sb vectors) (range_with_len (k + 1) (length vs))) in
-    omega (
-      arith,
-      among-append sb 0 v before (v ∷ []),
-      pairs-second sb 0 vs before (v ∷ []),
-      with_one sb v vs,
-      among-append sb 0 v (v ∷ []) vs,
-    )
+moves_on sb k vectors before (v ∷ vs) is place = grind (arith, moves_here, append_assoc, length-append, among-append, pairs-second, with_one, moves_on sb (k + 1) vectors (before ++ v ∷ []) vs (is ∙ sym (append_assoc before (v ∷ []) vs)) (omega (arith, place, length-append before (v ∷ []))))
 
 none_before : (sb : ℕ) (vs : List (List ℕ)) → pairs_among sb 0 vs [] ≡ 0
 none_before sb [] = refl
@@ -94,23 +76,12 @@ common_own : (v : List ℕ) → common_size v v ≡ sum v
 common_own [] = refl
 common_own (x ∷ v) = omega (arith, common_own v, sum-cons x v)
 
-alike_one : (sb n : ℕ) (v : List ℕ) → sum v ≡ n → wanted_among sb 0 v (v ∷ []) ≡ cond (is_wanted_size sb n) 1 0
-alike_one sb n v adds = grind (arith, common_own, one_if)
-
-alike_more : (b : Bool) (n one rest : ℕ) → one ≡ cond b 1 0 → rest ≡ cond b n 0 → one + rest ≡ cond b (suc n) 0
-alike_more true n one rest first others = omega (arith, first, others)
-alike_more false n one rest first others = omega (arith, first, others)
-
 alike_none : (b : Bool) (n : ℕ) → n ≡ cond b n n
-alike_none true n = refl
-alike_none false n = refl
+alike_none b n = grind (arith)
 
 alike_all : (sb n : ℕ) (vs : List (List ℕ)) → All (λ v. sum v ≡ n) vs → pairs_alike sb vs ≡ cond (is_wanted_size sb n) (length vs) 0
 alike_all sb n [] adds = alike_none (is_wanted_size sb n) 0
-alike_all sb n (v ∷ vs) adds =
-    alike_more (is_wanted_size sb n) (length vs) (wanted_among sb 0 v (v ∷ [])) (pairs_alike sb vs)
-    (alike_one sb n v (All-head (λ v. sum v ≡ n) v vs adds))
-    (alike_all sb n vs (All-tail (λ v. sum v ≡ n) v vs adds))
+alike_all sb n (v ∷ vs) adds = grind (arith, pairs_alike, All-head, All-tail, common_own, one_if, alike_all sb n vs (All-tail (λ v. sum v ≡ n) v vs adds))
 
 -- ---- all moves
 

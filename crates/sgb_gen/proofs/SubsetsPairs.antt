@@ -1,15 +1,15 @@
 -- Pairs of subsets counted by a table: by the first entries of both vectors.
-use Rattle.std.proofs.Common.{◌≡◌, ℕ, zero, suc, ◌+◌, ◌-◌, ◌*◌, ◌<◌, ◌≤◌, min, max, Bool, true, false, cond, ◌/◌, ◌%◌, List, [], ◌∷◌, ◌++◌, length, map, reverse, refl, sym, ap, ap₂, ◌∙◌, arith, get_or}
-use Rattle.std.specs.Prelude.{nat_lt}
+use Rattle.std.proofs.Common.{◌≡◌, ℕ, zero, suc, ◌+◌, ◌-◌, ◌*◌, ◌<◌, ◌≤◌, min, max, Bool, cond, ◌/◌, ◌%◌, List, [], ◌∷◌, ◌++◌, length, map, reverse, refl, sym, ap, ap₂, ◌∙◌, arith, get_or}
 use Rattle.std.proofs.lemmas.Bool.{le-ltb}
 use Rattle.std.proofs.lemmas.List.FromFn.{get_or-map-range_with_len, length-map-range_with_len}
+use Rattle.sgb_vec.specs.Boxes.{box}
 use Rattle.sgb_vec.specs.Limits.{most_vertices}
 use Rattle.sgb_vec.specs.Sums.{bounded_sums}
 use Rattle.sgb_vec.proofs.Lists.{reverse-first}
 use Rattle.sgb_gen.specs.Subsets.{is_wanted_size}
 use Rattle.sgb_gen.specs.inner.Descents.{row, rows}
 use Rattle.sgb_gen.specs.inner.SubsetsPairs.{cell_at, cell_of, kept, pairs_among, pairs_of_sums, table_of}
-use Rattle.sgb_gen.proofs.Descents.{row-within, rows-end, sums-end, sums-past, sums-rows}
+use Rattle.sgb_gen.proofs.Descents.{row-within, rows-end, sums-past, sums-rows}
 use Rattle.sgb_gen.proofs.SubsetsCounts.{among-append, among-most, among-reverse, among-row}
 
 -- ---- pairs of two lists
@@ -29,16 +29,11 @@ pairs-none sb c (u ∷ us) = omega (arith, pairs-none sb c us)
 -- in the other order they are as many
 pairs-reverse_first : (sb c : ℕ) (us vs : List (List ℕ)) → pairs_among sb c (reverse us) vs ≡ pairs_among sb c us vs
 pairs-reverse_first sb c [] vs = refl
-pairs-reverse_first sb c (u ∷ us) vs =
-    ap (λ ws. pairs_among sb c ws vs) (reverse-first u us)
-    ∙ omega (arith, pairs-first sb c (reverse us) (u ∷ []) vs, pairs-reverse_first sb c us vs)
+pairs-reverse_first sb c (u ∷ us) vs = grind (arith, reverse-first, pairs-first, reverse, pairs-reverse_first sb c us vs)
 
 pairs-reverse_second : (sb c : ℕ) (us vs : List (List ℕ)) → pairs_among sb c us (reverse vs) ≡ pairs_among sb c us vs
 pairs-reverse_second sb c [] vs = refl
 pairs-reverse_second sb c (u ∷ us) vs = ap₂ (λ m n. m + n) (among-reverse sb c u vs) (pairs-reverse_second sb c us vs)
-
-pub pairs-reverse : (sb c : ℕ) (us vs : List (List ℕ)) → pairs_among sb c (reverse us) (reverse vs) ≡ pairs_among sb c us vs
-pairs-reverse sb c us vs = pairs-reverse_first sb c us (reverse vs) ∙ pairs-reverse_second sb c us vs
 
 -- there are few
 pub pairs-few : (sb c : ℕ) (us vs : List (List ℕ)) → length vs ≤ most_vertices → pairs_among sb c us vs ≤ length us * most_vertices
@@ -53,16 +48,12 @@ pairs-beginning sb c x y r bs [] within = refl
 pairs-beginning sb c x y r bs (u ∷ us) within =
     ap₂ (λ m n. m + n) (sym (among-row sb c r x y bs u within)) (pairs-beginning sb c x y r bs us within)
 
-pairs-rows : (sb c x y q r : ℕ) (bs : List ℕ) → x ≤ q → y ≤ r → pairs_among sb c (row q bs x) (row r bs y) ≡ pairs_of_sums sb bs (q - x) (r - y) (c + min x y)
-pairs-rows sb c x y q r bs first second =
-    cc (row-within q x bs first, pairs-beginning sb c x y r bs (reverse (bounded_sums (q - x) bs)) second, pairs-reverse sb (c + min x y) (bounded_sums (q - x) bs) (bounded_sums (r - y) bs))
-
 -- one entry of the second vector more
 pub other-counted : (sb c x y q r counted more : ℕ) (bs : List ℕ) → x ≤ q → y ≤ r
     → counted ≡ kept (pairs_among sb c (row q bs x) (rows r bs 0 y))
     → more ≡ kept (pairs_of_sums sb bs (q - x) (r - y) (c + min x y))
     → kept (counted + more) ≡ kept (pairs_among sb c (row q bs x) (rows r bs 0 (y + 1)))
-other-counted sb c x y q r counted more bs first second so_far is = grind (arith, pairs-second, pairs-rows)
+other-counted sb c x y q r counted more bs first second so_far is = grind (arith, pairs-second, row-within, pairs-beginning, reverse, min, pairs-reverse_first, pairs-reverse_second)
 
 -- one entry of the first vector more
 pub entry-counted : (sb c x q counted more : ℕ) (bs : List ℕ) (vs : List (List ℕ))
@@ -80,8 +71,7 @@ rows-of_all r b bs =
     ∙ sym (sums-rows r b bs)
 
 pub pairs-all : (sb c q r b : ℕ) (bs : List ℕ) → pairs_among sb c (rows q bs 0 (min q b + 1)) (rows r bs 0 (min r b + 1)) ≡ pairs_of_sums sb (b ∷ bs) q r c
-pairs-all sb c q r b bs =
-    cc (rows-of_all q b bs, rows-of_all r b bs, pairs-reverse sb c (bounded_sums q (b ∷ bs)) (bounded_sums r (b ∷ bs)))
+pairs-all sb c q r b bs = grind (arith, rows-of_all, pairs-reverse_first, reverse, pairs-reverse_second)
 
 -- ---- the table
 
@@ -109,22 +99,10 @@ pub cell-found : (sb total : ℕ) (bs : List ℕ) (x y q r c shared found : ℕ)
 cell-found sb total bs x y q r c shared found first second room other lesser is =
     cc (is, lesser, cell-within sb total bs (q - x) (r - y) (c + min x y) (omega (arith, first, room)) (omega (arith, other)))
 
--- with no bounds there is one vector, which adds to 0
-no_pairs : (b : Bool) (n : ℕ) → 0 ≡ kept n → 0 ≡ cond b 0 (kept n)
-no_pairs true n none = refl
-no_pairs false n none = none
-
 pub last-some : (sb total q r c : ℕ) → 0 < q + r → 0 ≡ cell_of sb total [] q r c
-last-some sb total zero r c some =
-    no_pairs (nat_lt total (max r (zero + c))) (pairs_of_sums sb [] zero r c)
-    (pairs-none sb c (bounded_sums zero []) ∙ ap (λ vs. kept (pairs_among sb c (bounded_sums zero []) vs)) (sym (sums-past r [] (omega (arith, some)))))
-last-some sb total (suc q) r c some =
-    no_pairs (nat_lt total (max r (suc q + c))) (pairs_of_sums sb [] (suc q) r c)
-    (ap (λ us. kept (pairs_among sb c us (bounded_sums r []))) (sym (sums-past (suc q) [] (omega arith))))
-
-one_pair : (b : Bool) (v : List ℕ) → length (cond b (v ∷ []) []) + 0 ≡ cond b 1 0
-one_pair true v = refl
-one_pair false v = refl
+last-some sb total zero r c some = grind (arith, max, pairs-none, sums-past)
+last-some sb total (suc q) r c some = grind (arith, max, sums-past)
 
 pub last-zero : (sb total q r c : ℕ) (wanted : Bool) → q + r ≡ 0 → c ≤ total → is_wanted_size sb c ≡ wanted → kept (cond wanted 1 0) ≡ cell_of sb total [] q r c
-last-zero sb total q r c wanted none within is = grind (arith, sums-end, one_pair, cell-within)
+unfolding bounded_sums box
+last-zero sb total q r c wanted none within is = grind (arith, cell-within)

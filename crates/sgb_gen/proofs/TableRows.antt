@@ -1,5 +1,5 @@
 -- The vectors of a table, which stand one after another.
-use Rattle.std.proofs.Common.{◌≡◌, ℕ, zero, suc, ◌+◌, ◌*◌, ◌<◌, ◌≤◌, List, [], ◌∷◌, ◌++◌, length, take, drop, Some, refl, ap, ◌∙◌, arith, length-append}
+use Rattle.std.proofs.Common.{◌≡◌, ℕ, zero, suc, ◌+◌, ◌*◌, ◌<◌, ◌≤◌, List, [], ◌∷◌, length, take, drop, Some, refl, ap, arith, length-append}
 use Rattle.std.specs.List.{All, Contains, flat_map, slice_get}
 use Rattle.std.proofs.lemmas.List.{take_at, drop_at, drop-drop}
 use Rattle.std.proofs.lemmas.List.Elements.{All-head, All-tail, All-contains_itself, All-weaker}
@@ -26,12 +26,8 @@ length-rows width (suc count) entries = ap suc (length-rows width count (drop wi
 -- a row is a part of the entries
 pub slice_get-rows : {T : Type 0} (width count place : ℕ) (entries : List T) → place < count → slice_get (rows width count entries) place ≡ Some (take width (drop (place * width) entries))
 slice_get-rows width zero place entries h = absurd (omega arith)
-slice_get-rows width (suc count) zero entries h =
-    let start : 0 ≡ 0 * width = omega arith in
-    ap (λ n. Some (take width (drop n entries))) start
-slice_get-rows width (suc count) (suc place) entries h =
-    let start : width + place * width ≡ suc place * width = omega arith in
-    cc (slice_get-rows width count place (drop width entries) (omega arith), drop-drop (place * width) width entries, start)
+slice_get-rows width (suc count) zero entries h = grind (arith)
+slice_get-rows width (suc count) (suc place) entries h = grind (arith, drop-drop, slice_get-rows width count place (drop width entries) (omega arith))
 
 -- and stands within them
 pub row_within : (width count place : ℕ) → place < count → place * width + width ≤ count * width
@@ -46,9 +42,4 @@ length-joined width (v ∷ vectors) h =
 -- and the rows of these entries are the vectors
 pub rows-joined : {T : Type 0} (width : ℕ) (vectors : List (List T)) → HasWidth width vectors → rows width (length vectors) (joined vectors) ≡ vectors
 rows-joined width [] h = refl
-rows-joined width (v ∷ vectors) h =
-    let wide : length v ≡ width = All-head (λ w. length w ≡ width) v vectors h in
-    let first : take width (v ++ joined vectors) ≡ v = take_at v (joined vectors) width wide in
-    let others : rows width (length vectors) (drop width (v ++ joined vectors)) ≡ vectors =
-    ap (rows width (length vectors)) (drop_at v (joined vectors) width wide) ∙ rows-joined width vectors (All-tail (λ w. length w ≡ width) v vectors h) in
-    rw (first, others) refl
+rows-joined width (v ∷ vectors) h = grind (arith, All-head, joined, take_at, drop_at, All-tail, rows-joined width vectors (All-tail (λ w. length w ≡ width) v vectors h))

@@ -1,21 +1,18 @@
 -- How often a step has to be made around a side until it is back: the least number of times, found as the greatest
 -- common divisor is.
-use Rattle.std.proofs.Common.{◌≡◌, ℕ, zero, suc, ◌+◌, ◌-◌, ◌*◌, ◌/◌, ◌%◌, ◌<◌, ◌≤◌, ℤ, pos, negsuc, ◌*ℤ◌, nat_abs, Bool, true, false, ◌&&◌, eqb, refl, sym, ap, ◌∙◌, inl, inr, arith}
+use Rattle.std.proofs.Common.{◌≡◌, ℕ, zero, suc, ◌+◌, ◌-◌, ◌*◌, ◌/◌, ◌%◌, ◌<◌, ◌≤◌, ℤ, pos, negsuc, ◌*ℤ◌, nat_abs, Bool, true, false, ◌&&◌, eqb, refl, sym, ap, ◌∙◌, inl, inr, arith, rules}
 use Rattle.std.specs.Int.{int_rem_euclid}
 use Rattle.std.proofs.Math.Nat.{mod-eq_of_lt, mul-mod_left}
 use Rattle.std.proofs.lemmas.Bool.{cases_Bool, cases_lt, eqb-true, eqb-false, eq-eqb}
 use Rattle.std.proofs.lemmas.Int.{ints}
 use Rattle.std.proofs.lemmas.Nat.{mul-le, mod-mul-add, mul-mod_second}
 
-pub not_zero : (a : ℕ) → 0 < a → eqb a 0 ≡ false
-not_zero a some = elim (cases_Bool (eqb a 0)) [ inl e ↦ absurd (omega (arith, some, eqb-true a 0 e)) | inr e ↦ e ]
-
 -- tests of 0 that mean the same
 pub both_zero : (a b : ℕ) → (a ≡ 0 → b ≡ 0) → (b ≡ 0 → a ≡ 0) → eqb a 0 ≡ eqb b 0
 both_zero zero zero f g = refl
 both_zero zero (suc b) f g = absurd (omega (arith, f refl))
 both_zero (suc a) zero f g = absurd (omega (arith, g refl))
-both_zero (suc a) (suc b) f g = not_zero (suc a) (omega arith) ∙ sym (not_zero (suc b) (omega arith))
+both_zero (suc a) (suc b) f g = grind (arith, cases_Bool, eqb, eqb-true)
 
 -- a is some times n
 abbrev IsTimes : ℕ → ℕ → Type 0
@@ -38,9 +35,7 @@ module _ (n v o : ℕ) (some : 0 < v) (below : v < n) (one : 0 < o) (few : o ≤
   whole : o * n ≡ o * n / v * v
   whole =
       let own : o % o ≡ 0 = times-to o o 1 (omega arith) in
-      let left : o * (n % v) % v ≡ 0 = eqb-true (o * (n % v) % v) 0 (inner o ∙ eq-eqb (o % o) 0 own) in
-      let times : o * n % v ≡ 0 = sym (mul-mod_second o n v) ∙ left in
-      omega (arith, times, some)
+      grind (arith, eqb-true, eq-eqb, mul-mod_second, own)
 
   pub times-some : 0 < o * n / v
   times-some = grind (arith, mul-le, cases_lt, whole)
@@ -66,10 +61,6 @@ module _ (n v o : ℕ) (some : 0 < v) (below : v < n) (one : 0 < o) (few : o ≤
       times-to n (i * v) (c * o) product)
 
 -- ---- steps of either sign
-
-pub abs-times : (l : ℕ) (u : ℤ) → nat_abs (pos l *ℤ u) ≡ l * nat_abs u
-abs-times l (pos a) = refl
-abs-times _ _ = omega (arith, ints)
 
 -- what comes before a multiple of n leaves n - 1
 one_before : (n a c : ℕ) → 0 < n → suc a ≡ c * n → a % n ≡ n - 1
@@ -123,11 +114,11 @@ home-both h o l on some one each =
 
 -- on a side of n coordinates, i times so many steps
 pub around-home : (n steps r : ℕ) (t : ℤ) (i : ℕ) → 0 < n → eqb (i * (steps * nat_abs t % n) % n) 0 ≡ eqb (i % r) 0 → eqb (nat_abs (int_rem_euclid (pos (i * steps) *ℤ t) (pos n))) 0 ≡ eqb (i % r) 0
-around-home n steps r t i some e = grind (arith, abs-times, rem-none, mul-mod_second)
+around-home n steps r t i some e = search (rules, rem-none, mul-mod_second, ints)
 
 -- a rider is away at each length before the least one at which it is home
 pub away-before : (home l : ℕ) → 0 < l → l ≤ home - 1 → eqb (l % home) 0 ≡ false
-away-before home l some before = grind (arith, mod-eq_of_lt, not_zero)
+away-before home l some before = grind (arith, mod-eq_of_lt, cases_Bool, eqb, eqb-true)
 
 pub home-at : (home : ℕ) → 0 < home → eqb ((home - 1 + 1) % home) 0 ≡ true
 home-at home some = eq-eqb ((home - 1 + 1) % home) 0 (times-to home (home - 1 + 1) 1 (omega (arith, some)))

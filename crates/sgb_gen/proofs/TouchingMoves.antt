@@ -1,6 +1,6 @@
 -- The moves by one displacement that touch a vector, by the vertices where they start and their lengths: which they are,
 -- that they come in order, and what they put on the vector's list.
-use Rattle.std.proofs.Common.{◌≡◌, ℕ, ◌<◌, ℤ, pos, negsuc, Bool, true, false, not, cond, List, [], ◌∷◌, ◌++◌, map, drop, get_or, Some, None, refl, sym, ap, ap₂, subst, ◌∙◌, inl, inr, arith, append-nil}
+use Rattle.std.proofs.Common.{◌≡◌, ℕ, ◌<◌, ℤ, pos, negsuc, Bool, true, false, not, cond, List, [], ◌∷◌, ◌++◌, map, drop, get_or, Some, None, refl, sym, ap, ap₂, subst, ◌∙◌, inl, inr, arith, append-nil, rules}
 use Rattle.std.specs.Prelude.{◌==◌, ◌||◌}
 use Rattle.std.specs.Cmp.Lexicographic.{bytes_decides}
 use Rattle.std.specs.List.{All, AllPairs, Contains, filter, flat_map}
@@ -104,16 +104,7 @@ module _ (b : BoardData) (t : List ℤ) (x : List ℕ) (there : Contains (box b.
 
   one_move : (m : Move) → IsMove m → arcs_by false x m ≡ flat_map edge (map start (filter touches (m ∷ [])))
   one_move m is = elim (cases_Bool (same_vector m.from x)) [
-    | inl own ↦
-        let from : m.from ≡ x = same_from m.from x own in
-        let vertex : (vertex_among vectors m.from == u) ≡ true = eq-eqb (vertex_among vectors m.from) u (ap (vertex_among vectors) from) in
-        let lead : LeadsTo sides b.piece x t m.len m.to = subst (λ z. LeadsTo sides b.piece z t m.len m.to) from is.1 in
-        let goes : destination sides b.piece x (cond (vertex_among vectors m.from == u) t (opposite t)) m.len ≡ Some m.to =
-        ap (λ c. destination sides b.piece x (cond c t (opposite t)) m.len) vertex ∙ leads_there sides b.piece t x m.len m.to (below x there) lead in
-        ap₂ (λ c z. arc_if c m.to m.len ++ arc_if (same_vector m.to x) z m.len) own from
-        ∙ sym (append-nil (edge_arcs x m.len (Some m.to)))
-        ∙ ap (λ o. edge_arcs x m.len o ++ []) (sym goes)
-        ∙ ap (λ c. flat_map edge (map start (cond (c || same_vector m.to x) (m ∷ []) []))) (sym own)
+    | inl own ↦ search (rules, same_from, vectors, u, eq-eqb, sides, cond, leads_there, below, append-nil, edge, start, vertex_among, LeadsTo, destination, opposite, arc_if, same_vector, edge_arcs)
     | inr other ↦
         elim (cases_Bool (same_vector m.to x)) [
           | inl comes ↦
@@ -121,25 +112,19 @@ module _ (b : BoardData) (t : List ℤ) (x : List ℕ) (there : Contains (box b.
               let vertex = other_vertex m.from is.0 other in
               let lead : LeadsTo sides b.piece m.from t m.len x = subst (LeadsTo sides b.piece m.from t m.len) to is.1 in
               let home : LeadsTo sides b.piece x (opposite t) m.len m.from = (moves_turned sides b.piece t x m.from m.len (below x there) (below m.from is.0)).0 lead in
-              let goes : destination sides b.piece x (cond (vertex_among vectors m.from == u) t (opposite t)) m.len ≡ Some m.from =
-              ap (λ c. destination sides b.piece x (cond c t (opposite t)) m.len) vertex ∙ leads_there sides b.piece (opposite t) x m.len m.from (below x there) home in
+              let goes : destination sides b.piece x (cond (vertex_among vectors m.from == u) t (opposite t)) m.len ≡ Some m.from = grind (arith, sides, cond, leads_there, below) in
               ap₂ (λ c e. arc_if c m.to m.len ++ arc_if e m.from m.len) other comes
               ∙ ap (λ c. record { tip = m.from; len = pos m.len } ∷ (cond c (record { tip = x; len = pos m.len } ∷ []) [])) (sym other)
               ∙ sym (append-nil (edge_arcs x m.len (Some m.from)))
               ∙ ap (λ o. edge_arcs x m.len o ++ []) (sym goes)
               ∙ ap₂ (λ c e. flat_map edge (map start (cond (c || e) (m ∷ []) []))) (sym other) (sym comes)
-          | inr passes ↦
-              ap₂ (λ c e. arc_if c m.to m.len ++ arc_if e m.from m.len) other passes
-              ∙ ap₂ (λ c e. flat_map edge (map start (cond (c || e) (m ∷ []) []))) (sym other) (sym passes)
+          | inr passes ↦ grind (arith, edge, start, cond)
         ]
   ]
 
   onward_of : (ms : List Move) → All IsMove ms → flat_map (arcs_by false x) ms ≡ flat_map edge (map start (filter touches ms))
   onward_of [] all = refl
-  onward_of (m ∷ ms) all =
-      ap₂ (λ p q. p ++ q) (one_move m (All-head IsMove m ms all)) (onward_of ms (All-tail IsMove m ms all))
-      ∙ sym (flat_map-append edge (map start (filter touches (m ∷ []))) (map start (filter touches ms)))
-      ∙ ap (flat_map edge) (sym (made-append touches start (m ∷ []) ms))
+  onward_of (m ∷ ms) all = grind (arith, one_move, All-head, IsMove, All-tail, flat_map-append, edge, start, touches, made-append, onward_of ms (All-tail IsMove m ms all))
 
   -- the moves put on the list of x what those do that touch it
   pub onward_by_touching : arcs_onward false x (moves_by sides b.piece vectors t) ≡ arcs_of_starts sides b.piece u x t (opposite t) touching
@@ -168,8 +153,7 @@ module _ (b : BoardData) (t : List ℤ) (x : List ℕ) (there : Contains (box b.
       among_touching x m.to m.len there lead.1 (ap (λ c. c || same_vector m.to x) (same_is x)))
 
   or_true : (c : Bool) → (c || true) ≡ true
-  or_true true = refl
-  or_true false = refl
+  or_true c = grind (arith)
 
   others_there : All (λ s. Contains touching s) (other_starts vectors u (moves_from sides b.piece x (opposite t)))
   others_there =
@@ -221,8 +205,7 @@ module _ (b : BoardData) (t : List ℤ) (x : List ℕ) (there : Contains (box b.
   -- ---- their order
 
   earlier : (m n : Move) → Contains vectors m.from → Contains vectors n.from → ComesBefore m n → IsEarlier (start m) (start n)
-  earlier m n in_m in_n (inl before) = first_less (start m) (start n) (vertices_in_order vectors m.from n.from (box_vectors_rise b.sizes) in_m in_n before)
-  earlier m n in_m in_n (inr same) = second_less (start m) (start n) (ap (vertex_among vectors) same.0) same.1
+  earlier m n in_m in_n h = grind (arith, first_less, start, vertices_in_order, vectors, box_vectors_rise, second_less)
 
   pub touching_rise : AllPairs IsEarlier touching
   touching_rise =
@@ -236,17 +219,11 @@ module _ (b : BoardData) (t : List ℤ) (x : List ℕ) (there : Contains (box b.
 
   unpaired : (ps qs : List (ℕ × ℕ)) → map pair ps ≡ map pair qs → ps ≡ qs
   unpaired [] [] e = refl
-  unpaired (p ∷ ps) (q ∷ qs) e =
-      let first : p.0 ≡ q.0 = ap (λ vs. get_or (get_or vs 0 []) 0 0) e in
-      let second : p.1 ≡ q.1 = ap (λ vs. get_or (get_or vs 0 []) 1 0) e in
-      ap₂ (λ v l. (v, l) ∷ ps) first second ∙ ap (λ rest. q ∷ rest) (unpaired ps qs (ap (λ vs. drop 1 vs) e))
+  unpaired (p ∷ ps) (q ∷ qs) e = grind (arith, unpaired ps qs (ap (λ vs. drop 1 vs) e))
   unpaired _ _ e = absurd cc
 
   paired : (ps qs : List (ℕ × ℕ)) → All (Contains qs) ps → All (Contains (map pair qs)) (map pair ps)
   paired ps qs h = All-map (Contains (map pair qs)) pair ps (λ k d within. Contains-image pair qs (get_or ps k d) (h k d within))
 
   pub in_order_same : (ps : List (ℕ × ℕ)) → AllPairs IsEarlier ps → All (Contains touching) ps → All (Contains ps) touching → ps ≡ touching
-  in_order_same ps rise has found =
-      unpaired ps touching
-      (rising_same (map pair ps) (map pair touching) (AllPairs-map IsBefore pair ps rise) (AllPairs-map IsBefore pair touching touching_rise)
-      (paired ps touching has) (paired touching ps found))
+  in_order_same ps rise has found = search (rules, unpaired, touching, rising_same, pair, AllPairs-map, touching_rise, paired, IsBefore)

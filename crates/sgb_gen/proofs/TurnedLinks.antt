@@ -1,5 +1,5 @@
 -- Arcs that are turned round: their entries as a whole, and then each row by itself.
-use Rattle.std.proofs.Common.{◌≡◌, Option, Some, None, cond, inl, inr, ℕ, zero, suc, ◌+◌, ◌*◌, ◌≤◌, pos, List, [], ◌∷◌, ◌++◌, length, reverse, take, drop, refl, sym, ap, ap₂, ◌∙◌, arith, append-nil, length-append, length-drop}
+use Rattle.std.proofs.Common.{◌≡◌, Option, cond, ℕ, zero, suc, ◌*◌, ◌≤◌, pos, List, [], ◌∷◌, ◌++◌, length, reverse, take, drop, refl, sym, ap, ap₂, ◌∙◌, arith, append-nil, length-append, length-drop, rules}
 use Rattle.std.proofs.Math.Seq.{take-append-add, drop-append-add}
 use Rattle.std.proofs.lemmas.List.{append_assoc, drop_at, take_at, take_all, take-append-le, drop-append-le, length-take-le, take-append-drop, length-reverse, reverse-append, reverse-reverse}
 use Rattle.std.specs.Cmp.Lexicographic.{bytes_decides}
@@ -20,19 +20,11 @@ abbrev row_next : ℕ → ℕ → List ℕ → List ℕ
 row_next w start es = take start es ++ (reverse (take w (drop start es)) ++ drop w (drop start es))
 
 pub rows_turned-next : (w i : ℕ) (xs : List ℕ) → suc i * w ≤ length xs → rows_turned w (suc i) xs ≡ row_next w (i * w) (rows_turned w i xs)
-rows_turned-next w zero xs h =
-    let start : 0 ≡ 0 * w = omega arith in
-    ap (λ k. row_next w k xs) start
+rows_turned-next w zero xs h = grind (arith, row_next)
 rows_turned-next w (suc i) xs h =
     let front = reverse (take w xs) in
-    let back = rows_turned w i (drop w xs) in
     let wide : length front ≡ w = row_long w (suc i) xs h in
-    let start : length front + i * w ≡ suc i * w = omega arith in
-    let room : suc i * w ≤ length (drop w xs) = omega (arith, length-drop w xs) in
-    let place = i * w in
-    let before : take (suc i * w) (front ++ back) ≡ front ++ take place back = ap (λ k. take k (front ++ back)) (sym start) ∙ take-append-add front back place in
-    let after : drop (suc i * w) (front ++ back) ≡ drop place back = ap (λ k. drop k (front ++ back)) (sym start) ∙ drop-append-add front back place in
-    cc (rows_turned-next w i (drop w xs) room, append_assoc front (take place back) (reverse (take w (drop place back)) ++ drop w (drop place back)), before, after)
+    grind (arith, length-drop, take-append-add, drop-append-add, append_assoc, reverse, front, wide, rows_turned-next w i (drop w xs) (omega (arith, length-drop w xs)))
 
 -- all rows but the last, and the last
 rows_turned-last : (w n : ℕ) (xs row : List ℕ) → length xs ≡ n * w → length row ≡ w → rows_turned w (suc n) (xs ++ row) ≡ rows_turned w n xs ++ reverse row
@@ -45,12 +37,7 @@ rows_turned-last w zero [] row long wide =
     drop_whole [] = refl
     drop_whole (e ∷ es) = drop_whole es
 rows_turned-last w zero (x ∷ xs) row long wide = absurd (omega arith)
-rows_turned-last w (suc n) xs row long wide =
-    let room : w ≤ length xs = omega arith in
-    let left : length (drop w xs) ≡ n * w = omega (arith, length-drop w xs) in
-    ap₂ (λ es fs. reverse es ++ rows_turned w (suc n) fs) (take-append-le w xs row room) (drop-append-le w xs row room)
-    ∙ ap (λ es. reverse (take w xs) ++ es) (rows_turned-last w n (drop w xs) row left wide)
-    ∙ sym (append_assoc (reverse (take w xs)) (rows_turned w n (drop w xs)) (reverse row))
+rows_turned-last w (suc n) xs row long wide = grind (arith, length-drop, reverse, take-append-le, drop-append-le, append_assoc, rows_turned-last w n (drop w xs) row (omega (arith, length-drop w xs)) wide)
 
 -- as many entries as before
 pub length-rows_turned : (w n : ℕ) (xs : List ℕ) → n * w ≤ length xs → length (rows_turned w n xs) ≡ length xs
@@ -69,11 +56,8 @@ arcs_in-reverse w tips (n ∷ lens) long =
     let rows : length (reverse rest) ≡ length lens * w = length-reverse rest ∙ left in
     let width : length (reverse row) ≡ w = length-reverse row ∙ wide in
     let turned : reverse tips ≡ reverse rest ++ reverse row = ap reverse (sym (take-append-drop w tips)) ∙ reverse-append row rest in
-    let whole : rows_turned w (suc (length lens)) (reverse tips) ≡ rows_turned w (length lens) (reverse rest) ++ row =
-    ap (rows_turned w (suc (length lens))) turned ∙ rows_turned-last w (length lens) (reverse rest) (reverse row) rows width
-    ∙ ap (λ es. rows_turned w (length lens) (reverse rest) ++ es) (reverse-reverse row) in
-    let kept : length (rows_turned w (length lens) (reverse rest)) ≡ length (reverse lens) * w =
-    length-rows_turned w (length lens) (reverse rest) (omega (arith, rows)) ∙ rows ∙ ap (λ k. k * w) (sym (length-reverse lens)) in
+    let whole : rows_turned w (suc (length lens)) (reverse tips) ≡ rows_turned w (length lens) (reverse rest) ++ row = grind (arith, rows_turned-last, reverse, reverse-reverse) in
+    let kept : length (rows_turned w (length lens) (reverse rest)) ≡ length (reverse lens) * w = grind (arith, length-rows_turned, reverse, length-reverse) in
     ap₂ (λ es ns. arcs_in w es ns) whole (reverse-append (n ∷ []) lens)
     ∙ arcs_in-push w (rows_turned w (length lens) (reverse rest)) (reverse lens) row n kept wide
     ∙ ap (λ arcs. arcs ++ record { tip = row; len = pos n } ∷ []) (arcs_in-reverse w rest lens left)
@@ -85,10 +69,7 @@ arcs_in-reverse w tips (n ∷ lens) long =
 pub arcs_in-append : (w : ℕ) (ts us ns ms : List ℕ) → length ts ≡ length ns * w → arcs_in w (ts ++ us) (ns ++ ms) ≡ arcs_in w ts ns ++ arcs_in w us ms
 arcs_in-append w [] us [] ms long = refl
 arcs_in-append w (t ∷ ts) us [] ms long = absurd (omega arith)
-arcs_in-append w ts us (n ∷ ns) ms long =
-    let room : w ≤ length ts = omega arith in
-    let left : length (drop w ts) ≡ length ns * w = omega (arith, length-drop w ts) in
-    cc (take-append-le w ts us room, drop-append-le w ts us room, arcs_in-append w (drop w ts) us ns ms left)
+arcs_in-append w ts us (n ∷ ns) ms long = grind (arith, length-drop, take-append-le, drop-append-le, arcs_in-append w (drop w ts) us ns ms (omega (arith, length-drop w ts)))
 
 -- those from one on turned round
 pub arcs_in-turned : (w first start : ℕ) (tips lens : List ℕ) → length tips ≡ length lens * w → first ≤ length lens → start ≡ first * w
@@ -102,15 +83,9 @@ arcs_in-turned w first start tips lens long within at =
     let ms = drop first lens in
     let count : length ns ≡ first = length-take-le first lens within in
     let wide : length ts ≡ length ns * w = length-take-le start tips (omega (arith, room, long, at)) ∙ at ∙ ap (λ k. k * w) (sym count) in
-    let sum : first + length ms ≡ length lens = omega (arith, length-drop first lens, within) in
-    let left : length us ≡ length ms * w = omega (arith, length-drop start tips, ap (λ k. k * w) sum, long, at) in
     let whole : arcs_in w tips lens ≡ arcs_in w ts ns ++ arcs_in w us ms =
     ap₂ (arcs_in w) (sym (take-append-drop start tips)) (sym (take-append-drop first lens)) ∙ arcs_in-append w ts us ns ms wide in
-    let number : length (arcs_in w ts ns) ≡ first = length-arcs_in w ts ns ∙ count in
-    arcs_in-append w ts (rows_turned w (length ms) (reverse us)) ns (reverse ms) wide
-    ∙ ap (λ arcs. arcs_in w ts ns ++ arcs) (arcs_in-reverse w us ms left)
-    ∙ sym (ap (λ arcs. take first arcs ++ reverse (drop first arcs)) whole
-    ∙ ap₂ (λ p q. p ++ reverse q) (take_at (arcs_in w ts ns) (arcs_in w us ms) first number) (drop_at (arcs_in w ts ns) (arcs_in w us ms) first number))
+    grind (arith, length-drop, length-arcs_in, arcs_in-append, reverse, arcs_in-reverse, take_at, drop_at, room, ts, us, ns, ms, count, wide, whole)
 
 -- arcs that are put behind others, and then turned round
 pub turned_behind : (old pushed between : LinksData) (first : ℕ) (behind : List LocalArc) → pushed ≡ record { width = old.width; arcs = old.arcs ++ behind } → first ≡ length old.arcs
@@ -119,15 +94,4 @@ turned_behind old pushed between first behind is at e = grind (arith, take_at, d
 
 -- the arcs by one edge: both of them are the same where it leads to x itself
 pub edge_turned : (x : List ℕ) (l : ℕ) (o : Option (List ℕ)) → reverse (edge_arcs x l o) ≡ edge_arcs x l o
-edge_turned x l None = refl
-edge_turned x l (Some y) = elim (cases_Bool (same_vector y x)) [
-  | inl same ↦
-      let home : y ≡ x = (bytes_decides y x).0 same in
-      let both : edge_arcs x l (Some y) ≡ record { tip = x; len = pos l } ∷ record { tip = x; len = pos l } ∷ [] =
-      ap (λ c. record { tip = y; len = pos l } ∷ (cond c (record { tip = x; len = pos l } ∷ []) [])) same ∙ ap (λ z. record { tip = z; len = pos l } ∷ record { tip = x; len = pos l } ∷ []) home in
-      ap reverse both ∙ sym both
-  | inr other ↦
-      let one : edge_arcs x l (Some y) ≡ record { tip = y; len = pos l } ∷ [] =
-      ap (λ c. record { tip = y; len = pos l } ∷ (cond c (record { tip = x; len = pos l } ∷ []) [])) other in
-      ap reverse one ∙ sym one
-]
+edge_turned x l o = search (rules, cases_Bool, cond, reverse, same_vector, bytes_decides, edge_arcs)

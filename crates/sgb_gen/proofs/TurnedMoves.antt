@@ -1,10 +1,8 @@
 -- Moves turned back: from where a move leads, the opposite displacement leads back through the same places.
-use Rattle.std.proofs.Common.{◌≡◌, ℕ, zero, suc, ◌+◌, ◌-◌, ◌*◌, ◌/◌, ◌<◌, ◌≤◌, ◌≢◌, ℤ, pos, negsuc, ◌+ℤ◌, ◌*ℤ◌, neg_ℤ, nat_abs, Bool, true, false, not, cond, ltb, List, [], ◌∷◌, map, Option, Some, None, refl, sym, ap, ap₂, subst, ◌∙◌, inl, inr, arith, true≢false}
+use Rattle.std.proofs.Common.{◌≡◌, ℕ, zero, suc, ◌+◌, ◌-◌, ◌*◌, ◌/◌, ◌<◌, ◌≤◌, ◌≢◌, ℤ, pos, negsuc, ◌+ℤ◌, ◌*ℤ◌, neg_ℤ, nat_abs, Bool, true, false, not, cond, ltb, List, [], ◌∷◌, map, Option, Some, refl, sym, ap, ap₂, subst, ◌∙◌, arith, true≢false, rules}
 use Rattle.std.proofs.Math.IntN.{+ℤ_idr, zero-*ℤ, neg_ℤ-neg_ℤ}
 use Rattle.std.proofs.Math.Nat.{mod-eq_of_lt}
 use Rattle.std.specs.Cmp.Lexicographic.{bytes_decides}
-use Rattle.std.specs.List.{Contains}
-use Rattle.std.specs.Prelude.{is_some}
 use Rattle.std.specs.Int.{int_rem_euclid}
 use Rattle.std.proofs.lemmas.Bool.{cases_Bool, cases_lt, cond-true, cond-false, lt-ltb, le-ltb}
 use Rattle.std.proofs.lemmas.Int.{ints, int_rem_euclid_is}
@@ -54,13 +52,7 @@ rem-moved n z u h =
 
 -- b steps back of a + b
 pub back : (z u : ℤ) (a b : ℕ) → (z +ℤ pos (a + b) *ℤ u) +ℤ pos b *ℤ neg_ℤ u ≡ z +ℤ pos a *ℤ u
-back z (pos zero) a b = omega (arith, ints)
-back z (pos (suc c)) a b =
-    let whole : (a + b) * suc c ≡ a * suc c + b * suc c = omega arith in
-    omega (arith, ints, whole)
-back z (negsuc c) a b =
-    let whole : (a + b) * suc c ≡ a * suc c + b * suc c = omega arith in
-    omega (arith, ints, whole)
+back z u a b = grind (arith, ints)
 
 -- ---- the opposite
 
@@ -72,27 +64,7 @@ opposite_twice (u ∷ t) = rw (neg_ℤ-neg_ℤ u, opposite_twice t) refl
 
 -- what stands in front, and what after it
 pub in_front-parts : (o : Option ℕ) (p : Option (List ℕ)) (x : ℕ) (v : List ℕ) → in_front o p ≡ Some (x ∷ v) → (o ≡ Some x) × (p ≡ Some v)
-in_front-parts (Some c) (Some w) x v e =
-    let first : c ≡ x = cc in
-    let rest : w ≡ v = cc in
-    (ap Some first, ap Some rest)
-in_front-parts _ _ x v e = absurd (cc)
-
-pub in_front-some : (o : Option ℕ) (p : Option (List ℕ)) → in_front o p ≢ Some []
-in_front-some (Some c) (Some w) e = absurd (cc)
-in_front-some (Some c) None e = absurd (cc)
-in_front-some None p e = absurd (cc)
-
--- what is within a side is the number itself
-pub within_is : (n : ℕ) (y : ℤ) (c : ℕ) → within_size n y ≡ Some c → y ≡ pos c
-within_is n (pos y) c e =
-    elim (cases_lt y n) [
-      | inl less ↦
-          let same : y ≡ c = cc (cond-true (ltb y n) (Some y) None (lt-ltb y n less)) in
-          ap pos same
-      | inr more ↦ absurd (cc (cond-false (ltb y n) (Some y) None (le-ltb y n more)))
-    ]
-within_is n (negsuc y) c e = absurd (cc)
+in_front-parts o p x v e = grind (arith)
 
 -- the coordinate y on a side of size n
 abbrev on_side : Bool → ℕ → ℤ → Option ℕ
@@ -100,29 +72,22 @@ on_side wraps n y = cond wraps (Some (nat_abs (int_rem_euclid y (pos n)))) (with
 
 -- from the coordinate at a + b steps b steps back lead to that at a
 side_turned : (wraps : Bool) (n w : ℕ) (z u : ℤ) (a b : ℕ) → 0 < n → on_side wraps n (z +ℤ pos (a + b) *ℤ u) ≡ Some w → on_side wraps n (pos w +ℤ pos b *ℤ neg_ℤ u) ≡ on_side wraps n (z +ℤ pos a *ℤ u)
-side_turned true n w z u a b h e =
-    let far = z +ℤ pos (a + b) *ℤ u in
-    let left : nat_abs (int_rem_euclid far (pos n)) ≡ w = cc in
-    cc (left, rem-moved n far (pos b *ℤ neg_ℤ u) h, back z u a b)
-side_turned false n w z u a b h e =
-    let far = z +ℤ pos (a + b) *ℤ u in
-    ap (λ y. within_size n (y +ℤ pos b *ℤ neg_ℤ u)) (sym (within_is n far w e)) ∙ ap (within_size n) (back z u a b)
+side_turned true n w z u a b h e = grind (arith, nat_abs, rem-moved, neg_ℤ, back)
+side_turned false n w z u a b h e = grind (arith, neg_ℤ, back, cases_lt, cond-true, ltb, lt-ltb, cond-false, le-ltb)
 
 -- from the place at a + b steps b steps back lead to that at a
 pub place_turned : (sides : List Side) (y : List ℕ) (t : List ℤ) (x : List ℕ) (a b : ℕ) → IsBelow y (map (λ s. s.size) sides) → place sides y t (a + b) ≡ Some x → place sides x (opposite t) b ≡ place sides y t a
 place_turned [] y t x a b h e = refl
 place_turned (s ∷ sides) [] t x a b h e = absurd h
 place_turned (s ∷ sides) (z ∷ y) [] x a b h e = absurd (cc)
-place_turned (s ∷ sides) (z ∷ y) (u ∷ t) [] a b h e =
-    absurd (in_front-some (coordinate_on s (pos z +ℤ pos (a + b) *ℤ u)) (place sides y t (a + b)) e)
+place_turned (s ∷ sides) (z ∷ y) (u ∷ t) [] a b h e = grind (arith)
 place_turned (s ∷ sides) (z ∷ y) (u ∷ t) (w ∷ x) a b h e =
     let parts = in_front-parts (coordinate_on s (pos z +ℤ pos (a + b) *ℤ u)) (place sides y t (a + b)) w x e in
     ap₂ in_front (side_turned s.wraps s.size w (pos z) u a b (omega (arith, h.0)) parts.0) (place_turned sides y t x a b h.1 parts.1)
 
 -- a coordinate on a side is itself
 pub side_itself : (wraps : Bool) (n z : ℕ) → z < n → on_side wraps n (pos z) ≡ Some z
-side_itself true n z h = ap Some (mod-eq_of_lt h)
-side_itself false n z h = cond-true (ltb z n) (Some z) None (lt-ltb z n h)
+side_itself wraps n z h = grind (arith, mod-eq_of_lt, cond-true, ltb, lt-ltb)
 
 -- no step leads to the start
 pub side_start : (wraps : Bool) (n z : ℕ) (u : ℤ) → z < n → on_side wraps n (pos z +ℤ pos 0 *ℤ u) ≡ Some z
@@ -132,11 +97,8 @@ side_start wraps n z u h =
 pub place_start : (sides : List Side) (y : List ℕ) (t : List ℤ) (l : ℕ) (x : List ℕ) → IsBelow y (map (λ s. s.size) sides) → place sides y t l ≡ Some x → place sides y t 0 ≡ Some y
 place_start [] [] t l x h e = refl
 place_start (s ∷ sides) (z ∷ y) [] l x h e = absurd (cc)
-place_start (s ∷ sides) (z ∷ y) (u ∷ t) l [] h e =
-    absurd (in_front-some (coordinate_on s (pos z +ℤ pos l *ℤ u)) (place sides y t l) e)
-place_start (s ∷ sides) (z ∷ y) (u ∷ t) l (w ∷ x) h e =
-    let parts = in_front-parts (coordinate_on s (pos z +ℤ pos l *ℤ u)) (place sides y t l) w x e in
-    ap₂ in_front (side_start s.wraps s.size z u h.0) (place_start sides y t l x h.1 parts.1)
+place_start (s ∷ sides) (z ∷ y) (u ∷ t) l [] h e = grind (arith)
+place_start (s ∷ sides) (z ∷ y) (u ∷ t) l (w ∷ x) h e = grind (arith, in_front-parts, side_start, place_start sides y t l x h.1 (in_front-parts (coordinate_on s (pos z +ℤ pos l *ℤ u)) (place sides y t l) w x e).1)
 place_start _ _ t l x h e = absurd h
 
 -- as many steps back lead to the start
@@ -153,17 +115,13 @@ places_apart sides y t a k x h e f =
 
 -- what is elsewhere exists and is not the start
 elsewhere_exists : (x : List ℕ) (o : Option (List ℕ)) → is_elsewhere x o ≡ true → (z : List ℕ) × (o ≡ Some z)
-elsewhere_exists x (Some z) e = (z, refl)
-elsewhere_exists x None e = absurd (true≢false (sym e))
+elsewhere_exists x o e = grind (arith, true≢false)
 
 elsewhere_not_home : (x : List ℕ) → is_elsewhere x (Some x) ≢ true
 elsewhere_not_home x e = true≢false (sym e ∙ ap not ((bytes_decides x x).1 refl))
 
 elsewhere_from : (x z : List ℕ) → z ≢ x → is_elsewhere x (Some z) ≡ true
-elsewhere_from x z h = elim (cases_Bool (same_vector z x)) [
-  | inl same ↦ absurd (h ((bytes_decides z x).0 same))
-  | inr other ↦ ap not other
-]
+elsewhere_from x z h = search (rules, cases_Bool, same_vector, bytes_decides)
 
 -- a rider is elsewhere at each length up to l
 abbrev IsElsewhereTo : List Side → List ℕ → List ℤ → ℕ → Type 0
@@ -188,22 +146,9 @@ rider_back sides y t l x h all e k low up =
     let whole : l - k + k ≡ l = omega arith in
     elsewhere_back sides y t (l - k) k x h (subst (IsElsewhereTo sides y t) (sym whole) all) (ap (place sides y t) whole ∙ e) low
 
--- a leaper's length is 1
-pub leaper_one : (o : Option (List ℕ)) (l : ℕ) → Contains (cond (is_some o) (1 ∷ []) []) l → l ≡ 1
-leaper_one (Some v) l (zero, within, at) = sym at
-leaper_one (Some v) l (suc i, within, at) = absurd (omega arith)
-leaper_one None l (i, within, at) = absurd (omega arith)
-
-leaper_goes : (o : Option (List ℕ)) (v : List ℕ) (l : ℕ) → o ≡ Some v → l ≡ 1 → Contains (cond (is_some o) (1 ∷ []) []) l
-leaper_goes o v l e one =
-    subst (λ r. Contains (cond (is_some r) (1 ∷ []) []) l) (sym e) (0, omega arith, sym one)
-
 -- a move turned back is one
 turned_back : (sides : List Side) (piece : ℤ) (t : List ℤ) (x y : List ℕ) (l : ℕ) → IsBelow x (map (λ s. s.size) sides) → IsBelow y (map (λ s. s.size) sides) → LeadsTo sides piece y t l x → LeadsTo sides piece x (opposite t) l y
-turned_back sides (pos p) t x y l b h m =
-    let home = place_home sides y t l x h m.1 in
-    let one = leaper_one (place sides y t 1) l m.0 in
-    (leaper_goes (place sides x (opposite t) 1) y l (ap (place sides x (opposite t)) (sym one) ∙ home) one, home)
+turned_back sides (pos p) t x y l b h m = grind (arith, place_home, cond)
 turned_back sides (negsuc p) t x y l b h m =
     let goes = (Contains-rider_reach sides y t l h).0 m.0 in
     let home = place_home sides y t l x h m.1 in

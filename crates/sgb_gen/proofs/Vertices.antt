@@ -1,7 +1,7 @@
 -- The vertices of a family by their vectors.
-use Rattle.std.proofs.Common.{rules, ◌≡◌, ◌≢◌, ℕ, zero, suc, ◌+◌, true, false, not, cond, List, [], ◌∷◌, Some, refl, sym, ap, ◌∙◌, arith}
+use Rattle.std.proofs.Common.{rules, ◌≡◌, ◌≢◌, ℕ, zero, suc, true, false, cond, List, [], ◌∷◌, Some, refl, sym, ap, ◌∙◌, arith}
 use Rattle.std.specs.Cmp.Lexicographic.{bytes_decides}
-use Rattle.std.specs.List.{slice_get, position_or_len}
+use Rattle.std.specs.List.{slice_get}
 use Rattle.std.proofs.lemmas.Bool.{cases_Bool}
 use Rattle.std.proofs.lemmas.Option.{slice_get_within}
 use Rattle.sgb_vec.specs.Boxes.{box}
@@ -20,13 +20,10 @@ other_is v w other = search (rules, cases_Bool)
 -- the vertex of a vector that stands at one place alone
 pub vertex_at : (vectors : List (List ℕ)) (i : ℕ) (v : List ℕ) → slice_get vectors i ≡ Some v → ((j : ℕ) → slice_get vectors j ≡ Some v → j ≡ i) → vertex_among vectors v ≡ i
 vertex_at [] i v at only = absurd (omega (arith, slice_get_within [] i v at))
-vertex_at (w ∷ ws) zero v at only =
-    let here : w ≡ v = cc at in
-    ap (λ b. cond (not b) (1 + position_or_len (λ u. same_vector u v) ws) 0) (ap (λ u. same_vector u v) here ∙ same_is v)
+vertex_at (w ∷ ws) zero v at only = grind (arith, cond, same_is)
 vertex_at (w ∷ ws) (suc i) v at only =
     let other : w ≢ v = λ e. absurd (omega (arith, only 0 (ap Some e))) in
-    let rest : vertex_among ws v ≡ i = vertex_at ws i v at (λ j there. omega (arith, only (suc j) there)) in
-    ap (λ b. cond (not b) (1 + vertex_among ws v) 0) (other_is w v other) ∙ omega arith
+    grind (arith, cond, other_is, other, vertex_at ws i v at (λ j there. omega (arith, only (suc j) there)))
 
 -- of a box, the vertex of a vector is its place
 pub vertex_in_box : (sizes v : List ℕ) (i : ℕ) → slice_get (box sizes) i ≡ Some v → vertex_among (box sizes) v ≡ i

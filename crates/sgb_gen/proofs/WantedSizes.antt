@@ -1,6 +1,5 @@
 -- Sizes below the least wanted one.
-use Rattle.std.proofs.Common.{◌≡◌, ℕ, suc, ◌+◌, ◌-◌, ◌/◌, ◌%◌, ◌^◌, ◌<◌, ◌≤◌, Bool, true, false, ◌&&◌, refl, sym, ap, ◌∙◌, inl, inr, arith}
-use Rattle.std.specs.Prelude.{◌==◌, nat_lt}
+use Rattle.std.proofs.Common.{◌≡◌, ℕ, suc, ◌+◌, ◌-◌, ◌/◌, ◌%◌, ◌^◌, ◌<◌, ◌≤◌, true, false, sym, ap, ◌∙◌, inl, inr, arith}
 use Rattle.std.specs.Int.{leading_zeros, trailing_zeros, w128}
 use Rattle.std.proofs.Math.Nat.{div-div-eq-div-mul, div-eq_of_lt}
 use Rattle.std.proofs.lemmas.Bool.{cases_lt}
@@ -10,10 +9,7 @@ use Rattle.sgb_gen.specs.Subsets.{is_wanted_size}
 
 -- where bit k is 0, k is not wanted
 unwanted : (sb k : ℕ) → sb / 2 ^ k % 2 ≡ 0 → is_wanted_size sb k ≡ false
-unwanted sb k clear = ap (λ bit. nat_lt k 128 && (bit == 1)) clear ∙ no_bit (nat_lt k 128) where
-  no_bit : (b : Bool) → b && (0 == 1) ≡ false
-  no_bit true = refl
-  no_bit false = refl
+unwanted sb k clear = grind (arith)
 
 -- the bits from one on
 later_bit : (sb from k : ℕ) → from ≤ k → sb / 2 ^ k ≡ sb / 2 ^ from / 2 ^ (k - from)

@@ -16,22 +16,12 @@ join_numbers_before : (numbers : List ℤ) (t : List ℕ) (ts : List (List ℕ))
 join_numbers_before [] t ts = refl
 join_numbers_before (n ∷ []) t ts =
     sym (ap (λ u. u ++ join_with_byte 44 (t ∷ ts)) (append-nil (signed_decimal n ++ 44 ∷ [])) ∙ append_assoc (signed_decimal n) (44 ∷ []) (join_with_byte 44 (t ∷ ts)))
-join_numbers_before (n ∷ m ∷ numbers) t ts =
-    ap (λ u. signed_decimal n ++ 44 ∷ u) (join_numbers_before (m ∷ numbers) t ts)
-    ∙ sym (append_assoc (signed_decimal n ++ 44 ∷ []) (numbers_text (m ∷ numbers)) (join_with_byte 44 (t ∷ ts)) ∙ append_assoc (signed_decimal n) (44 ∷ []) (numbers_text (m ∷ numbers) ++ join_with_byte 44 (t ∷ ts)))
-
--- numbers and a last text
-pub join_numbers : (numbers : List ℤ) (last : List ℕ) → join_with_byte 44 (integer_texts numbers ++ last ∷ []) ≡ numbers_text numbers ++ last
-join_numbers numbers last = join_numbers_before numbers last []
-
--- four texts, one after another
-four_texts : (a n m f : List ℕ) → ((a ++ n) ++ m) ++ f ≡ a ++ ((n ++ m) ++ f)
-four_texts a n m f = ap (λ t. t ++ f) (append_assoc a n m) ∙ append_assoc a (n ++ m) f
+join_numbers_before (n ∷ m ∷ numbers) t ts = simp (append_assoc, join_numbers_before (m ∷ numbers) t ts)
 
 -- the id of a board as it is written
 pub board_id-written : (b : BoardData) → (((codes "board(" ++ numbers_text b.params) ++ numbers_text (b.piece ∷ b.wrap ∷ [])) ++ flag_text b.directed) ++ codes ")" ≡ board_id b
 unfolding board_id
-board_id-written b = grind (arith, flat_map-append, four_texts, join_numbers)
+board_id-written b = grind (arith, flat_map-append, append_assoc, join_numbers_before)
 
 -- the id of subsets as it is written
 pub subsets_id-written : (s : SubsetsData) → ((((codes "subsets(" ++ numbers_text s.params) ++ hexadecimal_text s.size_bits) ++ codes ",") ++ flag_text s.directed) ++ codes ")" ≡ subsets_id s
@@ -41,4 +31,4 @@ subsets_id-written s = grind (arith, join_numbers_before, append_assoc)
 -- the id of a simplex as it is written
 pub simplex_id-written : (s : SimplexData) → ((codes "simplex(" ++ numbers_text s.params) ++ flag_text s.directed) ++ codes ")" ≡ simplex_id s
 unfolding simplex_id
-simplex_id-written s = grind (arith, append_assoc, join_numbers)
+simplex_id-written s = grind (arith, append_assoc, join_numbers_before)

@@ -6,9 +6,7 @@ use Rattle.sgb_gen.proofs.links.turn_rows.Goals as goal
 
 -- the next row is turned round
 row_turned : (w i k : ℕ) (xs entries row : List ℕ) → suc i * w ≤ length xs → entries ≡ rows_turned w i xs → k ≡ w → row ≡ reverse (take k (drop (i * w) entries)) → take (i * w) entries ++ (row ++ drop k (drop (i * w) entries)) ≡ rows_turned w (i + 1) xs
-row_turned w i k xs entries row room before wide turned =
-    let one : suc i ≡ i + 1 = omega arith in
-    cc (turned, wide, before, rows_turned-next w i xs room, one)
+row_turned w i k xs entries row room before wide turned = grind (arith, rows_turned-next)
 
 pub loop-i-preserved : goal.loop-i-preserved
 loop-i-preserved c = search (rules, row_turned, row_within)

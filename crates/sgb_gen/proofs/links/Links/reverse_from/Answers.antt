@@ -1,4 +1,4 @@
-use Rattle.std.proofs.Common.{rules, ◌≡◌, ℕ, ◌+◌, ◌-◌, ◌*◌, ◌<◌, ◌≤◌, List, ◌∷◌, ◌++◌, length, reverse, take, drop, refl, sym, ap, ◌∙◌, arith, length-drop}
+use Rattle.std.proofs.Common.{rules, ◌≡◌, ℕ, ◌+◌, ◌-◌, ◌*◌, ◌<◌, ◌≤◌, List, ◌∷◌, ◌++◌, length, reverse, take, drop, refl, ap, arith, length-drop}
 use Rattle.std.proofs.lemmas.List.{take-append-drop, with_items_is}
 use Rattle.std.proofs.lemmas.Nat.{mul-le}
 use Rattle.sgb_gen.specs.LocalLists.{LinksData, LocalArc}
@@ -13,9 +13,7 @@ few_turned (a ∷ b ∷ arcs) h = absurd (omega (arith, h))
 few_turned _ h = refl
 
 none_turned : (d : LinksData) (first : ℕ) → length d.arcs - first < 2 → d ≡ record { width = d.width; arcs = take first d.arcs ++ reverse (drop first d.arcs) }
-none_turned d first few =
-    ap (λ arcs. record { width = d.width; arcs = arcs })
-    (sym (take-append-drop first d.arcs) ∙ sym (ap (λ arcs. take first d.arcs ++ arcs) (few_turned (drop first d.arcs) (omega (arith, length-drop first d.arcs, few)))))
+none_turned d first few = grind (arith, take-append-drop, few_turned, length-drop)
 
 -- the first of those that are turned is one of the lengths, and its vector begins within the entries
 first_within : (width first : ℕ) (d : LinksData) (tips lens : List ℕ) → record { width = width; arcs = arcs_in width tips lens } ≡ d → first ≤ length d.arcs → first ≤ length lens

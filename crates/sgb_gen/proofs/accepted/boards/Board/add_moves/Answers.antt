@@ -1,4 +1,4 @@
-use Rattle.std.proofs.Common.{◌≡◌, ℕ, ℤ, Bool, ◌+◌, [], ◌∷◌, pos, w64, sym, ap, subst, ◌∙◌, arith, rules}
+use Rattle.std.proofs.Common.{◌≡◌, ℕ, ℤ, Bool, ◌+◌, [], ◌∷◌, pos, w64, sym, ap, ◌∙◌, arith, rules}
 use Rattle.std.proofs.lemmas.Int.{to_z-of_z}
 use Rattle.std.proofs.lemmas.Option.{slice_get_within}
 use Rattle.sgb_graph.specs.Graphs.{GraphData}
@@ -10,9 +10,7 @@ use Rattle.sgb_gen.proofs.accepted.boards.Board.add_moves.Goals as goal
 
 -- an event by the values that its flag and its length are
 event_as : (d directed : Bool) (old new : GraphData) (u v : ℕ) (n len : ℤ) → d ≡ directed → n ≡ len → AddsEvents d old new (record { from = u; to = v; len = n } ∷ []) → AddsEvents directed old new (record { from = u; to = v; len = len } ∷ [])
-event_as d directed old new u v n len e far h =
-    subst (λ m. AddsEvents directed old new (record { from = u; to = v; len = m } ∷ [])) far
-    (subst (λ b. AddsEvents b old new (record { from = u; to = v; len = n } ∷ [])) e h)
+event_as d directed old new u v n len e far h = grind arith
 
 pub loop-shorter-init : goal.loop-shorter-init
 loop-shorter-init c = grind (arith, events_from, events_left-all, up_to-none)

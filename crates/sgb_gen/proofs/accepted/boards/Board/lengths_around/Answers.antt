@@ -1,8 +1,8 @@
-use Rattle.std.proofs.Common.{◌≡◌, ◌-◌, ◌+◌, ◌%◌, ℕ, to_z, of_z, w64, eqb, sym, ap, ◌∙◌, rules}
+use Rattle.std.proofs.Common.{◌≡◌, ◌-◌, ◌+◌, ◌%◌, ℕ, to_z, of_z, w64, eqb, ◌∙◌, rules, arith}
 use Rattle.std.proofs.lemmas.Int.{to_z-of_z}
 use Rattle.sgb_vec.proofs.BoxPlaces.{length-box}
 use Rattle.sgb_gen.specs.Moves.{sides_of}
-use Rattle.sgb_gen.specs.inner.BoardCounts.{is_home, comes_home}
+use Rattle.sgb_gen.specs.inner.BoardCounts.{comes_home}
 use Rattle.sgb_gen.proofs.BoardCountsBoards.{rider-home}
 use Rattle.sgb_gen.proofs.Reaches.{longest-rider}
 use Rattle.sgb_gen.proofs.TimesAround.{away-before, home-at}
@@ -10,16 +10,7 @@ use Rattle.sgb_gen.proofs.accepted.boards.Board.lengths_around.Goals as goal
 
 -- the piece is home at the multiples of that length
 at_multiples : (c : goal.After-home) (l : ℕ) → comes_home (sides_of c.args.self.now.sizes c.args.self.now.wrap) c.args.self.now.piece c.args.t.now l ≡ eqb (l % c.home.result) 0
-at_multiples c l =
-    let b = c.args.self.now in
-    let t = c.args.t.now in
-    let inside = c.self.inside in
-    let wrap : to_z w64 (of_z w64 inside.wrap) ≡ b.wrap = to_z-of_z w64 inside.wrap (search rules) ∙ ap (λ d. d.wrap) c.self.view_is in
-    sym (ap (λ d. comes_home (sides_of b.sizes b.wrap) d.piece t l) c.self.view_is)
-    ∙ sym (rider-home (sides_of b.sizes b.wrap) inside.piece t l (search rules) c.if-self-lt0.true)
-    ∙ sym (ap (λ w. is_home (sides_of b.sizes w) t l) wrap)
-    ∙ sym (ap (λ s. is_home (sides_of s (to_z w64 (of_z w64 inside.wrap))) t l) c.sizes.ensures)
-    ∙ c.home.ensures.home l
+at_multiples c l = grind (arith, to_z, w64, of_z, to_z-of_z, rider-home)
 
 pub returns-then-self-lt0-clause-within : goal.returns-then-self-lt0-clause-within
 returns-then-self-lt0-clause-within c = search (rules, longest-rider, length-box)

@@ -30,9 +30,7 @@ length-flag false = refl
 
 -- after the name and the six numbers there are at most 80 bytes
 numbers_short : (new start pushed : List ℕ) (params read : List ℤ) → new ≡ [] → start ≡ new ++ codes "subsets(" → pushed ≡ start ++ numbers_text read → read ≡ params → length params ≡ 6 → AreSmall params → length pushed ≤ 80
-numbers_short new start pushed params read none begun put same six small =
-    let short = length-small_numbers params small in
-    omega (arith, ap length put, ap (λ ns. length (start ++ numbers_text ns)) same, length-append start (numbers_text params), short, six, ap length (begun ∙ ap (λ t. t ++ codes "subsets(") none))
+numbers_short new start pushed params read none begun put same six small = grind (arith, length-small_numbers, length-append, codes)
 
 pub push_hexadecimal-requires : goal.push_hexadecimal-requires
 push_hexadecimal-requires c = omega (arith, numbers_short _ _ _ _ _ c.new-id.ensures c.push_text.ensures c.push_numbers.ensures.bytes c.params.ensures c.self.invariant.1.parameters c.self.invariant.2)

@@ -1,4 +1,4 @@
-use Rattle.std.proofs.Common.{◌≡◌, ◌≤◌, ◌∷◌, length, drop, refl, sym, ap, subst, ◌∙◌, arith, sum}
+use Rattle.std.proofs.Common.{◌≡◌, ◌∷◌, drop, refl, sym, ap, subst, ◌∙◌, arith, sum, rules}
 use Rattle.std.specs.List.{All, Contains}
 use Rattle.std.proofs.lemmas.List.Elements.{All-contains_itself, All-tail}
 use Rattle.sgb_vec.specs.Limits.{most_vertices}
@@ -37,9 +37,7 @@ pub overflow_add-counted : goal.overflow_add-counted
 overflow_add-counted c =
     let s = c.args.self.now in
     let step = first_and_rest c.loop-x.left (drop 1 c.loop-x.left) c.in-Some.x.now c.in-Some.x.now c.in-Some.ensures.first refl refl in
-    let here : c.count_from-counted.result ≡ wanted_among s.size_bits 0 c.in-Some.x.now (down_from s.sum.bounds c.in-Some.x.now) = rw (← c.sizes-bounds.ensures) (rw c.begun-begun.ensures.value at c.count_from-counted.ensures) in
-    let few = subst (λ d. length (bounded_sums d.sum.total d.sum.bounds) ≤ most_vertices) c.self.view_is c.self.invariant.1.vertices in
-    omega (arith, here, c.loop-x.invariant.1, ap (moves_among s.size_bits s.sum.bounds) step, moves-few s few)
+    search (rules, moves-few, wanted_among, down_from, most_vertices, moves_among, s, step)
 
 pub loop-x-preserved : goal.loop-x-preserved
 loop-x-preserved c =

@@ -12,12 +12,7 @@ use Rattle.sgb_gen.proofs.SubsetsCounts.{begun-on}
 use Rattle.sgb_gen.proofs.accepted.subsets.descents.+descent.Goals as goal
 
 pub push_all-returns-then-i-x-clause-ok : goal.push_all-returns-then-i-x-clause-ok
-push_all-returns-then-i-x-clause-ok t c =
-    let s = c.loop-state.state in
-    let x = c.args.x.now in
-    let i = c.loop-state.i in
-    let none = none-left s.size_bits (front_of c.loop-state.tip (drop i x)) s.common s.left i c.args.bounds.now x (omega (arith, c.loop-state-test.true)) (omega (arith, c.if-i-x.true)) (omega (arith, c.if-i-x.true, c.loop-state.invariant.1)) in
-    with_none c.loop-state.links ∙ ap (with_arcs c.loop-state.links) (sym none) ∙ c.loop-state.invariant.5
+push_all-returns-then-i-x-clause-ok t c = grind (arith, none-left, with_none)
 
 pub push_all-loop-state-preserved : goal.push_all-loop-state-preserved
 push_all-loop-state-preserved t c =
@@ -57,17 +52,10 @@ push_all-loop-state-preserved t c =
     )
 
 pub push_all-returns-clause-same : goal.push_all-returns-clause-same
-push_all-returns-clause-same t c =
-    let x = c.args.x.now in
-    let i = c.loop-state.i in
-    let last = rw take_rest at c.push_last.ensures.same in
-    on_ok_weaker c.push_last.result (λ same. front-shorter c.push_last.new.tip c.loop-state.tip x (drop i x) (omega arith) (omega (arith, length-drop i x)) same ∙ c.loop-state.invariant.4) last
+push_all-returns-clause-same t c = grind (arith, take_rest, on_ok_weaker, front-shorter, length-drop)
 
 pub push_row-returns-then-not-may_be_among-clause-ok : goal.push_row-returns-then-not-may_be_among-clause-ok
-push_row-returns-then-not-may_be_among-clause-ok t c =
-    let b = c.args.begun in
-    let none = rw c.placed-further.ensures at c.if-not-may_be_among.ensures in
-    cc (with_none c.args.links.now, entry-unwanted b.size_bits b.room b.shared b.left b.common c.args.bound c.args.own c.args.entry c.requires.entry none (front_of c.args.tip.now (c.args.own ∷ c.args.x.now)) c.args.bounds.now c.args.x.now c.requires.begun)
+push_row-returns-then-not-may_be_among-clause-ok t c = grind (arith, with_none, entry-unwanted)
 
 pub push_row-returns-clause-same : goal.push_row-returns-clause-same
 push_row-returns-clause-same t c =

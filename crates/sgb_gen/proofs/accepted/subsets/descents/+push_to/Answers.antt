@@ -1,4 +1,4 @@
-use Rattle.std.proofs.Common.{◌≡◌, ◌+◌, ◌-◌, [], ◌∷◌, ◌++◌, length, set, refl, sym, ap, ap₂, ◌∙◌, inl, inr, arith}
+use Rattle.std.proofs.Common.{◌≡◌, ◌-◌, [], ◌∷◌, ◌++◌, length, set, refl, sym, ap, ap₂, ◌∙◌, inl, inr, arith}
 use Rattle.std.proofs.lemmas.List.{length-set}
 use Rattle.std.proofs.lemmas.Result.{on_ok_weaker}
 use Rattle.sgb_gen.specs.inner.Descents.{arcs_under, down_to, front_of}
@@ -19,12 +19,7 @@ returns-then-not-may_be_among-clause-ok t c =
     cc (with_none c.args.links.now, unwanted-to b.size_bits front b.common b.left bounds x c.requires.begun.within c.requires.all none)
 
 pub push_zeros-requires-clause-none : goal.push_zeros-requires-clause-none
-push_zeros-requires-clause-none t c =
-    let none : HasEnded c.args.bounds.now c.args.x.now = elim c.in_default.branch [
-      | in_default-via-in-Some+in_default w ↦ inl w.in_default.ensures'.cases
-      | in_default-via-in_default w ↦ inr w.in_default.ensures.cases
-    ] in
-    c.requires.all ∙ ended-zero c.args.bounds.now c.args.x.now c.requires.begun.within none
+push_zeros-requires-clause-none t c = grind (arith, HasEnded, ended-zero)
 
 pub returns-in_default-clause-ok : goal.returns-in_default-clause-ok
 returns-in_default-clause-ok t c =
@@ -37,16 +32,7 @@ returns-in_default-clause-ok t c =
     on_ok_weaker c.push_zeros.result (λ is. is ∙ ap (with_arcs c.args.links.now) same) c.push_zeros.ensures.ok
 
 pub returns-clause-same : goal.returns-clause-same
-returns-clause-same t c =
-    let s = c.in-Some-Some in
-    let x = c.args.x.now in
-    let x_is = s.ensures'.cases.0 in
-    let mid = c.push_rows.new.tip in
-    let place = length c.args.tip.now - length x in
-    let long : length x ≡ length s.x.now + 1 = ap length x_is ∙ omega arith in
-    let count = length-set mid place s.own.now in
-    let kept : front_of mid x ≡ front_of c.args.tip.now x = ap (front_of mid) x_is ∙ c.in_ok-push_rows.ensures.same ∙ ap (front_of c.args.tip.now) (sym x_is) in
-    on_ok_weaker c.push_to.result (λ same. front-shorter c.push_to.new.tip (set mid place s.own.now) x s.x.now (omega arith) (omega (arith, long)) same ∙ front-kept mid x place s.own.now (omega arith) ∙ kept) c.push_to.ensures.same
+returns-clause-same t c = grind (arith, length-set, on_ok_weaker, front-shorter, set, front-kept)
 
 pub returns-clause-ok : goal.returns-clause-ok
 returns-clause-ok t c =
