@@ -1,5 +1,5 @@
 -- Events of which no two have the same ends, and a table of bits that tells so.
-use Rattle.std.proofs.Common.{◌≡◌, ◌≢◌, ◌<◌, ◌*◌, ◌/◌, ◌%◌, ◌^◌, ℕ, suc, Bool, true, false, List, [], ◌∷◌, ◌++◌, length, get_or, set, bit_or, w64, refl, sym, ap, ◌∙◌, inl, inr, arith, length-set, get_or-set_same, get_or-set_other}
+use Rattle.std.proofs.Common.{◌≡◌, ◌≢◌, ◌<◌, ◌*◌, ◌/◌, ◌%◌, ◌^◌, ℕ, suc, Bool, List, [], ◌∷◌, ◌++◌, length, get_or, set, bit_or, w64, refl, sym, ap, ◌∙◌, inl, inr, arith, length-set, get_or-set_same, get_or-set_other}
 use Rattle.std.specs.Prelude.{All, AllPairs}
 use Rattle.std.specs.Int.{bit_at}
 use Rattle.std.proofs.lemmas.Bool.{cases_eq}
@@ -9,7 +9,7 @@ use Rattle.std.proofs.lemmas.Nat.Bits.{bit_at_set_same, bit_at_set_other}
 use Rattle.sgb_vec.proofs.Lists.{filter-none}
 use Rattle.sgb_graph.specs.Events.{Event}
 use Rattle.sgb_ops.specs.inner.Ends.{bit_place}
-use Rattle.sgb_ops.specs.Merged.{has_ends_of, merged, merged_unless}
+use Rattle.sgb_ops.specs.Merged.{merged, merged_unless}
 use Rattle.sgb_ops.specs.inner.Merged.{HaveDifferentEnds}
 use Rattle.sgb_ops.proofs.Merging.{apart}
 use Rattle.sgb_ops.proofs.MergedParts.{all_stay}
@@ -20,12 +20,10 @@ unfolding merged
 merged_same directed [] pairs = refl
 merged_same directed (e ∷ events) pairs =
     let from_e : All (apart directed e) events = λ k d h. pairs 0 (suc k) d (omega arith) (omega (arith, h)) in
-    let rest = merged_same directed events (λ i j d h k. pairs (suc i) (suc j) d (omega (arith, h)) (omega (arith, k))) in
-    rw (filter-none (has_ends_of directed e) events from_e, rest, all_stay directed e events from_e) refl
+    simp (filter-none, all_stay, from_e, merged_same directed events (λ i j d h k. pairs (suc i) (suc j) d (omega (arith, h)) (omega (arith, k))))
 
 pub merged_unless_same : (multi directed : Bool) (events : List Event) → HaveDifferentEnds events → merged_unless multi directed events ≡ events
-merged_unless_same true directed events different = refl
-merged_unless_same false directed events different = merged_same directed events (different directed)
+merged_unless_same multi directed events different = grind (arith, merged_same)
 
 -- the bit at a place of a table, and the table with that bit
 abbrev bit_of : List ℕ → ℕ → ℕ
@@ -48,10 +46,8 @@ module _ (seen : List ℕ) (p : ℕ) (within : p / 64 < length seen) where
   -- each other bit stays
   other_stays : (q : ℕ) → q ≢ p → bit_of (with_bit seen p) q ≡ bit_of seen q
   other_stays q other = elim (cases_eq (q / 64) (p / 64)) [
-    | inl same ↦
-        rw (same, get_or-set_same seen (p / 64) (bit_or (get_or seen (p / 64) 0) (1 * 2 ^ (p % 64) % 2 ^ 64)) 0 within)
-        (bit_at_set_other w64 (get_or seen (p / 64) 0) (p % 64) (omega arith) (q % 64) (λ low. other (omega (arith, same, low))))
-    | inr differs ↦ ap (λ n. bit_at n (q % 64)) (get_or-set_other seen (p / 64) (q / 64) _ 0 differs)
+    | inl same ↦ rw (same, get_or-set_same seen (p / 64) _ 0 within) (bit_at_set_other w64 (get_or seen (p / 64) 0) (p % 64) (omega arith) (q % 64) (λ low. other (omega (arith, same, low))))
+    | inr differs ↦ rw (get_or-set_other seen (p / 64) (q / 64) _ 0 differs) refl
   ]
 
   -- so those that were set stay so

@@ -1,5 +1,5 @@
 -- An induced graph under way, and finished: it is the one that is described.
-use Rattle.std.proofs.Common.{arith, ◌≡◌, ◌∙◌, ◌++◌, Bool, true, false, List, Result, Ok, Err, length, refl, sym, ap, subst}
+use Rattle.std.proofs.Common.{arith, ◌≡◌, ◌∙◌, Bool, true, false, List, Result, Ok, length, refl, sym, ap, subst}
 use Rattle.std.specs.Prelude.{All, IfOk, IsOkUnless}
 use Rattle.std.specs.List.{list_any}
 use Rattle.std.proofs.lemmas.List.{length-map}
@@ -33,12 +33,10 @@ module _ (g : GraphData) (entries : List Entry) (self multi directed : Bool) whe
   named_size count = grind (arith, length-map, length-names)
 
   inside_size : (in_parts : Bool) (kept : List Event) (built : GraphData) → length entries ≡ order_of g → HasInside g entries self multi directed in_parts kept built → length built.vertices ≡ total_of entries
-  inside_size true kept built count inside = inside.1.rest.size ∙ named_size count
-  inside_size false kept built count inside = ap (λ k. length k.vertices) inside.1 ∙ named_size count
+  inside_size in_parts kept built count inside = grind (arith, named_size)
 
   inside_own : (in_parts : Bool) (kept : List Event) (built : GraphData) → HasInside g entries self multi directed in_parts kept built → in_parts ≡ true → merged_count entries ≡ 0
-  inside_own true kept built inside is = inside.0.own
-  inside_own false kept built inside is = absurd cc
+  inside_own in_parts kept built inside is = grind (arith)
 
   inside_within : (in_parts : Bool) (kept : List Event) (built : GraphData) → list_any is_unnumbered entries ≡ false → All IsKeptEntry entries → HasInside g entries self multi directed in_parts kept built
       → in_parts ≡ false → AllWithin (total_of entries) kept
@@ -56,11 +54,7 @@ module _ (g : GraphData) (entries : List Entry) (self multi directed : Bool) whe
       let between = merged_unless multi directed (wanted self (events_between g entries directed)) in
       subst (AddsEvents directed (named_graph g entries) grown) (both_left g entries directed numbered inside.0.own sound inside.0.loops self multi)
       (adds-then directed (named_graph g entries) built grown within between inside.1 added)
-  inside_all false kept built grown numbered sound inside added =
-      let between = wanted self (events_between g entries directed) in
-      let all = ap (λ (es : List Event). es ++ between) inside.0 ∙ sym (filter-append (is_wanted self) (events_within entries directed) (events_between g entries directed)) in
-      subst (λ h. AddsEvents directed h grown (induced_events g entries self multi directed)) inside.1
-      (subst (AddsEvents directed built grown) (ap (merged_unless multi directed) all) added)
+  inside_all false kept built grown numbered sound inside added = grind (arith, filter-append)
 
   module _ (copies : List Entry) (in_parts : Bool) (kept : List Event) (built : GraphData) (numbered : list_any is_unnumbered entries ≡ false) (begun : IsBegun g entries self multi directed copies in_parts kept built) where
     pub begun_numbered : list_any is_unnumbered copies ≡ false
@@ -93,5 +87,4 @@ module _ (g : GraphData) (entries : List Entry) (self multi directed : Bool) whe
 
     pub finished_answer : (result : Result GraphData Panic) → All IsKeptEntry entries → accepted_entries (order_of g) entries ≡ Ok entries → IfOk result (IsFinished g self multi directed copies in_parts kept built) → IsOkUnless result NoRoom
         → IsAnswerOf (induced_of g entries self multi directed) result
-    finished_answer (Ok done) sound accepted finished memory = rw accepted (finished_graph done sound finished)
-    finished_answer (Err e) sound accepted finished memory = rw accepted memory
+    finished_answer result sound accepted finished memory = grind (arith, finished_graph)

@@ -1,8 +1,8 @@
 -- The events of an intersection, as they are found one by one.
-use Rattle.std.proofs.Common.{rules, ◌≡◌, ◌<◌, ◌+◌, ◌-◌, ◌==◌, ℕ, min, ℤ, Bool, true, false, not, List, [], ◌∷◌, ◌++◌, map, take, length, Option, Some, None, refl, sym, ap, subst, ◌∙◌, append_assoc, arith}
+use Rattle.std.proofs.Common.{rules, ◌≡◌, ◌<◌, ◌+◌, ◌-◌, ◌==◌, ℕ, min, ℤ, Bool, true, false, List, [], ◌∷◌, ◌++◌, map, take, length, Option, Some, None, refl, sym, ◌∙◌, append_assoc, arith}
 use Rattle.std.specs.Prelude.{All, flat_map, nat_lt, if◌then◌else◌}
 use Rattle.std.specs.List.{enumerate_from}
-use Rattle.std.proofs.lemmas.Bool.{cases_Bool, cond_both, ne_eqb, ltb-true}
+use Rattle.std.proofs.lemmas.Bool.{cases_Bool, cond_both, ltb-true}
 use Rattle.std.proofs.lemmas.Bool.Decides.{nat_tests}
 use Rattle.std.proofs.lemmas.List.{length-append, take_at}
 use Rattle.std.proofs.lemmas.List.Elements.{All-nil, All-cons, All-append}
@@ -54,26 +54,14 @@ events_after g h multi directed v = flat_map (commons_of g h multi directed) (pl
 pub commons_at_places : (multi : Bool) (v : ℕ) (gs hs before links : List Link) (k : ℕ) → hs ≡ before ++ links → k ≡ length before
     → flat_map (λ p. common_event multi v gs hs (take p.0 hs) p.1) (enumerate_from k links) ≡ commons_after multi v gs hs before links
 commons_at_places multi v gs hs before [] k is place = refl
-commons_at_places multi v gs hs before (l ∷ links) k is place =
-    let next = commons_at_places multi v gs hs (before ++ l ∷ []) links (k + 1) (is ∙ sym (append_assoc before (l ∷ []) links)) (omega (arith, length-append before (l ∷ []))) in
-    let earlier : take k hs ≡ before = ap (take k) is ∙ take_at before (l ∷ links) k (sym place) in
-    ap (λ xs. common_event multi v gs hs xs l ++ flat_map (λ p. common_event multi v gs hs (take p.0 hs) p.1) (enumerate_from (k + 1) links)) earlier
-    ∙ ap (λ es. common_event multi v gs hs before l ++ es) next
-
--- at first all arcs are left
-none_met : (multi : Bool) (o : Option Tally) → o ≡ tally_left multi 0 o
-none_met multi None = refl
-none_met true (Some t) = let same : t.count - 0 ≡ t.count = omega arith in ap (λ (k : ℕ). Some (record { count = k; least = t.least })) (sym same)
-none_met false (Some t) = refl
+commons_at_places multi v gs hs before (l ∷ links) k is place = grind (arith, append_assoc, length-append, take_at, commons_at_places multi v gs hs (before ++ l ∷ []) links (k + 1) (is ∙ sym (append_assoc before (l ∷ []) links)) (omega (arith, length-append before (l ∷ []))))
 
 pub left_at_first : (multi : Bool) (u : ℕ) (gs : List Link) → tally_to u gs ≡ left_after multi u gs []
-left_at_first multi u gs = none_met multi (tally_to u gs)
+left_at_first multi u gs = grind (arith, nat_tests)
 
 -- one more is met
 one_met : (multi : Bool) (met : ℕ) (o : Option Tally) → tally_left multi (met + 1) o ≡ without_one multi (tally_left multi met o)
-one_met multi met None = refl
-one_met true met (Some t) = let less : t.count - (met + 1) ≡ t.count - met - 1 = omega arith in ap (λ (k : ℕ). Some (record { count = k; least = t.least })) less
-one_met false met (Some t) = rw (ne_eqb (met + 1) 0 (λ e. absurd (omega (arith, e)))) refl
+one_met multi met o = grind (arith, nat_tests)
 
 pub left_more : (multi : Bool) (u : ℕ) (gs before : List Link) (l : Link)
     → (if l.tip == u then without_one multi (left_after multi u gs before) else left_after multi u gs before) ≡ left_after multi u gs (before ++ l ∷ [])
@@ -85,56 +73,30 @@ most_common true a b = min a b
 most_common false a b = min 1 (min a b)
 
 common_counts : (multi : Bool) (u : ℕ) (gs hs : List Link) → common_count multi u gs hs ≡ most_common multi (count_to u gs) (count_to u hs)
-common_counts true u gs hs = refl
-common_counts false u gs hs = refl
-
--- one is wanted where some are left
-wanted_left : (multi : Bool) (a b met : ℕ) → met < b → nat_lt met (most_common multi a b) ≡ not (count_left multi a met == 0)
-wanted_left true a b met within = grind (arith, nat_tests)
-wanted_left false a b met within = grind (arith, nat_tests)
+common_counts multi u gs hs = grind (arith, nat_tests)
 
 -- the length that counts in the second graph, where some of its arcs lead there
 second_least : (links : List Link) (far : ℤ) → 0 < length links → second_length false far (tally_of links) ≡ least_of (map (λ x. x.len) links)
-second_least [] far some = absurd (omega (arith, some))
-second_least (l ∷ links) far some = refl
+second_least links far some = grind (arith, nat_tests)
 
 lengths_agree : (multi : Bool) (gs hs : List Link) (l : Link) → 0 < count_to l.tip hs
     → common_length multi gs hs l ≡ int_max (least_to l.tip gs) (second_length multi l.len (tally_to l.tip hs))
-lengths_agree true gs hs l some = refl
-lengths_agree false gs hs l some =
-    ap (int_max (least_to l.tip gs)) (sym (second_least (arcs_to l.tip hs) l.len (omega (arith, some, length-filter (λ (x : Link). x.tip == l.tip) hs))))
-
--- nothing is left of none
-nothing_left : (multi : Bool) (met : ℕ) → count_left multi 0 met ≡ 0
-nothing_left true met = omega arith
-nothing_left false met = grind (arith, nat_tests)
-
-either_way : (b : Bool) (e : Event) → (if b then [] else e ∷ []) ≡ (if not b then e ∷ [] else [])
-either_way true e = refl
-either_way false e = refl
+lengths_agree multi gs hs l some = grind (arith, second_least, length-filter)
 
 -- the event where so many arcs of the graphs lead to u, and so many were met
 event_counted : (multi : Bool) (v u b met : ℕ) (far all : ℤ) (arcs : List Link) → met < b
     → (0 < length arcs → all ≡ int_max (least_of (map (λ l. l.len) arcs)) far)
     → event_left v u far (tally_left multi met (tally_of arcs)) ≡ (if nat_lt met (most_common multi (length arcs) b) then record { from = v; to = u; len = all } ∷ [] else [])
-event_counted multi v u b met far all [] within long =
-    let none : nat_lt met (most_common multi 0 b) ≡ false = wanted_left multi 0 b met within ∙ rw (nothing_left multi met) refl in
-    rw none refl
-event_counted multi v u b met far all (x ∷ arcs) within long =
-    let some = wanted_left multi (length (x ∷ arcs)) b met within in
-    let length_is = long (omega arith) in
-    rw (some, length_is) (either_way (count_left multi (length (x ∷ arcs)) met == 0) (record { from = v; to = u; len = int_max (least_of (map (λ l. l.len) (x ∷ arcs))) far }))
+event_counted multi v u b met far all arcs within long = grind (arith, nat_tests)
 
 -- the event for an arc that stands after others
 pub event_there : (multi : Bool) (v : ℕ) (gs hs before links : List Link) (l : Link) → hs ≡ before ++ l ∷ links
     → event_left v l.tip (second_length multi l.len (tally_to l.tip hs)) (left_after multi l.tip gs before) ≡ common_event multi v gs hs before l
 event_there multi v gs hs before links l is =
-    let u = l.tip in
-    let within : count_to u before < count_to u hs = subst (λ xs. count_to u before < count_to u xs) (sym is) (count_at u before links l refl) in
-    let many : length (arcs_to u gs) ≡ count_to u gs = length-filter (λ (x : Link). x.tip == u) gs in
-    let counts : most_common multi (length (arcs_to u gs)) (count_to u hs) ≡ common_count multi u gs hs = ap (λ a. most_common multi a (count_to u hs)) many ∙ sym (common_counts multi u gs hs) in
-    event_counted multi v u (count_to u hs) (count_to u before) (second_length multi l.len (tally_to u hs)) (common_length multi gs hs l) (arcs_to u gs) within (λ some. lengths_agree multi gs hs l (omega (arith, within)))
-    ∙ ap (λ k. if nat_lt (count_to u before) k then record { from = v; to = u; len = common_length multi gs hs l } ∷ [] else []) counts
+    let within : count_to l.tip before < count_to l.tip hs = rw is (count_at l.tip before links l refl) in
+    let many = length-filter (λ (x : Link). x.tip == l.tip) gs in
+    let whole = event_counted multi v l.tip (count_to l.tip hs) (count_to l.tip before) (second_length multi l.len (tally_to l.tip hs)) (common_length multi gs hs l) (arcs_to l.tip gs) within (λ some. lengths_agree multi gs hs l (omega (arith, within))) in
+    grind (arith, common_counts, many, whole)
 
 -- the ends of the events of v are below n
 pub commons_within : (n : ℕ) (multi : Bool) (v : ℕ) (gs hs before links : List Link) → v < n → All (TipBelow n) gs → AllWithin n (commons_after multi v gs hs before links)
@@ -142,18 +104,13 @@ commons_within n multi v gs hs before [] below all = All-nil (HasEndsBelow n)
 commons_within n multi v gs hs before (l ∷ links) below all =
     All-append (HasEndsBelow n) (common_event multi v gs hs before l) (commons_after multi v gs hs (before ++ l ∷ []) links)
     (cond_both (nat_lt (count_to l.tip before) (common_count multi l.tip gs hs)) (record { from = v; to = l.tip; len = common_length multi gs hs l } ∷ []) [] (AllWithin n)
-    (λ wanted. All-cons (HasEndsBelow n) _ [] (below, tip_counted n l.tip gs all (some multi (ltb-true _ _ wanted))) (All-nil (HasEndsBelow n)))
+    (λ wanted. All-cons (HasEndsBelow n) _ [] (below, tip_counted n l.tip gs all (grind (arith, common_counts, ltb-true))) (All-nil (HasEndsBelow n)))
     (λ _. All-nil (HasEndsBelow n)))
     (commons_within n multi v gs hs (before ++ l ∷ []) links below all)
-  where
-    some : (m : Bool) → count_to l.tip before < common_count m l.tip gs hs → 0 < count_to l.tip gs
-    some true wanted = omega (arith, wanted)
-    some false wanted = omega (arith, wanted)
 
 -- and so are those of all vertices
 pub intersection_within : (g h : GraphData) (multi directed : Bool) → IsKept g → AllWithin (order_of g) (intersection_events g h multi directed)
 intersection_within g h multi directed kept =
     events_after_within (order_of g) (commons_of g h multi directed) 0 (min (order_of g) (order_of h))
-    (λ v low high.
-    subst (AllWithin (order_of g)) (sym (commons_at_places multi v (taken directed g v) (taken directed h v) [] (taken directed h v) 0 refl refl))
+    (λ v low high. rw (commons_at_places multi v (taken directed g v) (taken directed h v) [] (taken directed h v) 0 refl refl)
     (commons_within (order_of g) multi v (taken directed g v) (taken directed h v) [] (taken directed h v) (omega (arith, high)) (taken_tips directed g v kept (omega (arith, high)))))

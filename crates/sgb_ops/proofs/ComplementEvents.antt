@@ -1,5 +1,5 @@
 -- The wanted arcs of a complement, as they are met one by one.
-use Rattle.std.proofs.Common.{◌≡◌, ℕ, pos, Bool, true, false, cond, List, [], ◌∷◌, ◌++◌, map, filter, refl}
+use Rattle.std.proofs.Common.{◌≡◌, ℕ, pos, Bool, cond, List, [], ◌∷◌, ◌++◌, map, filter, arith}
 use Rattle.sgb_graph.specs.Graphs.{GraphData}
 use Rattle.sgb_graph.specs.Events.{Event}
 use Rattle.sgb_ops.specs.inner.Complement.{is_wanted_arc}
@@ -15,10 +15,4 @@ event_to wanted u w = cond wanted (record { from = u; to = w; len = pos 1 } ∷ 
 -- it comes first
 pub first_wanted : (g : GraphData) (copy self directed : Bool) (u w : ℕ) (ws : List ℕ)
     → wanted_to g copy self directed u (w ∷ ws) ≡ event_to (is_wanted_arc g copy self directed u w) u w ++ wanted_to g copy self directed u ws
-first_wanted g copy self directed u w ws =
-    let rest = filter (is_wanted_arc g copy self directed u) ws in
-    let arcs : List ℕ → List Event = map (λ v. record { from = u; to = v; len = pos 1 }) in
-    elim (is_wanted_arc g copy self directed u w) as (λ b. arcs (cond b (w ∷ rest) rest) ≡ event_to b u w ++ arcs rest) [
-      | true ↦ refl
-      | false ↦ refl
-    ]
+first_wanted g copy self directed u w ws = grind (arith, filter, cond, event_to)

@@ -1,5 +1,5 @@
 -- The copies of the vertices, one vertex after another.
-use Rattle.std.proofs.Common.{◌≡◌, ◌<◌, ◌≤◌, ◌+◌, ◌-◌, ℕ, zero, suc, List, [], ◌∷◌, ◌++◌, length, get_or, take, false, refl, sym, ap, ◌∙◌, inl, inr, append-nil, arith}
+use Rattle.std.proofs.Common.{◌≡◌, ◌<◌, ◌≤◌, ◌+◌, ◌-◌, ℕ, zero, suc, List, [], ◌∷◌, ◌++◌, length, take, false, refl, sym, ap, ◌∙◌, inl, inr, append-nil, arith}
 use Rattle.std.specs.Prelude.{◌⊎◌, Contains, Option, Some, None, filter, flat_map, nat_le, slice_get}
 use Rattle.std.specs.List.{list_any, range_with_len}
 use Rattle.std.specs.Option.{option_map_or}
@@ -13,32 +13,20 @@ use Rattle.sgb_ops.specs.declared.entries.Entry.{Entry}
 use Rattle.sgb_ops.specs.Copies.{CopiesAreAll, CopiesAreApart, own_copies}
 use Rattle.sgb_ops.specs.Entries.{copies_by, copies_of, first_copy, is_unnumbered, merged_count, merged_number, size_of_entry}
 use Rattle.sgb_ops.specs.inner.Entries.{own_total}
-use Rattle.sgb_graph.specs.Vertices.{order_of}
 use Rattle.sgb_ops.specs.declared.entries.Entry.TheVariants as entry
 use Rattle.sgb_ops.proofs.EntryTotals.{next_first, number_below, numbered_one}
-
--- a number of a range
-in_range : (start n u : ℕ) → Contains (range_with_len start n) u → (start ≤ u) × (u < start + n)
-in_range start n u inside = All-contains (λ k. (start ≤ k) × (k < start + n)) (range_with_len start n) u (range-within start n) inside
 
 -- how many copies a vertex has alone
 abbrev size_at : List Entry → ℕ → ℕ
 size_at entries v = option_map_or size_of_entry (slice_get entries v) 0
 
--- none of these numbers is below k
-kept_from : (k a n : ℕ) → k ≤ a → filter (nat_le k) (range_with_len a n) ≡ range_with_len a n
-kept_from k a n low = filter-all (nat_le k) (range_with_len a n) (λ i d h. le-leb k (get_or (range_with_len a n) i d) (omega (arith, low, (range-within a n i d h).0)))
-
 -- of the copies by an entry those are kept that stand for its vertex alone
 own_by : (k start : ℕ) (e : Entry) → k ≤ start → merged_number e ≤ k → is_unnumbered e ≡ false → filter (nat_le k) (copies_by start e) ≡ range_with_len start (size_of_entry e)
-own_by k start (entry.Copies n) low few numbered = kept_from k start n low
-own_by k start (entry.Graph inner) low few numbered = kept_from k start (order_of inner) low
-own_by k start (entry.Merged n) low few numbered = rw (lt-leb k (n - 1) (grind (arith, nat_tests))) refl
+own_by k start e low few numbered = grind (arith, lt-leb, nat_tests, filter-all, le-leb, range-within)
 
 own_at : (entries : List Entry) (v : ℕ) (o : Option Entry) → slice_get entries v ≡ o → list_any is_unnumbered entries ≡ false
     → filter (nat_le (merged_count entries)) (option_map_or (copies_by (first_copy entries v)) o []) ≡ range_with_len (first_copy entries v) (option_map_or size_of_entry o 0)
-own_at entries v None here numbered = refl
-own_at entries v (Some e) here numbered = own_by (merged_count entries) (first_copy entries v) e (omega arith) (number_below entries v e here) (numbered_one entries v e numbered here)
+own_at entries v o here numbered = grind (arith, own_by, number_below, numbered_one)
 
 own_range : (entries : List Entry) (v : ℕ) → list_any is_unnumbered entries ≡ false → own_copies entries v ≡ range_with_len (first_copy entries v) (size_at entries v)
 own_range entries v numbered = own_at entries v (slice_get entries v) refl numbered
@@ -65,12 +53,7 @@ copies_are_all entries numbered =
 
 -- a copy by an entry stands for its vertex alone, between the first one and that of the next vertex; or it is its merged one
 by_entry : (start u : ℕ) (e : Entry) → is_unnumbered e ≡ false → Contains (copies_by start e) u → ((start ≤ u) × (u < start + size_of_entry e)) ⊎ (e ≡ entry.Merged (u + 1))
-by_entry start u (entry.Copies n) numbered (k, below, here) = inl (in_range start n u (k, below, here))
-by_entry start u (entry.Graph inner) numbered (k, below, here) = inl (in_range start (order_of inner) u (k, below, here))
-by_entry start u (entry.Merged n) numbered (zero, below, here) =
-    let number : n ≡ u + 1 = let same : n - 1 ≡ u = here in grind (arith, nat_tests) in
-    inr (ap entry.Merged number)
-by_entry start u (entry.Merged n) numbered (suc k, below, here) = absurd (omega (arith, below))
+by_entry start u e numbered h = grind (arith, All-contains, range-within, nat_tests)
 
 -- the same for the copies of a vertex
 pub copy_between : (entries : List Entry) (v u : ℕ) → list_any is_unnumbered entries ≡ false → Contains (copies_of entries v) u
@@ -81,17 +64,13 @@ copy_between entries v u numbered copy = by_option (slice_get entries v) refl co
         → ((first_copy entries v ≤ u) × (u < first_copy entries (suc v))) ⊎ (slice_get entries v ≡ Some (entry.Merged (u + 1)))
     by_option None here (k, below, at) = absurd (omega (arith, below))
     by_option (Some e) here inside = elim (by_entry (first_copy entries v) u e (numbered_one entries v e numbered here) inside) [
-      | inl between ↦
-          let size : size_at entries v ≡ size_of_entry e = ap (λ o. option_map_or size_of_entry o 0) here in
-          inl (between.0, omega (arith, between.1, size, next_first entries v))
+      | inl between ↦ grind (arith, size_at, next_first)
       | inr merged ↦ inr (here ∙ ap (λ (x : Entry). Some x) merged)
     ]
 
 -- first copies rise
 firsts_rise : (entries : List Entry) (v d : ℕ) → first_copy entries v ≤ first_copy entries (d + v)
-firsts_rise entries v zero =
-    let same : zero + v ≡ v = omega arith in
-    omega (arith, ap (first_copy entries) same)
+firsts_rise entries v zero = grind (arith)
 firsts_rise entries v (suc d) =
     let next : suc d + v ≡ suc (d + v) = omega arith in
     omega (arith, firsts_rise entries v d, next_first entries (d + v), ap (first_copy entries) next)
@@ -106,20 +85,4 @@ merged_first : (entries : List Entry) (v w u : ℕ) → slice_get entries v ≡ 
 merged_first entries v w u merged = omega (arith, number_below entries v (entry.Merged (u + 1)) merged)
 
 pub copies_are_apart : CopiesAreApart
-copies_are_apart entries u v w numbered first second =
-    elim (copy_between entries v u numbered first) [
-      | inl a ↦ elim (copy_between entries w u numbered second) [
-        | inl b ↦ inl (elim (cases_lt v w) [
-          | inl less ↦ absurd (omega (arith, a.1, b.0, firsts_order entries v w less))
-          | inr up ↦ elim (cases_lt w v) [
-            | inl less ↦ absurd (omega (arith, a.0, b.1, firsts_order entries w v less))
-            | inr down ↦ omega (arith, up, down)
-          ]
-        ])
-        | inr b ↦ absurd (omega (arith, a.0, merged_first entries w v u b))
-      ]
-      | inr a ↦ elim (copy_between entries w u numbered second) [
-        | inl b ↦ absurd (omega (arith, b.0, merged_first entries v w u a))
-        | inr b ↦ inr (a, b)
-      ]
-    ]
+copies_are_apart entries u v w numbered first second = grind (arith, copy_between entries v u numbered first, copy_between entries w u numbered second, cases_lt, firsts_order, merged_first)

@@ -1,8 +1,8 @@
 -- The vertices that entries make: the names of all, and the events between them.
-use Rattle.std.proofs.Common.{rules, ◌≡◌, ◌<◌, ◌≤◌, ◌+◌, ℕ, zero, suc, Bool, false, List, [], ◌∷◌, length, get_or, refl, ◌∙◌, arith}
+use Rattle.std.proofs.Common.{rules, ◌≡◌, ◌<◌, ◌≤◌, ◌+◌, ℕ, Bool, false, List, [], ◌∷◌, length, get_or, refl, arith}
 use Rattle.std.specs.Prelude.{All}
 use Rattle.std.specs.List.{list_any, range_with_len, enumerate_from}
-use Rattle.std.proofs.lemmas.List.{length-append, length-map}
+use Rattle.std.proofs.lemmas.List.{length-append, length-map, get_or_default}
 use Rattle.std.proofs.lemmas.List.Elements.{All-nil, All-map, All-filter, All-weaker}
 use Rattle.std.proofs.lemmas.List.FromFn.{length-range_with_len, length-enumerate_from, get_or-enumerate_from}
 use Rattle.std.proofs.lemmas.List.Sums.{sum_by-cons, sum_by-take-le}
@@ -16,31 +16,21 @@ use Rattle.sgb_ops.specs.inner.Copies.{IsKeptEntry}
 use Rattle.sgb_ops.specs.inner.Ends.{AllWithin}
 use Rattle.sgb_ops.specs.Entries.{copies_of, events_within, first_copy, inner_events, is_unnumbered, names_by_entries, names_of_copies, size_of_entry}
 use Rattle.sgb_ops.specs.Induced.{events_between}
-use Rattle.sgb_graph.specs.Vertices.{order_of, places_of, names_of}
+use Rattle.sgb_graph.specs.Vertices.{order_of, places_of}
 use Rattle.sgb_ops.specs.Taken.{taken}
 use Rattle.sgb_ops.specs.inner.Entries.{inner_event, inner_events_from, own_names, own_total, total_of}
 use Rattle.sgb_ops.specs.inner.Induced.{events_of_arc, events_of_copies, events_of_copy}
-use Rattle.sgb_ops.specs.inner.Titles.{numbered_name, substituted_name}
-use Rattle.sgb_ops.proofs.EntryTotals.{copies_within, copies-range, total_at}
+use Rattle.sgb_ops.proofs.EntryTotals.{copies_within, copies-range, total_more}
 use Rattle.sgb_ops.proofs.EventsWithin.{taken_tips, events_after_within}
 
 -- as many names as vertices
 length-names_of_copies : (text : List ℕ) (e : Entry) → length (names_of_copies text e) ≡ size_of_entry e
-length-names_of_copies text (entry.Copies zero) = refl
-length-names_of_copies text (entry.Copies (suc zero)) = refl
-length-names_of_copies text (entry.Copies (suc (suc zero))) = refl
-length-names_of_copies text (entry.Copies (suc (suc (suc k)))) =
-    length-map (range_with_len 0 (suc (suc (suc k)))) (numbered_name text) ∙ length-range_with_len 0 (suc (suc (suc k)))
-length-names_of_copies text (entry.Graph inner) = length-map (names_of inner) (substituted_name text) ∙ length-map inner.vertices (λ x. x.name)
-length-names_of_copies text (entry.Merged k) = refl
+length-names_of_copies text e = grind (arith, length-map, length-range_with_len)
 
 length-own : (names : List (List ℕ)) (entries : List Entry) → length entries ≡ length names → length (own_names names entries) ≡ own_total entries
 length-own [] [] same = refl
-length-own [] (e ∷ entries) same = absurd (omega (arith, same))
-length-own (name ∷ names) [] same = absurd (omega (arith, same))
-length-own (name ∷ names) (e ∷ entries) same =
-    length-append (names_of_copies name e) (own_names names entries)
-    ∙ (omega (arith, length-names_of_copies name e, length-own names entries (omega (arith, same)), sum_by-cons size_of_entry e entries))
+length-own (name ∷ names) (e ∷ entries) same = simp (length-append, length-names_of_copies, sum_by-cons, length-own names entries (omega (arith, same)))
+length-own _ _ same = absurd (omega (arith, same))
 
 pub length-names : (names : List (List ℕ)) (entries : List Entry) → length entries ≡ length names → length (names_by_entries names entries) ≡ total_of entries
 length-names names entries same = search (rules, length-map, length-range_with_len, length-append, length-own)
@@ -73,21 +63,20 @@ module _ (entries : List Entry) (directed : Bool) (numbered : list_any is_unnumb
 
   -- those inside an entry are between its vertices
   inner_within : (start : ℕ) (e : Entry) → start + size_of_entry e ≤ total_of entries → IsKeptEntry e → AllWithin (total_of entries) (inner_events directed start e)
-  inner_within start (entry.Copies k) few kept = All-nil (HasEndsBelow (total_of entries))
-  inner_within start (entry.Merged k) few kept = All-nil (HasEndsBelow (total_of entries))
   inner_within start (entry.Graph inner) few kept =
       events_after_within (total_of entries) (inner_events_from directed start inner) 0 (order_of inner)
       (λ w low high.
       let below : w < order_of inner = omega (arith, high) in
       All-map (HasEndsBelow (total_of entries)) (inner_event start w) (taken directed inner w)
       (λ k d h. let tip = taken_tips directed inner w kept below k d h in (omega (arith, few, below), omega (arith, few, tip))))
+  inner_within start _ few kept = All-nil (HasEndsBelow (total_of entries))
 
   -- an entry with its place
   abbrev Fits : ℕ × Entry → Type 0
   Fits p = (first_copy entries p.0 + size_of_entry p.1 ≤ total_of entries) × IsKeptEntry p.1
 
   all_fit : All IsKeptEntry entries → All Fits (enumerate_from 0 entries)
-  all_fit kept = search (rules, length-enumerate_from, total_at, get_or-enumerate_from, sum_by-take-le)
+  all_fit kept = search (rules, length-enumerate_from, total_more, get_or-enumerate_from, sum_by-take-le, get_or_default)
 
   pub events_inside : All IsKeptEntry entries → AllWithin (total_of entries) (events_within entries directed)
   events_inside kept =

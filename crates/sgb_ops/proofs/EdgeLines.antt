@@ -32,24 +32,11 @@ use Rattle.sgb_ops.proofs.Taking.{taken_of_edges}
 abbrev edges_below : ℕ → List Event → List Event
 edges_below k events = filter (λ e. nat_lt (min e.from e.to) k) events
 
--- an edge has one smaller end: it is k, or below k, or neither
-one_end : (at below next : Bool) (x : ℕ × Event) (e : Event) (here : List (ℕ × Event)) (low high : List Event)
-    → (if at then 1 else 0) + (if below then 1 else 0) ≡ (if next then 1 else 0) → length here + length low ≡ length high
-    → length (cond at (x ∷ here) here) + length (cond below (e ∷ low) low) ≡ length (cond next (e ∷ high) high)
-one_end at below next x e here low high p q = grind (arith, p, q)
-
--- the same of a number
-one_number : (a k : ℕ) → (if a == k then 1 else 0) + (if nat_lt a k then 1 else 0) ≡ (if nat_lt a (k + 1) then 1 else 0)
-one_number a k = grind (arith, nat_tests)
-
 -- those with the smaller end k and those below it are those below k + 1
 edges_more : (k i : ℕ) (events : List Event)
     → length (filter (λ p. min p.1.from p.1.to == k) (enumerate_from i events)) + length (edges_below k events) ≡ length (edges_below (k + 1) events)
 edges_more k i [] = refl
-edges_more k i (e ∷ events) =
-    let a = min e.from e.to in
-    one_end (a == k) (nat_lt a k) (nat_lt a (k + 1)) (i, e) e (filter (λ p. min p.1.from p.1.to == k) (enumerate_from (i + 1) events))
-    (edges_below k events) (edges_below (k + 1) events) (one_number a k) (edges_more k (i + 1) events)
+edges_more k i (e ∷ events) = grind (arith, nat_tests, edges_more k (i + 1) events)
 
 -- no edge has a smaller end below 0
 edges_below_none : (events : List Event) → length (edges_below 0 events) ≡ 0
@@ -67,9 +54,7 @@ two_each (e ∷ events) = omega (arith, two_each events)
 -- as many lines begin at a vertex as edges have it for their smaller end
 lines_at_count : (events : List Event) (g : GraphData) (v : ℕ) → HasArcsOf false events g → v < order_of g
     → length (lines_at g false v) ≡ length (edges_up_from v events)
-lines_at_count events g v has below =
-    let records = map lower_record (edges_up_from v events) in
-    length-map (taken false g v) (line_of v) ∙ (ap length (taken_of_edges events g v has below) ∙ (length-reverse records ∙ length-map (edges_up_from v events) lower_record))
+lines_at_count events g v has below = rw (taken_of_edges events g v has below) (simp (length-map, length-reverse))
 
 -- as many begin below k as edges have a smaller end there
 lines_below_count : (events : List Event) (g : GraphData) (k : ℕ) → HasArcsOf false events g → k ≤ order_of g
@@ -83,14 +68,9 @@ lines_below_count events g (suc k) has few =
     let more = edges_more k 0 events ∙ ap (λ (j : ℕ). length (edges_below j events)) (sym next) in
     parts ∙ omega (arith, here, below, more)
 
--- as many lines as edges
-lines_count : (events : List Event) (g : GraphData) → HasArcsOf false events g → length (lines_of_graph g false) ≡ length events
-lines_count events g has =
-    lines_below_count events g (order_of g) has (omega arith) ∙ edges_below_all (order_of g) events has.within
-
 -- which are half of the arcs
 half_of_arcs : (events : List Event) (g : GraphData) → HasArcsOf false events g → length (lines_of_graph g false) ≡ g.m / 2
-half_of_arcs events g has = omega (arith, lines_count events g has, two_each events, has.count)
+half_of_arcs events g has = grind (arith, lines_below_count events g (order_of g), edges_below_all (order_of g), two_each)
 
 -- the way back of an arc, by the tips of the records
 back_by_tips : (records : List ArcRec) (v k : ℕ)
@@ -104,8 +84,7 @@ way_back_of g v p = has_way_back g (line_of v (lower_record p))
 -- one more edge that passes, where it is wanted
 one_passes : (p : ℕ × Event → Bool) (b : Bool) (x : ℕ × Event) (xs : List (ℕ × Event)) → (b ≡ true → p x ≡ true) → list_all p xs ≡ true
     → list_all p (cond b (x ∷ xs) xs) ≡ true
-one_passes p true x xs here rest = and_from (p x) (list_all p xs) (here refl) rest
-one_passes p false x xs here rest = rest
+one_passes p b x xs here rest = grind (arith, and_from, cond_both)
 
 -- so each edge whose smaller end is v has, where the first of these has place i
 ways_back_from : (g : GraphData) (v i : ℕ) (events : List Event)
@@ -150,9 +129,7 @@ ways_back events g has =
 -- a graph that is one of edges is not refused for that
 not_refused : (g : GraphData) (lines : List Line) (edges : Bool) (make : List Line → Description) → edges ≡ true
     → and_then (if not edges then Err Invalid else (if nat_lt most_vertices (length lines) then Err VeryBad else Ok lines)) (λ l. Ok (make l)) ≢ Err Invalid
-not_refused g lines false make is = absurd cc
-not_refused g lines true make is =
-    cond_both (nat_lt most_vertices (length lines)) (Err VeryBad) (Ok lines) (λ r. and_then r (λ l. Ok (make l)) ≢ Err Invalid) (λ _ e. absurd cc) (λ _ e. absurd cc)
+not_refused g lines edges make is = grind (arith, cond_both)
 
 -- the lines of a graph of edges are those of its edges, and are not refused
 pub edges_are_lines : (events : List Event) (g : GraphData) → HasArcsOf false events g

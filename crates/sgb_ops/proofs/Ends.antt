@@ -1,9 +1,8 @@
 -- What it means that two events have the same ends.
-use Rattle.std.proofs.Common.{◌≡◌, ◌⊎◌, ◌==◌, ◌&&◌, ℕ, Bool, true, false, refl, sym, inl, inr, arith}
+use Rattle.std.proofs.Common.{◌≡◌, ◌⊎◌, ◌==◌, ◌&&◌, ℕ, Bool, true, false, arith}
 use Rattle.std.proofs.Math.Bool.{or-false}
 use Rattle.std.proofs.lemmas.Bool.{and_parts, or_cases, eqb-true}
 use Rattle.std.proofs.lemmas.Bool.Decides.{nat_tests}
-use Rattle.sgb_vec.proofs.Lists.{same_tests}
 use Rattle.sgb_graph.specs.Events.{Event}
 use Rattle.sgb_ops.specs.inner.Ends.{ends_key}
 use Rattle.sgb_ops.specs.Merged.{has_ends_of}
@@ -24,14 +23,7 @@ pub record OtherWay (directed : Bool) (e f : Event) : Type 0 where
   pub to : f.to ≡ e.from
 
 pub ends : (directed : Bool) (e f : Event) → has_ends_of directed e f ≡ true → SameWay e f ⊎ OtherWay directed e f
-ends true e f h = elim (or_cases ((f.from == e.from) && (f.to == e.to)) false h) [
-  | inl one ↦ let parts = and_parts _ _ one in inl record { from = eqb-true _ _ parts.0; to = eqb-true _ _ parts.1 }
-  | inr none ↦ absurd cc
-]
-ends false e f h = elim (or_cases ((f.from == e.from) && (f.to == e.to)) ((f.from == e.to) && (f.to == e.from)) h) [
-  | inl one ↦ let parts = and_parts _ _ one in inl record { from = eqb-true _ _ parts.0; to = eqb-true _ _ parts.1 }
-  | inr two ↦ let parts = and_parts _ _ two in inr record { edges = refl; from = eqb-true _ _ parts.0; to = eqb-true _ _ parts.1 }
-]
+ends directed e f h = grind (arith, or_cases, and_parts, eqb-true)
 
 -- each event has its own ends
 pub own_ends : (directed : Bool) (e : Event) → has_ends_of directed e e ≡ true
@@ -39,19 +31,12 @@ own_ends directed e = grind (arith, nat_tests)
 
 -- two events have each other's ends
 pub ends_turned : (directed : Bool) (e f : Event) → has_ends_of directed e f ≡ true → has_ends_of directed f e ≡ true
-ends_turned true e f h = grind (arith, nat_tests)
-ends_turned false e f h = grind (arith, nat_tests)
+ends_turned directed e f h = grind (arith, nat_tests)
 
 -- those of an event that has the ends of another
 pub ends_joined : (directed : Bool) (e f g : Event) → has_ends_of directed e f ≡ true → has_ends_of directed f g ≡ true → has_ends_of directed e g ≡ true
-ends_joined true e f g one two = grind (arith, nat_tests)
-ends_joined false e f g one two = grind (arith, nat_tests)
-
--- the test says the same both ways
-pub ends_either_way : (directed : Bool) (e f : Event) → has_ends_of directed e f ≡ has_ends_of directed f e
-ends_either_way directed e f = same_tests (has_ends_of directed e f) (has_ends_of directed f e) (ends_turned directed e f) (ends_turned directed f e)
+ends_joined directed e f g one two = grind (arith, nat_tests)
 
 -- the keys of two events are the same where they have the same ends
 pub key_tells : (directed : Bool) (e f : Event) → has_same_pair (ends_key directed f) (ends_key directed e) ≡ has_ends_of directed e f
-key_tells true e f = sym (or-false ((f.from == e.from) && (f.to == e.to)))
-key_tells false e f = grind (arith, nat_tests)
+key_tells directed e f = grind (arith, or-false, nat_tests)

@@ -1,9 +1,9 @@
 -- How many vertices entries make.
-use Rattle.std.proofs.Common.{◌≡◌, ◌≢◌, ◌<◌, ◌≤◌, ◌+◌, ◌-◌, ℕ, zero, suc, false, List, [], ◌∷◌, ◌++◌, take, drop, max, length, get_or, Option, Some, None, refl, sym, ap, subst, ◌∙◌, arith, rules}
+use Rattle.std.proofs.Common.{◌≡◌, ◌≢◌, ◌<◌, ◌≤◌, ◌+◌, ◌-◌, ℕ, zero, suc, false, List, [], ◌∷◌, ◌++◌, take, drop, max, length, get_or, Option, Some, None, refl, sym, ap, ◌∙◌, arith, rules}
 use Rattle.std.specs.Prelude.{All, ◌||◌, slice_get}
 use Rattle.std.specs.List.{list_any, range_with_len}
 use Rattle.std.specs.Option.{option_map_or}
-use Rattle.std.proofs.lemmas.Bool.{le-ltb, eq-eqb, or_parts}
+use Rattle.std.proofs.lemmas.Bool.{or_parts}
 use Rattle.std.proofs.lemmas.Bool.Decides.{nat_tests}
 use Rattle.std.proofs.lemmas.List.{drop_more, take_more}
 use Rattle.std.proofs.lemmas.Option.{slice_get_read}
@@ -15,7 +15,7 @@ use Rattle.std.specs.Prelude.{Ok}
 use Rattle.sgb_ops.specs.declared.entries.Entry.{Entry}
 use Rattle.sgb_ops.specs.declared.entries.Entry.TheVariants as entry
 use Rattle.sgb_ops.specs.inner.Copies.{IsKeptEntry, copies_end, copies_start, count_by, first_copies, merged_of, start_by}
-use Rattle.sgb_ops.specs.Entries.{accepted_entries, copies_by, copies_of, first_copy, is_unnumbered, merged_count, merged_number, size_of_entry}
+use Rattle.sgb_ops.specs.Entries.{accepted_entries, copies_of, first_copy, is_unnumbered, merged_count, merged_number, size_of_entry}
 use Rattle.sgb_ops.specs.inner.Entries.{own_total, total_of}
 
 -- the entries up to the one at this place
@@ -26,9 +26,6 @@ entries_more entries i e below is = take_more entries i e below ∙ ap (λ x. ta
 pub total_more : (entries : List Entry) (i : ℕ) (e : Entry) → i < length entries → e ≡ get_or entries i e → own_total (take (i + 1) entries) ≡ own_total (take i entries) + size_of_entry e
 total_more entries i e below is = ap own_total (entries_more entries i e below is) ∙ sum_by_push size_of_entry (take i entries) e
 
-pub total_at : (entries : List Entry) (i : ℕ) (d : Entry) → i < length entries → own_total (take (i + 1) entries) ≡ own_total (take i entries) + size_of_entry (get_or entries i d)
-total_at entries i d below = ap own_total (take_more entries i d below) ∙ sum_by_push size_of_entry (take i entries) (get_or entries i d)
-
 -- the copies of an entry are among those of all
 pub place_fits : (entries : List Entry) (v : ℕ) (e : Entry) → v < length entries → e ≡ get_or entries v e → first_copy entries v + size_of_entry e ≤ total_of entries
 place_fits entries v e below is = omega (arith, total_more entries v e below is, sum_by-take-le size_of_entry entries (v + 1))
@@ -36,13 +33,11 @@ place_fits entries v e below is = omega (arith, total_more entries v e below is,
 -- it is sound, as those before are
 pub kept_more : (entries : List Entry) (i : ℕ) (e : Entry) → i < length entries → e ≡ get_or entries i e → All IsKeptEntry (take i entries) → IsKeptEntry e → All IsKeptEntry (take (i + 1) entries)
 kept_more entries i e below is before now =
-    subst (All IsKeptEntry) (sym (entries_more entries i e below is))
-    (All-append IsKeptEntry (take i entries) (e ∷ []) before (All-cons IsKeptEntry e [] now (All-nil IsKeptEntry)))
+    rw (entries_more entries i e below is) (All-append IsKeptEntry (take i entries) (e ∷ []) before (All-cons IsKeptEntry e [] now (All-nil IsKeptEntry)))
 
 -- such entries, one for each vertex, are accepted where each merged vertex has a number
 pub few_accepted : (n : ℕ) (entries : List Entry) → length entries ≡ n → list_any is_unnumbered entries ≡ false → total_of entries ≤ most_vertices → accepted_entries n entries ≡ Ok entries
-few_accepted n entries count numbered few =
-    rw (eq-eqb (length entries) n count, numbered, le-ltb most_vertices (total_of entries) few) refl
+few_accepted n entries count numbered few = grind (arith, nat_tests)
 
 -- the first copy of a vertex or of what comes after the last one, where it is looked up
 pub first_at : (entries : List Entry) (firsts : List ℕ) (v d : ℕ) → firsts ≡ first_copies entries → v ≤ length entries → get_or firsts v d ≡ first_copy entries v
@@ -57,10 +52,7 @@ next_own : (entries : List Entry) (v : ℕ) → own_total (take (suc v) entries)
 next_own [] zero = refl
 next_own [] (suc v) = refl
 next_own (e ∷ entries) zero = omega (arith, sum_by-cons size_of_entry e [])
-next_own (e ∷ entries) (suc v) =
-    let more = sum_by-cons size_of_entry e (take (suc v) entries) in
-    let some = sum_by-cons size_of_entry e (take v entries) in
-    omega (arith, more, some, next_own entries v)
+next_own (e ∷ entries) (suc v) = search (rules, sum_by-cons, size_of_entry, next_own entries v)
 
 pub next_first : (entries : List Entry) (v : ℕ) → first_copy entries (suc v) ≡ first_copy entries v + option_map_or size_of_entry (slice_get entries v) 0
 next_first entries v = omega (arith, next_own entries v)
@@ -68,14 +60,8 @@ next_first entries v = omega (arith, next_own entries v)
 pub next_copy : (entries : List Entry) (v : ℕ) → first_copy entries (v + 1) ≡ first_copy entries v + option_map_or size_of_entry (slice_get entries v) 0
 next_copy entries v = grind (arith, next_first)
 
--- the copies of a vertex are those from their start on
-copies_by-range : (start : ℕ) (e : Entry) → copies_by start e ≡ range_with_len (start_by start e) (count_by e)
-copies_by-range start (entry.Copies k) = refl
-copies_by-range start (entry.Graph inner) = refl
-copies_by-range start (entry.Merged k) = refl
-
 pub copies-range : (entries : List Entry) (v : ℕ) → copies_of entries v ≡ range_with_len (copies_start entries v) (option_map_or count_by (slice_get entries v) 0)
-copies-range entries v = search (rules, copies_by-range)
+copies-range entries v = grind (arith)
 
 pub copies_between : (entries : List Entry) (v a b : ℕ) → a ≡ copies_start entries v → b ≡ copies_end entries v → range_with_len a (b - a) ≡ copies_of entries v
 copies_between entries v a b first last = search (rules, copies-range)
@@ -84,31 +70,9 @@ copies_between entries v a b first last = search (rules, copies-range)
 pub entry_there : (entries : List Entry) (v : ℕ) (e : Entry) → v < length entries → e ≡ get_or entries v e → slice_get entries v ≡ Some e
 entry_there entries v e below is = slice_get_read entries (length entries) v e refl below is
 
--- a merged vertex is a copy alone
-pub ends_merged : (entries : List Entry) (v k : ℕ) (e : Entry) → v < length entries → e ≡ get_or entries v e → e ≡ entry.Merged k
-    → (copies_start entries v ≡ k - 1) × (copies_end entries v ≡ k - 1 + 1)
-ends_merged entries v k e below is same = search (rules, entry_there)
-
 -- other copies begin at the first one, and end where those of the next vertex begin
 own_by : (first : ℕ) (e : Entry) → ((k : ℕ) → e ≢ entry.Merged k) → (start_by first e ≡ first) × (count_by e ≡ size_of_entry e)
-own_by first (entry.Copies k) other = (refl, refl)
-own_by first (entry.Graph inner) other = (refl, refl)
-own_by first (entry.Merged k) other = absurd (other k refl)
-
-pub ends_own : (entries : List Entry) (v : ℕ) (e : Entry) → v < length entries → e ≡ get_or entries v e → ((k : ℕ) → e ≢ entry.Merged k)
-    → (copies_start entries v ≡ first_copy entries v) × (copies_end entries v ≡ first_copy entries (v + 1))
-ends_own entries v e below is other = grind (arith, entry_there, own_by, next_copy)
-
--- the number of a merged vertex is asked for
-pub some_merged : (e : Entry) (k : ℕ) → merged_of e ≡ Some k → e ≡ entry.Merged k
-some_merged (entry.Copies n) k h = absurd cc
-some_merged (entry.Graph inner) k h = absurd cc
-some_merged (entry.Merged n) k h = let same : n ≡ k = search (rules, h) in ap entry.Merged same
-
-pub none_merged : (e : Entry) → merged_of e ≡ None → (k : ℕ) → e ≢ entry.Merged k
-none_merged (entry.Copies n) h k same = absurd cc
-none_merged (entry.Graph inner) h k same = absurd cc
-none_merged (entry.Merged n) h k same = absurd cc
+own_by first e other = grind (arith)
 
 -- what is left of entries, one after another
 pub unnumbered_left : (entries : List Entry) (i : ℕ) (e : Entry) → i < length entries → e ≡ get_or entries i e
@@ -133,18 +97,13 @@ numbered_one (x ∷ entries) (suc v) e numbered here = numbered_one entries v e 
 
 -- they are among those of all
 fits_by : (total first : ℕ) (e : Entry) → first + size_of_entry e ≤ total → merged_number e ≤ total → is_unnumbered e ≡ false → start_by first e + count_by e ≤ total
-fits_by total first (entry.Copies k) own merged numbered = own
-fits_by total first (entry.Graph inner) own merged numbered = own
-fits_by total first (entry.Merged k) own merged numbered = grind (arith, nat_tests)
+fits_by total first e own merged numbered = grind (arith, nat_tests)
 
 within_by : (entries : List Entry) (v : ℕ) (o : Option Entry) → slice_get entries v ≡ o → list_any is_unnumbered entries ≡ false
     → option_map_or (start_by (first_copy entries v)) o 0 + option_map_or count_by o 0 ≤ total_of entries
-within_by entries v None here numbered = omega arith
-within_by entries v (Some e) here numbered =
-    let size : option_map_or size_of_entry (slice_get entries v) 0 ≡ size_of_entry e = ap (λ o. option_map_or size_of_entry o 0) here in
+within_by entries v o here numbered =
     let more = next_copy entries v in
-    let all = sum_by-take-le size_of_entry entries (v + 1) in
-    fits_by (total_of entries) (first_copy entries v) e (omega (arith, size, more, all)) (omega (arith, number_below entries v e here)) (numbered_one entries v e numbered here)
+    grind (arith, sum_by-take-le, fits_by, number_below, numbered_one, more)
 
 pub copies_within : (entries : List Entry) (v : ℕ) → list_any is_unnumbered entries ≡ false → copies_start entries v + option_map_or count_by (slice_get entries v) 0 ≤ total_of entries
 copies_within entries v numbered = within_by entries v (slice_get entries v) refl numbered
@@ -152,9 +111,9 @@ copies_within entries v numbered = within_by entries v (slice_get entries v) ref
 -- where the copies of a vertex begin and end, read from places that are these entries: those of a merged vertex
 pub merged_read : (es places : List Entry) (v number : ℕ) (e : Entry) (r : Option ℕ) → places ≡ es → v < length es → e ≡ get_or places v e → r ≡ merged_of e → r ≡ Some number
     → (number - 1 ≡ copies_start es v) × (number - 1 + 1 ≡ copies_end es v)
-merged_read es places v number e r same below is asked some = grind (arith, ends_merged, some_merged)
+merged_read es places v number e r same below is asked some = grind (arith, entry_there)
 
 -- and others, with the table of first copies
 pub own_read : (es places : List Entry) (firsts : List ℕ) (v : ℕ) (e : Entry) (r : Option ℕ) → places ≡ es → firsts ≡ first_copies places → v < length es → e ≡ get_or places v e → r ≡ merged_of e → r ≡ None
     → ((d : ℕ) → get_or firsts v d ≡ copies_start es v) × ((d : ℕ) → get_or firsts (v + 1) d ≡ copies_end es v)
-own_read es places firsts v e r same table below is asked none = search (rules, ends_own, none_merged, first_at)
+own_read es places firsts v e r same table below is asked none = grind (arith, first_at, entry_there, own_by, next_copy)

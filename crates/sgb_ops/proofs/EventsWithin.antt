@@ -2,7 +2,7 @@
 use Rattle.std.proofs.Common.{◌<◌, ◌≤◌, ◌+◌, ℕ, Bool, true, false, List, map, length, arith}
 use Rattle.std.specs.Prelude.{All, flat_map}
 use Rattle.std.specs.List.{range_with_len}
-use Rattle.std.proofs.lemmas.List.Elements.{All-nil, All-map, All-weaker}
+use Rattle.std.proofs.lemmas.List.Elements.{All-nil, All-map}
 use Rattle.sgb_graph.specs.Graphs.{GraphData, chain_of}
 use Rattle.sgb_vec.proofs.Lists.{All-flat_map, range-within}
 use Rattle.sgb_graph.specs.Events.{Event, HasEndsBelow}
@@ -45,6 +45,4 @@ events_of_within n v links below all = All-map (HasEndsBelow n) (event_of v) lin
 
 -- the events of several vertices
 pub events_after_within : (n : ℕ) (f : ℕ → List Event) (v count : ℕ) → ((u : ℕ) → v ≤ u → u < v + count → AllWithin n (f u)) → AllWithin n (flat_map f (range_with_len v count))
-events_after_within n f v count each =
-    All-flat_map (HasEndsBelow n) f (range_with_len v count)
-    (All-weaker (λ u. (v ≤ u) × (u < v + count)) (λ u. AllWithin n (f u)) (λ u p. each u p.0 p.1) (range_with_len v count) (range-within v count))
+events_after_within n f v count each = All-flat_map (HasEndsBelow n) f (range_with_len v count) (λ k d h. let p = range-within v count k d h in each _ p.0 p.1)

@@ -7,9 +7,9 @@ use Rattle.std.specs.Option.{option_map_or}
 use Rattle.std.proofs.lemmas.Bool.{both_ways, cases_eq, cases_lt, eq-eqb, or_parts}
 use Rattle.std.proofs.lemmas.Bool.Decides.{nat_tests}
 use Rattle.std.proofs.lemmas.List.Folds.{list_any_at}
-use Rattle.std.proofs.lemmas.List.Elements.{All-nil, All-map, All-filter, All-weaker, All-contains_itself, All-head, All-tail, filter_passes, filter-append}
+use Rattle.std.proofs.lemmas.List.Elements.{All-nil, All-map, All-filter, All-weaker, All-contains_itself, filter_passes, filter-append}
 use Rattle.sgb_vec.proofs.Lists.{All-flat_map, Contains-range, never_true, range-within}
-use Rattle.sgb_graph.specs.Graphs.{GraphData, chain_of}
+use Rattle.sgb_graph.specs.Graphs.{GraphData}
 use Rattle.sgb_graph.specs.Events.{Event, HasEndsBelow}
 use Rattle.sgb_graph.specs.Growth.{AddsEvents, IsKept}
 use Rattle.sgb_graph.proofs.AddedEvents.{adds-none}
@@ -33,12 +33,8 @@ use Rattle.sgb_ops.proofs.EntryTotals.{copies-range, next_copy, number_below}
 use Rattle.sgb_ops.proofs.EventsWithin.{taken_tips}
 use Rattle.sgb_ops.proofs.MergedParts.{AreApart, merged_both}
 use Rattle.sgb_ops.proofs.RisingParts.{Rises, merged_rising, rises_wider}
-use Rattle.sgb_ops.proofs.Taking.{each_edge_once_leads_up}
-
--- an arc that is taken of v for an undirected result leads up
-taken_up : (directed : Bool) (g : GraphData) (v : ℕ) → All (λ l. directed ≡ false → v ≤ l.tip) (taken directed g v)
-taken_up true g v = λ k d h same. absurd cc
-taken_up false g v = λ k d h same. each_edge_once_leads_up v (chain_of g v) k d h
+use Rattle.sgb_ops.proofs.Taking.{taken_up}
+use Rattle.std.proofs.lemmas.Option.{get_or_from_slice_get, slice_get_within}
 
 -- the ends of the event are vertices of a to b
 abbrev pub Inside : ℕ → ℕ → Event → Type 0
@@ -78,9 +74,7 @@ module _ (directed : Bool) (start : ℕ) (inner : GraphData) where
       (λ k d h. inside_from (get_or (places_of inner) k d) kept (omega (arith, (range-within 0 (order_of inner) k d h).1)))
 
 entry_inside : (directed : Bool) (start : ℕ) (e : Entry) → IsKeptEntry e → All (Inside start (start + size_of_entry e)) (inner_events directed start e)
-entry_inside directed start (entry.Copies k) kept = All-nil (Inside start (start + k))
-entry_inside directed start (entry.Graph inner) kept = graph_inside directed start inner kept
-entry_inside directed start (entry.Merged k) kept = All-nil (Inside start (start + 0))
+entry_inside directed start e kept = grind (arith, All-nil, Inside, graph_inside)
 
 -- the vertex is a copy that stands for v alone
 abbrev Own : List Entry → ℕ → ℕ → Type 0
@@ -96,31 +90,19 @@ own_same entries v w u a b = grind (arith, cases_lt, firsts_up)
 
 -- an entry that is looked up
 kept_at : (entries : List Entry) (v : ℕ) (e : Entry) → All IsKeptEntry entries → slice_get entries v ≡ Some e → IsKeptEntry e
-kept_at [] v e kept here = absurd (search (rules, here))
-kept_at (x ∷ entries) zero e kept here = let same : x ≡ e = search (rules, here) in subst IsKeptEntry same (All-head IsKeptEntry x entries kept)
-kept_at (x ∷ entries) (suc v) e kept here = kept_at entries v e (All-tail IsKeptEntry x entries kept) here
+kept_at entries v e kept here = subst IsKeptEntry (get_or_from_slice_get entries v e e here) (kept v e (slice_get_within entries v e here))
 
 -- none passes a test
 none_at : (t : ℕ → Entry → Bool) (i : ℕ) (entries : List Entry) (k : ℕ) (e : Entry) → list_any (λ p. t p.0 p.1) (enumerate_from i entries) ≡ false → slice_get entries k ≡ Some e → t (i + k) e ≡ false
 none_at t i [] k e none here = absurd (search (rules, here))
-none_at t i (x ∷ entries) zero e none here =
-    let same : x ≡ e = search (rules, here) in
-    let place : i + 0 ≡ i = omega arith in
-    rw place (subst (λ y. t i y ≡ false) same (or_parts (t i x) (list_any (λ p. t p.0 p.1) (enumerate_from (i + 1) entries)) none).0)
-none_at t i (x ∷ entries) (suc k) e none here =
-    let place : i + suc k ≡ i + 1 + k = omega arith in
-    rw place (none_at t (i + 1) entries k e (or_parts (t i x) (list_any (λ p. t p.0 p.1) (enumerate_from (i + 1) entries)) none).1 here)
+none_at t i (x ∷ entries) zero e none here = grind (arith, or_parts)
+none_at t i (x ∷ entries) (suc k) e none here = grind (arith, or_parts, none_at t (i + 1) entries k e (or_parts (t i x) (list_any (λ p. t p.0 p.1) (enumerate_from (i + 1) entries)) none).1 here)
 
 -- what entries with their places give is what the entries at the places give
 by_places : (f : ℕ → Entry → List Event) (i : ℕ) (xs : List Entry) (at : ℕ → Option Entry) → ((k : ℕ) → at (i + k) ≡ slice_get xs k)
     → flat_map (λ p. f p.0 p.1) (enumerate_from i xs) ≡ flat_map (λ v. option_map_or (f v) (at v) []) (range_with_len i (length xs))
 by_places f i [] at same = refl
-by_places f i (x ∷ xs) at same =
-    let place : i ≡ i + 0 = omega arith in
-    let first : at i ≡ Some x = ap at place ∙ same 0 in
-    let later : (k : ℕ) → at (i + 1 + k) ≡ slice_get xs k = λ k. let next : i + 1 + k ≡ i + suc k = omega arith in ap at next ∙ same (suc k) in
-    ap (λ es. f i x ++ es) (by_places f (i + 1) xs at later)
-    ∙ ap (λ o. option_map_or (f i) o [] ++ flat_map (λ v. option_map_or (f v) (at v) []) (range_with_len (i + 1) (length xs))) (sym first)
+by_places f i (x ∷ xs) at same = grind (arith, same 0, by_places f (i + 1) xs at (λ k. let next : i + 1 + k ≡ i + suc k = omega arith in ap at next ∙ same (suc k)))
 
 -- the events inside the entry of v
 abbrev pub inside_at : List Entry → Bool → ℕ → List Event
@@ -136,14 +118,7 @@ module _ (entries : List Entry) (directed : Bool) (kept : All IsKeptEntry entrie
 
   -- they are between its copies
   at_inside : (v : ℕ) → All (Inside (first_copy entries v) (first_copy entries (v + 1))) (inside_at entries directed v)
-  at_inside v = by_option (slice_get entries v) refl
-    where
-      by_option : (o : Option Entry) → slice_get entries v ≡ o → All (Inside (first_copy entries v) (first_copy entries (v + 1))) (option_map_or (inner_events directed (first_copy entries v)) o [])
-      by_option None here = All-nil (Inside (first_copy entries v) (first_copy entries (v + 1)))
-      by_option (Some e) here =
-          let size : option_map_or size_of_entry (slice_get entries v) 0 ≡ size_of_entry e = ap (λ o. option_map_or size_of_entry o 0) here in
-          let end : first_copy entries v + size_of_entry e ≡ first_copy entries (v + 1) = omega (arith, size, next_copy entries v) in
-          subst (λ b. All (Inside (first_copy entries v) b) (inner_events directed (first_copy entries v) e)) end (entry_inside directed (first_copy entries v) e (kept_at entries v e kept here))
+  at_inside v = grind (arith, Inside, All-nil, next_copy, entry_inside, kept_at)
 
   at_rises : (v : ℕ) → All (Rises directed (first_copy entries v) (first_copy entries (v + 1))) (inside_at entries directed v)
   at_rises v = search (rules, All-weaker, at_inside)
@@ -175,22 +150,15 @@ module _ (g : GraphData) (entries : List Entry) (directed : Bool) (numbered : li
 
   -- copy u of v is joined to no copy before it by an edge
   met_up : (b : Bool) (v u tip t : ℕ) → b ≡ false → v ≤ tip → Own entries v u → Own entries tip t → is_met b v u tip t ≡ true → u ≤ t
-  met_up true v u tip t edge up own there met = absurd cc
-  met_up false v u tip t edge up own there met = elim (cases_eq tip v) [
-    | inl same ↦ let here = eq-eqb tip v same in let seen = rw here at met in grind (arith, nat_tests)
-    | inr other ↦ omega (arith, own.1, there.0, firsts_up entries v tip (omega (arith, up, other)))
-  ]
+  met_up b v u tip t edge up own there met = grind (arith, cases_eq, eq-eqb, nat_tests, firsts_up)
 
   of_arc : (v u : ℕ) (a : Link) → Own entries v u → (directed ≡ false → v ≤ a.tip) → All (Rises directed u (u + 1)) (events_of_arc entries directed v u a)
   of_arc v u a own up =
       All-map (Rises directed u (u + 1)) (event_between u a.len) (copies_met entries directed v u a.tip)
-      (λ k d h. (
-        omega arith,
-        omega arith,
-        λ edge. met_up directed v u a.tip (get_or (copies_met entries directed v u a.tip) k d) edge (up edge) own
-            (All-filter (is_met directed v u a.tip) (Own entries a.tip) (copies_of entries a.tip) (all_own a.tip) k d h)
-            (filter_passes (is_met directed v u a.tip) (copies_of entries a.tip) k d h),
-      ))
+      (λ k d h.
+      let there = All-filter (is_met directed v u a.tip) (Own entries a.tip) (copies_of entries a.tip) (all_own a.tip) k d h in
+      let met = filter_passes (is_met directed v u a.tip) (copies_of entries a.tip) k d h in
+      (omega arith, omega arith, λ edge. met_up directed v u a.tip _ edge (up edge) own there met))
 
   of_copy : (v u : ℕ) → Own entries v u → All (Rises directed u (u + 1)) (events_of_copy g entries directed v u)
   of_copy v u own = search (rules, All-flat_map, of_arc, taken_up)
@@ -210,10 +178,9 @@ module _ (g : GraphData) (entries : List Entry) (directed : Bool) (numbered : li
   copies_left self multi v =
       let start = copies_start entries v in
       let count = option_map_or count_by (slice_get entries v) 0 in
-      subst (λ us. flat_map (copy_part self multi g entries directed v) us ≡ merged_unless multi directed (wanted self (flat_map (events_of_copy g entries directed v) us)))
-      (sym (copies-range entries v))
+      rw (copies-range entries v)
       (merged_rising self multi directed (events_of_copy g entries directed v) (λ u. u) start count
-      (λ u low high. of_copy v u (own_copy v u (subst (λ us. Contains us u) (sym (copies-range entries v)) (Contains-range start count u low high))))
+      (λ u low high. of_copy v u (own_copy v u (rw (copies-range entries v) (Contains-range start count u low high))))
       (λ u w less. omega (arith, less)))
 
   -- those between all copies that are left
@@ -231,15 +198,11 @@ module _ (g : GraphData) (entries : List Entry) (directed : Bool) (numbered : li
   between_leaves : (v : ℕ) → list_any (λ l. l.tip == v) (taken directed g v) ≡ false → All (Leaves v) (events_between g entries directed)
   between_leaves v none =
       All-flat_map (Leaves v) (events_of_copies g entries directed) (places_of g)
-      (λ i x h. let w = get_or (places_of g) i x in
-      All-flat_map (Leaves v) (events_of_copy g entries directed w) (copies_of entries w)
-      (λ j y m. let u = get_or (copies_of entries w) j y in
-      All-flat_map (Leaves v) (events_of_arc entries directed w u) (taken directed g w)
-      (λ n z o. let a = get_or (taken directed g w) n z in
-      All-map (Leaves v) (event_between u a.len) (copies_met entries directed w u a.tip)
-      (λ k d q from to. no_loop v w a none (All-contains_itself (taken directed g w) n z o)
-      (own_same entries v w u from (all_own w j y m))
-      (own_same entries v a.tip (get_or (copies_met entries directed w u a.tip) k d) to (All-filter (is_met directed w u a.tip) (Own entries a.tip) (copies_of entries a.tip) (all_own a.tip) k d q))))))
+      (λ i x h. All-flat_map (Leaves v) (events_of_copy g entries directed _) (copies_of entries _)
+      (λ j y m. All-flat_map (Leaves v) (events_of_arc entries directed _ _) (taken directed g _)
+      (λ n z o. All-map (Leaves v) (event_between _ _) (copies_met entries directed _ _ _)
+      (λ k d q from to. no_loop v _ _ none (All-contains_itself (taken directed g _) n z o) (own_same entries v _ _ from (all_own _ j y m))
+      (own_same entries v _ _ to (All-filter (is_met directed _ _ _) (Own entries _) (copies_of entries _) (all_own _) k d q))))))
 
   -- an event inside the copies of v has not the ends of one that leaves them
   inside_apart : (v : ℕ) (e f : Event) → Inside (first_copy entries v) (first_copy entries (v + 1)) e → Leaves v f → has_ends_of directed e f ≡ false
@@ -248,11 +211,10 @@ module _ (g : GraphData) (entries : List Entry) (directed : Bool) (numbered : li
   -- the events inside the entry of v have not the ends of those between copies
   entry_apart : (self : Bool) (v : ℕ) (e : Entry) → has_loop_inside g directed v e ≡ false → All (Inside (first_copy entries v) (first_copy entries (v + 1))) (inner_events directed (first_copy entries v) e)
       → AreApart directed (inner_events directed (first_copy entries v) e) (wanted self (events_between g entries directed))
-  entry_apart self v (entry.Copies n) none inside = All-nil (λ e. All (λ f. has_ends_of directed e f ≡ false) (wanted self (events_between g entries directed)))
-  entry_apart self v (entry.Merged n) none inside = All-nil (λ e. All (λ f. has_ends_of directed e f ≡ false) (wanted self (events_between g entries directed)))
   entry_apart self v (entry.Graph inner) none inside = λ k d h j y m.
       inside_apart v (get_or (inner_events directed (first_copy entries v) (entry.Graph inner)) k d) (get_or (wanted self (events_between g entries directed)) j y) (inside k d h)
       (All-filter (is_wanted self) (Leaves v) (events_between g entries directed) (between_leaves v none) j y m)
+  entry_apart self v e none inside = search (rules, All-nil)
 
   module _ (kept : All IsKeptEntry entries) (loops : has_loops_inside g entries directed ≡ false) where
     at_apart : (self : Bool) (v : ℕ) → AreApart directed (inside_at entries directed v) (wanted self (events_between g entries directed))
@@ -271,27 +233,21 @@ module _ (g : GraphData) (entries : List Entry) (directed : Bool) (numbered : li
         ≡ induced_events g entries self multi directed
     both_left self multi =
         let others = wanted self (events_between g entries directed) in
-        let all = subst (λ es. AreApart directed es others) (sym (within_places entries directed kept))
-        (All-flat_map (λ e. All (λ f. has_ends_of directed e f ≡ false) others) (inside_at entries directed) (range_with_len 0 (length entries))
-        (λ k d h. at_apart self (get_or (range_with_len 0 (length entries)) k d))) in
-        sym (ap (merged_unless multi directed) (filter-append (is_wanted self) (events_within entries directed) (events_between g entries directed))
-        ∙ merged_both multi directed (wanted self (events_within entries directed)) others
-        (All-filter (is_wanted self) (λ e. All (λ f. has_ends_of directed e f ≡ false) others) (events_within entries directed) all))
+        let all = All-flat_map (λ e. All (λ f. has_ends_of directed e f ≡ false) others) (inside_at entries directed) (range_with_len 0 (length entries)) (λ k d h. at_apart self _) in
+        rw (within_places entries directed kept, filter-append (is_wanted self) (flat_map (inside_at entries directed) (range_with_len 0 (length entries))) (events_between g entries directed))
+        (sym (merged_both multi directed _ others (All-filter (is_wanted self) (λ e. All (λ f. has_ends_of directed e f ≡ false) others) _ all)))
 
 -- the events from copy u are between vertices of the result
 pub copy_within : (g : GraphData) (entries : List Entry) (directed : Bool) (numbered : list_any is_unnumbered entries ≡ false) (self : Bool) (v u : ℕ) → u < total_of entries
     → AllWithin (total_of entries) (wanted self (events_of_copy g entries directed v u))
-copy_within g entries directed numbered self v u below =
-    All-filter (is_wanted self) (HasEndsBelow (total_of entries)) (events_of_copy g entries directed v u) (copy_events_within entries directed numbered g v u below)
+copy_within g entries directed numbered self v u below = search (rules, All-filter, copy_events_within)
 
 -- of no events none are left
 pub none_left : (multi directed : Bool) → merged_unless multi directed [] ≡ []
 unfolding merged
-none_left true directed = refl
-none_left false directed = refl
+none_left multi directed = grind (arith)
 
 -- so none are inside an entry that is no graph
 pub none_inside : (self multi directed : Bool) (start : ℕ) (e : Entry) (g : GraphData) → ((x : ℕ) × (e ≡ entry.Copies x)) ⊎ ((x : ℕ) × (e ≡ entry.Merged x))
     → AddsEvents directed g g (merged_unless multi directed (wanted self (inner_events directed start e)))
-none_inside self multi directed start e g (inl (x, is)) = rw is (subst (AddsEvents directed g g) (sym (none_left multi directed)) (adds-none directed g))
-none_inside self multi directed start e g (inr (x, is)) = rw is (subst (AddsEvents directed g g) (sym (none_left multi directed)) (adds-none directed g))
+none_inside self multi directed start e g h = search (rules, none_left, adds-none, AddsEvents)

@@ -1,6 +1,6 @@
 -- Names that are made of names.
 use Rattle.std.proofs.Common.{rules, ◌≡◌, ℕ, ◌≤◌, ◌<◌, ◌+◌, ◌^◌, List, [], ◌∷◌, ◌++◌, take, length, arith}
-use Rattle.std.specs.Prelude.{All, IsOk, IsOkUnless, Result, Ok, Err, decimal}
+use Rattle.std.specs.Prelude.{All, IsOk, IsOkUnless, Result, decimal}
 use Rattle.std.proofs.lemmas.Fmt.{length-decimal-le}
 use Rattle.std.proofs.lemmas.List.{length-append, take_all}
 use Rattle.std.proofs.lemmas.List.Elements.{All-append}
@@ -25,5 +25,4 @@ whole_number k fits = take_all 10 (decimal k) (number_is_short k fits)
 
 -- what is never refused is refused out of memory at most
 pub unless_memory : {T : Type 0} (r : Result T Panic) → IsOk r → IsOkUnless r NoRoom
-unless_memory (Ok x) good = tt
-unless_memory (Err e) good = cc
+unless_memory r good = grind (arith)

@@ -1,8 +1,8 @@
 -- The lines that begin at one vertex, as a run.
-use Rattle.std.proofs.Common.{rules, ◌≡◌, ◌<◌, ◌≤◌, ◌+◌, ◌-◌, ◌==◌, ℕ, suc, pos, true, not, nat_lt, List, [], ◌∷◌, map, length, set, get_or, refl, sym, ap, ◌∙◌, inl, inr, arith}
+use Rattle.std.proofs.Common.{rules, ◌≡◌, ◌<◌, ◌≤◌, ◌+◌, ◌-◌, ◌==◌, ℕ, pos, true, not, nat_lt, List, [], ◌∷◌, map, length, set, get_or, refl, ap, ◌∙◌, arith}
 use Rattle.std.specs.Prelude.{All, filter, slice_index}
 use Rattle.std.specs.List.{enumerate_from, range_with_len}
-use Rattle.std.proofs.lemmas.Bool.{cases_eq, cases_lt, eq-eqb, ne_eqb, lt-ltb, le-ltb}
+use Rattle.std.proofs.lemmas.Bool.{cases_eq, lt-ltb}
 use Rattle.std.proofs.lemmas.Bool.Decides.{nat_tests}
 use Rattle.std.proofs.lemmas.List.{length-set, get_or-set_same, get_or-set_other, get_or_default}
 use Rattle.std.proofs.lemmas.List.Sums.{length-filter, count_by-le-length}
@@ -31,9 +31,6 @@ none_past n lines within =
 none_at_end : (n : ℕ) (lines : List Line) → All (LineWithin n) lines → begin_at n lines ≡ 0
 none_at_end n lines within = omega (arith, none_past n lines within, two_parts n lines)
 
-all_at_end : (n u : ℕ) (lines : List Line) → All (LineWithin n) lines → n ≤ u → u ≤ n → begin_at u lines ≡ begin_from u lines
-all_at_end n u lines within low high = search (rules, none_at_end, none_past)
-
 -- a table with the numbers of lines that begin at each vertex before w, and from w on of those that begin there or later
 abbrev pub EndsFrom : ℕ → List Line → List ℕ → ℕ → Type 0
 EndsFrom n lines ends w =
@@ -44,8 +41,7 @@ EndsFrom n lines ends w =
 -- at first none are summed up
 pub ends_first : (n : ℕ) (lines : List Line) (ends : List ℕ) → All (LineWithin n) lines → length ends ≡ n + 1
     → ((u : ℕ) → u ≤ n → slice_index ends u ≡ begin_at u lines) → EndsFrom n lines ends n
-ends_first n lines ends within size counts =
-    (size, (λ u low. counts u (omega (arith, low))), (λ u low high. counts u high ∙ all_at_end n u lines within low high))
+ends_first n lines ends within size counts = search (rules, none_at_end, none_past)
 
 -- two neighbours make the next sum
 pub ends_sum : (n w : ℕ) (lines : List Line) (ends : List ℕ) (here next : ℕ) → 0 < w → w ≤ n → EndsFrom n lines ends w
@@ -64,9 +60,7 @@ ends_read n w lines ends number low size table is = is ∙ (get_or_default ends 
 -- nor above the first
 none_above : (w top : ℕ) (lines : List Line) → top < w → DescendFrom top lines → begin_from w lines ≡ 0
 none_above w top [] above descend = refl
-none_above w top (line ∷ lines) above descend =
-    let low : line.from < w = omega (arith, above, descend.0) in
-    rw (lt-ltb line.from w low) (none_above w line.from lines low descend.1)
+none_above w top (line ∷ lines) above descend = grind (arith, nat_tests, none_above w line.from lines (omega (arith, above, descend.0)) descend.1)
 
 -- those that begin at w have the numbers after those of the lines that begin later
 run : (w top k : ℕ) (lines : List Line) → DescendFrom top lines
@@ -74,32 +68,14 @@ run : (w top k : ℕ) (lines : List Line) → DescendFrom top lines
 run w top k [] descend = refl
 run w top k (line ∷ lines) descend =
     let next = run w line.from (k + 1) lines descend.1 in
-    let later = begin_from (w + 1) lines in
-    let here = begin_at w lines in
-    elim (cases_lt line.from (w + 1)) [
-      | inl low ↦
-          let none : later ≡ 0 = none_above (w + 1) line.from lines low descend.1 in
-          elim (cases_eq line.from w) [
-            | inl e ↦
-                let first : k ≡ k + later = omega (arith, none) in
-                let second : k + 1 + later ≡ k + later + 1 = omega arith in
-                rw (lt-ltb line.from (w + 1) low, eq-eqb line.from w e)
-                (ap (λ (js : List ℕ). k ∷ js) next ∙ (ap (λ (j : ℕ). k ∷ range_with_len j here) second ∙ ap (λ (j : ℕ). j ∷ range_with_len (k + later + 1) here) first))
-            | inr n ↦
-                let few : here ≡ 0 = omega (arith, two_parts w lines, none_above w line.from lines (omega (arith, n, low)) descend.1) in
-                rw (lt-ltb line.from (w + 1) low, ne_eqb line.from w n)
-                (next ∙ (ap (λ (j : ℕ). range_with_len (k + 1 + later) j) few ∙ sym (ap (λ (j : ℕ). range_with_len (k + later) j) few)))
-          ]
-      | inr high ↦
-          let place : k + 1 + later ≡ k + suc later = omega arith in
-          rw (le-ltb line.from (w + 1) high, ne_eqb line.from w (λ e. absurd (omega (arith, e, high))))
-          (next ∙ ap (λ (j : ℕ). range_with_len j here) place)
-    ]
+    let none = none_above (w + 1) line.from lines in
+    let past = none_above w line.from lines in
+    grind (arith, nat_tests, two_parts, next, none, past)
 
 -- events to lines, by their numbers
 pub events_of_places : (i : ℕ) (qs : List (ℕ × Line)) → events_to_numbers i (map (λ q. q.0) qs) ≡ map (λ q. record { from = i; to = q.0; len = pos 1 }) qs
 events_of_places i [] = refl
-events_of_places i (q ∷ qs) = ap (λ es. record { from = i; to = q.0; len = pos 1 } ∷ es) (events_of_places i qs)
+events_of_places i (q ∷ qs) = grind (arith, events_of_places i qs)
 
 -- the arcs from a line are those to the run at its end
 pub run_events : (top : ℕ) (lines : List Line) (i : ℕ) (line : Line) (first end : ℕ) → DescendFrom top lines

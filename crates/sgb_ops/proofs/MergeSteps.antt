@@ -27,34 +27,18 @@ as_long directed a e events other = search (rules, filter-append, append-nil)
 -- of the events without those that have the ends of a: one more that has them changes nothing
 same_others : (directed : Bool) (a e : Event) (events : List Event) → has_ends_of directed a e ≡ true → filter (is_other directed a) (with_event directed events e) ≡ filter (is_other directed a) events
 same_others directed a e [] same = rw same refl
-same_others directed a e (f ∷ events) same =
-    let rest = same_others directed a e events same in
-    elim (cases_Bool (has_ends_of directed f e)) [
-      | inl like ↦ rw (like, ends_joined directed a e f same (ends_turned directed f e like)) refl
-      | inr none ↦ rw (none, rest) refl
-    ]
+same_others directed a e (f ∷ events) same = grind (arith, cases_Bool, ends_joined, ends_turned, same_others directed a e events same)
 
 -- one more that has them not is put among them
 more_others : (directed : Bool) (a e : Event) (events : List Event) → has_ends_of directed a e ≡ false → filter (is_other directed a) (with_event directed events e) ≡ with_event directed (filter (is_other directed a) events) e
 more_others directed a e [] other = rw other refl
-more_others directed a e (f ∷ events) other =
-    let rest = more_others directed a e events other in
-    elim (cases_Bool (has_ends_of directed f e)) [
-      | inl like ↦ elim (cases_Bool (has_ends_of directed a f)) [ inl both ↦ (let joined = ends_joined directed a f e both like in absurd cc) | inr apart ↦ rw (like, apart, like) refl ]
-      | inr none ↦ elim (cases_Bool (has_ends_of directed a f)) [ inl both ↦ rw (none, both) rest | inr apart ↦ rw (none, apart, none, rest) refl ]
-    ]
+more_others directed a e (f ∷ events) other = grind (arith, cases_Bool, ends_joined, more_others directed a e events other)
 
 -- merged events and one more
 pub merged_more : (directed : Bool) (events : List Event) (e : Event) → merged directed (events ++ e ∷ []) ≡ with_event directed (merged directed events) e
 unfolding merged
 merged_more directed [] e = refl
-merged_more directed (a ∷ events) e =
-    let rest = merged_more directed events e in
-    let left = merged directed events in
-    elim (cases_Bool (has_ends_of directed a e)) [
-      | inl same ↦ rw (longer directed a e events same, rest, same_others directed a e left same, same) refl
-      | inr other ↦ rw (as_long directed a e events other, rest, more_others directed a e left other, other) refl
-    ]
+merged_more directed (a ∷ events) e = grind (arith, cases_Bool, longer, same_others, as_long, more_others, merged_more directed events e)
 
 -- some of the keys is that of e
 abbrev pub has_key : Bool → List Event → Event → Bool
@@ -63,10 +47,7 @@ has_key directed left e = list_any (has_same_pair (ends_key directed e)) (map (e
 -- events of which none has the ends of this one: it comes last
 pub put_last : (directed : Bool) (left : List Event) (e : Event) → has_key directed left e ≡ false → with_event directed left e ≡ left ++ e ∷ []
 put_last directed [] e none = refl
-put_last directed (f ∷ left) e none =
-    let parts = or_parts _ _ none in
-    let other : has_ends_of directed f e ≡ false = sym (key_tells directed f e) ∙ parts.0 in
-    rw (other, put_last directed left e parts.1) refl
+put_last directed (f ∷ left) e none = grind (arith, key_tells, or_parts, put_last directed left e)
 
 -- else it shortens the one at the place of its key
 pub put_there : (directed : Bool) (left : List Event) (e x : Event) (i : ℕ) → has_key directed left e ≡ true
@@ -75,10 +56,7 @@ pub put_there : (directed : Bool) (left : List Event) (e x : Event) (i : ℕ) �
 put_there directed [] e x i has place at = absurd cc
 put_there directed (f ∷ left) e x i has place at =
     elim (cases_Bool (has_same_pair (ends_key directed e) (ends_key directed f))) [
-      | inl is ↦
-          let first : i ≡ 0 = rw is at place in
-          let here : x ≡ f = rw first at at in
-          rw (first, sym (key_tells directed f e) ∙ is, here) refl
+      | inl is ↦ grind (arith, key_tells)
       | inr is ↦
           let rest = position_or_len (has_same_pair (ends_key directed e)) (map (ends_key directed) left) in
           let after : i ≡ suc rest = omega (arith, rw is at place) in
@@ -88,14 +66,9 @@ put_there directed (f ∷ left) e x i has place at =
 
 -- a shortened event keeps its key
 key_stays : (directed : Bool) (f e : Event) → ends_key directed (shortened f e) ≡ ends_key directed f
-key_stays true f e = refl
-key_stays false f e = refl
+key_stays directed f e = grind (arith)
 
 -- and so the keys stay
 pub keys_stay : (directed : Bool) (left : List Event) (e : Event) → has_key directed left e ≡ true → map (ends_key directed) (with_event directed left e) ≡ map (ends_key directed) left
 keys_stay directed [] e has = absurd cc
-keys_stay directed (f ∷ left) e has =
-    elim (cases_Bool (has_same_pair (ends_key directed e) (ends_key directed f))) [
-      | inl is ↦ rw (sym (key_tells directed f e) ∙ is, key_stays directed f e) refl
-      | inr is ↦ rw (sym (key_tells directed f e) ∙ is, keys_stay directed left e (rw is at has)) refl
-    ]
+keys_stay directed (f ∷ left) e has = grind (arith, cases_Bool, key_tells, key_stays, keys_stay directed left e)

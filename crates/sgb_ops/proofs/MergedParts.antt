@@ -1,5 +1,5 @@
 -- Events in parts that share no ends are merged part by part.
-use Rattle.std.proofs.Common.{◌≡◌, ◌<◌, ◌≤◌, ◌+◌, ℕ, zero, suc, Bool, true, false, not, List, [], ◌∷◌, ◌++◌, get_or, refl, ap, ◌∙◌, append-nil, arith}
+use Rattle.std.proofs.Common.{◌≡◌, ◌<◌, ◌≤◌, ◌+◌, ℕ, zero, suc, Bool, not, List, [], ◌∷◌, ◌++◌, get_or, refl, ap, ◌∙◌, append-nil, arith}
 use Rattle.std.specs.Prelude.{All, filter, flat_map}
 use Rattle.std.specs.List.{range_with_len}
 use Rattle.std.proofs.lemmas.Bool.{not_from_false}
@@ -26,10 +26,7 @@ merged_of_both directed (e ∷ xs) ys all =
     let others = λ (f : Event). not (has_ends_of directed e f) in
     let like = filter-append (has_ends_of directed e) xs ys
     ∙ (ap (λ fs. filter (has_ends_of directed e) xs ++ fs) (filter-none (has_ends_of directed e) ys from_e) ∙ append-nil (filter (has_ends_of directed e) xs)) in
-    let rest = ap (filter others) (merged_of_both directed xs ys (All-tail (λ x. All (apart directed x) ys) e xs all))
-    ∙ (filter-append others (merged directed xs) (merged directed ys)
-    ∙ ap (λ fs. filter others (merged directed xs) ++ fs) (all_stay directed e (merged directed ys) (merged_keeps (apart directed e) (λ f far h. h) directed ys from_e))) in
-    rw (like, rest) refl
+    simp (All-tail, apart, filter-append, all_stay, merged_keeps, from_e, others, like, merged_of_both directed xs ys (All-tail (λ x. All (apart directed x) ys) e xs all))
 
 module _ (directed : Bool) (f : ℕ → List Event) (first stop : ℕ) (each : (u w : ℕ) → first ≤ u → u < w → w < stop → AreApart directed (f u) (f w)) where
   -- a part and all that come after it
@@ -43,17 +40,13 @@ module _ (directed : Bool) (f : ℕ → List Event) (first stop : ℕ) (each : (
   merged_of_all : (v count : ℕ) → first ≤ v → v + count ≤ stop → merged directed (flat_map f (range_with_len v count)) ≡ flat_map (λ u. merged directed (f u)) (range_with_len v count)
   unfolding merged
   merged_of_all v zero low few = refl
-  merged_of_all v (suc count) low few =
-      merged_of_both directed (f v) (flat_map f (range_with_len (v + 1) count)) (apart_from_later v (v + 1) count low (omega arith) (omega (arith, few)))
-      ∙ ap (λ es. merged directed (f v) ++ es) (merged_of_all (v + 1) count (omega (arith, low)) (omega (arith, few)))
+  merged_of_all v (suc count) low few = grind (arith, merged_of_both, apart_from_later, merged_of_all (v + 1) count (omega (arith, low)) (omega (arith, few)))
 
 -- all parts, one for each number
 pub merged_parts : (multi directed : Bool) (f : ℕ → List Event) (v count : ℕ) → ((u w : ℕ) → v ≤ u → u < w → w < v + count → AreApart directed (f u) (f w))
     → merged_unless multi directed (flat_map f (range_with_len v count)) ≡ flat_map (λ u. merged_unless multi directed (f u)) (range_with_len v count)
-merged_parts true directed f v count each = refl
-merged_parts false directed f v count each = merged_of_all directed f v (v + count) each v count (omega arith) (omega arith)
+merged_parts multi directed f v count each = grind (arith, merged_of_all)
 
 -- parts one after another
 pub merged_both : (multi directed : Bool) (xs ys : List Event) → AreApart directed xs ys → merged_unless multi directed (xs ++ ys) ≡ merged_unless multi directed xs ++ merged_unless multi directed ys
-merged_both true directed xs ys all = refl
-merged_both false directed xs ys all = merged_of_both directed xs ys all
+merged_both multi directed xs ys all = grind (arith, merged_of_both)

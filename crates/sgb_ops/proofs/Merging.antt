@@ -1,5 +1,5 @@
 -- What is known of merged events.
-use Rattle.std.proofs.Common.{◌≡◌, ◌+◌, ◌⊎◌, ◌≤ℤ◌, ℕ, ℤ, pos, Bool, true, false, not, ◌||◌, List, [], ◌∷◌, ◌++◌, map, take, length, get_or, fold, refl, sym, ap, ◌∙◌, subst, inl, inr, arith}
+use Rattle.std.proofs.Common.{◌≡◌, ◌+◌, ◌≤ℤ◌, ℕ, ℤ, pos, Bool, true, false, not, ◌||◌, List, [], ◌∷◌, ◌++◌, map, take, length, fold, refl, sym, ap, ◌∙◌, subst, inl, inr, arith, rules}
 use Rattle.std.specs.Prelude.{All, AllPairs, Contains, filter, flat_map, if◌then◌else◌}
 use Rattle.std.specs.List.{list_any, enumerate_from}
 use Rattle.std.proofs.lemmas.Bool.{cases_Bool, not-true, not_from_false}
@@ -7,12 +7,12 @@ use Rattle.std.proofs.lemmas.Int.{fold-int_min_bounds, fold-int_min_reached}
 use Rattle.std.proofs.lemmas.List.{append_assoc, length-append, take_at}
 use Rattle.std.proofs.lemmas.List.Elements.{All-nil, All-cons, All-head, All-tail, All-contains, All-filter, All-contains_itself, filter_passes, filter-append}
 use Rattle.std.proofs.lemmas.List.Kept.{AllPairs-filter, AllPairs-cons}
-use Rattle.sgb_vec.proofs.Lists.{Contains-first, Contains-other, Contains-none, Contains-cases, Contains-image, Contains-passing}
+use Rattle.sgb_vec.proofs.Lists.{Contains-first, Contains-other, Contains-none, Contains-cases, Contains-image, Contains-passing, same_tests}
 use Rattle.sgb_graph.specs.Events.{Event}
 use Rattle.std.specs.Int.{int_min}
 use Rattle.sgb_ops.specs.Merged.{has_ends_of, merged, named_ends, first_ones, IsShortest}
 use Rattle.sgb_ops.specs.inner.Merged.{with_least_length}
-use Rattle.sgb_ops.proofs.Ends.{own_ends, ends_turned, ends_joined, ends_either_way}
+use Rattle.sgb_ops.proofs.Ends.{own_ends, ends_turned, ends_joined}
 
 -- the events do not have the same ends
 abbrev pub apart : Bool → Event → Event → Type 0
@@ -26,33 +26,24 @@ others directed e events = λ k d h. not-true _ (filter_passes (λ f. not (has_e
 pub merged_keeps : (P : Event → Type 0) → ((e : Event) (far : ℤ) → P e → P (record e { len = far })) → (directed : Bool) (events : List Event) → All P events → All P (merged directed events)
 unfolding merged
 merged_keeps P same directed [] all = All-nil P
-merged_keeps P same directed (e ∷ events) all =
-    All-cons P (with_least_length directed e events) (filter (λ f. not (has_ends_of directed e f)) (merged directed events)) (same e (with_least_length directed e events).len (All-head P e events all))
-    (All-filter (λ f. not (has_ends_of directed e f)) P (merged directed events) (merged_keeps P same directed events (All-tail P e events all)))
+merged_keeps P same directed (e ∷ events) all = search (rules, All-cons, All-head, All-filter, All-tail, with_least_length, has_ends_of, merged, merged_keeps P same directed events (All-tail P e events all))
 
 -- no two merged events have the same ends
 pub merged_apart : (directed : Bool) (events : List Event) → AllPairs (apart directed) (merged directed events)
 unfolding merged
 merged_apart directed [] = λ i j d h k. absurd (omega (arith, h, k))
-merged_apart directed (e ∷ events) =
-    AllPairs-cons (apart directed) (with_least_length directed e events) _ (others directed e (merged directed events))
-    (AllPairs-filter (apart directed) (λ f. not (has_ends_of directed e f)) (merged directed events) (merged_apart directed events))
+merged_apart directed (e ∷ events) = search (rules, AllPairs-cons, apart, others, AllPairs-filter, with_least_length, merged, has_ends_of, merged_apart directed events)
 
 -- the element that a made one was made of
 made_of : {X Y : Type 0} (f : X → Y) (xs : List X) (y : Y) → Contains (map f xs) y → (x : X) × Contains xs x × (f x ≡ y)
 made_of f [] y has = absurd (Contains-none y has)
-made_of f (a ∷ xs) y has = by_place (Contains-cases (f a) y (map f xs) has) (made_of f xs y)
-  where
-    by_place : (f a ≡ y) ⊎ Contains (map f xs) y → (Contains (map f xs) y → (x : _) × Contains xs x × (f x ≡ y)) → (x : _) × Contains (a ∷ xs) x × (f x ≡ y)
-    by_place (inl here) rest = (a, Contains-first a xs, here)
-    by_place (inr there) rest = let of = rest there in (of.0, Contains-other a of.0 xs of.1, of.2)
+made_of f (a ∷ xs) y has = grind (arith, Contains-cases, Contains-first, Contains-other, made_of f xs y)
 
 -- a fact on what is made of the elements that pass a test
 below_kept : (p : Event → Bool) (r : ℤ) (events : List Event) → All (λ x. r ≤ℤ x) (map (λ (f : Event). f.len) (filter p events)) → All (λ f. p f ≡ true → r ≤ℤ f.len) events
 below_kept p r events all = λ k d h kept.
-    let x = get_or events k d in
-    All-contains (λ y. r ≤ℤ y) (map (λ (f : Event). f.len) (filter p events)) x.len all
-    (Contains-image (λ (f : Event). f.len) (filter p events) x (Contains-passing p events x kept (All-contains_itself events k d h)))
+    All-contains (λ y. r ≤ℤ y) (map (λ (f : Event). f.len) (filter p events)) _ all
+    (Contains-image (λ (f : Event). f.len) (filter p events) _ (Contains-passing p events _ kept (All-contains_itself events k d h)))
 
 -- the first of merged events is as short as the shortest with its ends
 first_is_shortest : (directed : Bool) (e : Event) (events : List Event) → IsShortest directed (e ∷ events) (with_least_length directed e events)
@@ -77,21 +68,14 @@ first_is_shortest directed e events =
 
 -- one that stays so with an event in front that has not its ends
 stays_shortest : (directed : Bool) (e : Event) (events : List Event) (f : Event) → apart directed e f → IsShortest directed events f → IsShortest directed (e ∷ events) f
-stays_shortest directed e events f other short = record {
-  one = (short.one.0, Contains-other e short.one.0 events short.one.1, short.one.2, short.one.3);
-  least = All-cons (λ x. has_ends_of directed f x ≡ true → f.len ≤ℤ x.len) e events (λ h. absurd (no h)) short.least;
-}
-  where
-    no : has_ends_of directed f e ≡ true → ⊥
-    no h = let turned = ends_turned directed f e h in absurd cc
+stays_shortest directed e events f other short = grind (arith, Contains-other, All-cons, ends_turned)
 
 pub merged_shortest : (directed : Bool) (events : List Event) → All (IsShortest directed events) (merged directed events)
 unfolding merged
 merged_shortest directed [] = All-nil (IsShortest directed [])
 merged_shortest directed (e ∷ events) =
     let rest = merged directed events in
-    let without = filter (λ f. not (has_ends_of directed e f)) rest in
-    All-cons (IsShortest directed (e ∷ events)) (with_least_length directed e events) without (first_is_shortest directed e events)
+    All-cons (IsShortest directed (e ∷ events)) _ _ (first_is_shortest directed e events)
     (λ k d h. stays_shortest directed e events _ (others directed e rest k d h)
     (All-filter (λ f. not (has_ends_of directed e f)) (IsShortest directed events) rest (merged_shortest directed events) k d h))
 
@@ -122,35 +106,22 @@ firsts_after directed before (x ∷ events) =
 first_at_places : (directed : Bool) (all before events : List Event) (k : ℕ) → all ≡ before ++ events → k ≡ length before
     → flat_map (λ p. if list_any (has_ends_of directed p.1) (take p.0 all) then [] else p.1 ∷ []) (enumerate_from k events) ≡ firsts_after directed before events
 first_at_places directed all before [] k is place = refl
-first_at_places directed all before (x ∷ events) k is place =
-    let next = first_at_places directed all (before ++ x ∷ []) events (k + 1) (is ∙ sym (append_assoc before (x ∷ []) events)) (omega (arith, length-append before (x ∷ []))) in
-    let earlier : take k all ≡ before = ap (take k) is ∙ take_at before (x ∷ events) k (sym place) in
-    rw (earlier, next) refl
+first_at_places directed all before (x ∷ events) k is place = grind (arith, append_assoc, length-append, take_at, first_at_places directed all (before ++ x ∷ []) events (k + 1) (is ∙ sym (append_assoc before (x ∷ []) events)) (omega (arith, length-append before (x ∷ []))))
 
 -- of the first ones after e those that have not its ends are left
 one_less : (directed : Bool) (e x : Event) (b c : Bool) → has_ends_of directed x e ≡ b
     → (if b || c then [] else x ∷ []) ≡ filter (λ f. not (has_ends_of directed e f)) (if c then [] else x ∷ [])
-one_less directed e x true true is = refl
-one_less directed e x false true is = refl
-one_less directed e x true false is = let turned : has_ends_of directed e x ≡ true = ends_either_way directed e x ∙ is in rw turned refl
-one_less directed e x false false is = let turned : has_ends_of directed e x ≡ false = ends_either_way directed e x ∙ is in rw turned refl
+one_less directed e x b c is = grind (arith, same_tests, ends_turned)
 
 firsts_without : (directed : Bool) (e : Event) (before events : List Event)
     → firsts_after directed (e ∷ before) events ≡ filter (λ f. not (has_ends_of directed e f)) (firsts_after directed before events)
 firsts_without directed e before [] = refl
-firsts_without directed e before (x ∷ events) =
-    let now = one_less directed e x (has_ends_of directed x e) (list_any (has_ends_of directed x) before) refl in
-    let next = firsts_without directed e (before ++ x ∷ []) events in
-    let parts = filter-append (λ f. not (has_ends_of directed e f)) (if list_any (has_ends_of directed x) before then [] else x ∷ []) (firsts_after directed (before ++ x ∷ []) events) in
-    ap (λ xs. xs ++ firsts_after directed (e ∷ (before ++ x ∷ [])) events) now
-    ∙ (ap (λ ys. filter (λ f. not (has_ends_of directed e f)) (if list_any (has_ends_of directed x) before then [] else x ∷ []) ++ ys) next ∙ sym parts)
+firsts_without directed e before (x ∷ events) = grind (arith, one_less, filter-append, firsts_after, firsts_without directed e (before ++ x ∷ []) events)
 
 -- what a test of the ends keeps, seen by the ends
 ends_kept : (t : ℕ × ℕ → Bool) (events : List Event) → map named_ends (filter (λ f. t (named_ends f)) events) ≡ filter t (map named_ends events)
 ends_kept t [] = refl
-ends_kept t (e ∷ events) =
-    let rest = ends_kept t events in
-    elim (cases_Bool (t (named_ends e))) [ inl kept ↦ rw kept (ap (λ xs. named_ends e ∷ xs) rest) | inr out ↦ rw out rest ]
+ends_kept t (e ∷ events) = grind (arith, cases_Bool, ends_kept t events)
 
 -- an event at the ends
 abbrev at_ends : ℕ × ℕ → Event
@@ -161,10 +132,7 @@ unfolding merged
 merged_after directed [] = refl
 merged_after directed (e ∷ events) =
     let t = λ (p : ℕ × ℕ). not (has_ends_of directed e (at_ends p)) in
-    let left = ends_kept t (merged directed events) in
-    let right = ends_kept t (firsts_after directed [] events) in
-    ap (λ xs. named_ends e ∷ xs)
-    (left ∙ (ap (filter t) (merged_after directed events) ∙ (sym right ∙ ap (map named_ends) (sym (firsts_without directed e [] events)))))
+    grind (arith, firsts_without, t, ends_kept t, merged_after directed events)
 
 -- the ends that are left are those of the first ones
 pub merged_first : (directed : Bool) (events : List Event) → map named_ends (merged directed events) ≡ map named_ends (first_ones directed events)

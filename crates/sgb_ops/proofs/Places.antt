@@ -1,5 +1,5 @@
 -- What is done place by place, or arc by arc, as events that are added one after another.
-use Rattle.std.proofs.Common.{rules, ◌≡◌, ℕ, ℤ, Option, Some, ◌+◌, ◌<◌, ◌≤◌, Bool, List, [], ◌∷◌, ◌++◌, ap, subst, ◌∙◌}
+use Rattle.std.proofs.Common.{rules, ◌≡◌, ℕ, ℤ, Option, Some, ◌+◌, ◌<◌, ◌≤◌, Bool, List, [], ◌∷◌, ◌++◌, ap, subst, ◌∙◌, arith}
 use Rattle.std.specs.Iterator.{YieldsFirst}
 use Rattle.std.specs.List.{All, range_with_len}
 use Rattle.std.proofs.lemmas.List.Elements.{All-head, All-tail}
@@ -24,8 +24,7 @@ module _ (directed : Bool) (old now : GraphData) (events : List ℕ → List Eve
   -- those of place i are added
   pub place_added : (new : GraphData) (es : List Event) → i < n → PlacesLeft directed old now events n i → AddsEvents directed now new es
       → events (i ∷ places_from n (i + 1)) ≡ es ++ events (places_from n (i + 1)) → PlacesLeft directed old new events n (i + 1)
-  place_added new es below left added is =
-      up_to-more directed old now new es (events (places_from n (i + 1))) (events (places_from n 0)) (events (places_from n i)) left (ap events (places-next n i below) ∙ is) added
+  place_added new es below left added is = grind (arith, up_to-more, places_from, places-next)
 
   -- those of all places are added
   pub places_added : n ≤ i → PlacesLeft directed old now events n i → events [] ≡ [] → AddsEvents directed old now (events (range_with_len 0 n))

@@ -1,5 +1,5 @@
 -- Plain lists: places one after another, and a list that grows part by part.
-use Rattle.std.proofs.Common.{◌≡◌, ℕ, suc, ◌+◌, ◌-◌, ◌<◌, ◌≤◌, List, [], ◌∷◌, ◌++◌, map, sym, ap, ◌∙◌, append_assoc, append-nil, arith}
+use Rattle.std.proofs.Common.{◌≡◌, ℕ, ◌+◌, ◌-◌, ◌<◌, ◌≤◌, List, [], ◌∷◌, ◌++◌, map, sym, ap, ◌∙◌, append_assoc, append-nil, arith}
 use Rattle.std.specs.List.{range_with_len}
 use Rattle.std.proofs.lemmas.List.FromFn.{map-range_with_len_more}
 
@@ -8,19 +8,13 @@ abbrev pub places_from : ℕ → ℕ → List ℕ
 places_from n i = range_with_len i (n - i)
 
 pub places-next : (n i : ℕ) → i < n → places_from n i ≡ i ∷ places_from n (i + 1)
-places-next n i below =
-    let count : n - i ≡ suc (n - (i + 1)) = omega (arith, below) in
-    ap (range_with_len i) count
+places-next n i below = grind (arith)
 
 pub places-none : (n i : ℕ) → n ≤ i → places_from n i ≡ []
-places-none n i past =
-    let count : n - i ≡ 0 = omega (arith, past) in
-    ap (range_with_len i) count
+places-none n i past = grind (arith)
 
 pub places-all : (n : ℕ) → places_from n 0 ≡ range_with_len 0 n
-places-all n =
-    let count : n - 0 ≡ n = omega arith in
-    ap (range_with_len 0) count
+places-all n = grind (arith)
 
 -- with the parts that are left it is all: one part more
 pub part_more : {X : Type 0} (now new part rest left all : List X) → left ≡ part ++ rest → now ++ left ≡ all → new ≡ now ++ part → new ++ rest ≡ all

@@ -1,5 +1,5 @@
 -- Refusals that come before memory is taken.
-use Rattle.std.proofs.Common.{◌≡◌, ◌∙◌, ℤ, Bool, true, false, Result, Ok, Err, if◌then◌else◌, refl, ap}
+use Rattle.std.proofs.Common.{◌≡◌, ℤ, Bool, true, false, Result, Ok, Err, if◌then◌else◌, refl, ap}
 use Rattle.sgb_vec.specs.declared.panics.Panic.{Panic}
 use Rattle.sgb_vec.specs.declared.panics.Panic.TheVariants.{VeryBad}
 use Rattle.sgb_graph.specs.Descriptions.{Description}
@@ -14,9 +14,7 @@ not_refused r x e ok err = cc
 
 -- one refusal
 pub same_refusal : {T S : Type 0} (r : Result T Panic) (f e : Panic) (result : Result S Panic) → r ≡ Err f → result ≡ Err f → r ≡ Err e → result ≡ Err e
-same_refusal {S = S} r f e result is given also =
-    let same : f ≡ e = cc in
-    given ∙ ap (λ x. Err x) same
+same_refusal r f e result is given also = cc
 
 -- a product of few pairs
 abbrev of_pairs : (g h : GraphData) (kind : ℤ) (d many : Bool) → Result Description Panic

@@ -1,12 +1,12 @@
 -- Events in parts, each of which begins at vertices before those of all later parts: they share no ends.
-use Rattle.std.proofs.Common.{◌≡◌, ◌<◌, ◌≤◌, ◌+◌, ℕ, Bool, false, List, [], ◌∷◌, ◌++◌, get_or, refl, sym, ap, ◌∙◌, arith}
+use Rattle.std.proofs.Common.{◌≡◌, ◌<◌, ◌≤◌, ◌+◌, ℕ, Bool, false, List, [], ◌∷◌, ◌++◌, refl, sym, ap, ◌∙◌, arith}
 use Rattle.std.specs.Prelude.{All, flat_map}
 use Rattle.std.specs.List.{range_with_len}
 use Rattle.std.proofs.lemmas.List.Elements.{All-filter, filter-append}
 use Rattle.sgb_vec.proofs.Lists.{never_true}
 use Rattle.sgb_graph.specs.Events.{Event}
 use Rattle.sgb_ops.specs.inner.Induced.{is_wanted, wanted}
-use Rattle.sgb_ops.specs.Merged.{has_ends_of, merged_unless}
+use Rattle.sgb_ops.specs.Merged.{merged_unless}
 use Rattle.sgb_ops.proofs.Ends.{ends}
 use Rattle.sgb_ops.proofs.MergedParts.{AreApart, merged_parts}
 
@@ -17,11 +17,8 @@ Rises directed a b e = (a ≤ e.from) × (e.from < b) × (directed ≡ false →
 pub rises_wider : (directed : Bool) (a b c d : ℕ) (e : Event) → a ≤ c → d ≤ b → Rises directed c d e → Rises directed a b e
 rises_wider directed a b c d e low high r = (omega (arith, low, r.0), omega (arith, high, r.1), λ same. omega (arith, low, r.2 same))
 
-rising_apart : (directed : Bool) (a b c d : ℕ) (e f : Event) → b ≤ c → Rises directed a b e → Rises directed c d f → has_ends_of directed e f ≡ false
-rising_apart directed a b c d e f after one two = grind (arith, never_true, ends)
-
 parts_apart : (directed : Bool) (a b c d : ℕ) (xs ys : List Event) → b ≤ c → All (Rises directed a b) xs → All (Rises directed c d) ys → AreApart directed xs ys
-parts_apart directed a b c d xs ys after one two = λ k x h j y g. rising_apart directed a b c d (get_or xs k x) (get_or ys j y) after (one k x h) (two j y g)
+parts_apart directed a b c d xs ys after one two = grind (arith, never_true, ends)
 
 -- the wanted ones are those of each part
 wanted_parts : (self : Bool) (f : ℕ → List Event) (ks : List ℕ) → wanted self (flat_map f ks) ≡ flat_map (λ k. wanted self (f k)) ks
@@ -34,8 +31,8 @@ pub merged_rising : (self multi directed : Bool) (f : ℕ → List Event) (low :
     → ((u w : ℕ) → u < w → low (u + 1) ≤ low w)
     → flat_map (λ u. merged_unless multi directed (wanted self (f u))) (range_with_len v count) ≡ merged_unless multi directed (wanted self (flat_map f (range_with_len v count)))
 merged_rising self multi directed f low v count each order =
-    sym (ap (merged_unless multi directed) (wanted_parts self f (range_with_len v count))
-    ∙ merged_parts multi directed (λ u. wanted self (f u)) v count
+    rw (wanted_parts self f (range_with_len v count))
+    (sym (merged_parts multi directed (λ u. wanted self (f u)) v count
     (λ u w from less to. parts_apart directed (low u) (low (u + 1)) (low w) (low (w + 1)) (wanted self (f u)) (wanted self (f w)) (order u w less)
     (All-filter (is_wanted self) (Rises directed (low u) (low (u + 1))) (f u) (each u from (omega (arith, less, to))))
-    (All-filter (is_wanted self) (Rises directed (low w) (low (w + 1))) (f w) (each w (omega (arith, from, less)) to))))
+    (All-filter (is_wanted self) (Rises directed (low w) (low (w + 1))) (f w) (each w (omega (arith, from, less)) to)))))

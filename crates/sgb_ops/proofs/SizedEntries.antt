@@ -1,5 +1,5 @@
 -- Entries without the graphs that they put in: they make the same vertices, and the same events between copies.
-use Rattle.std.proofs.Common.{rules, ◌≡◌, ◌∙◌, ℕ, zero, suc, Bool, List, [], ◌∷◌, map, take, refl, ap, arith}
+use Rattle.std.proofs.Common.{◌≡◌, ℕ, zero, suc, Bool, List, [], ◌∷◌, map, take, refl, ap, arith}
 use Rattle.std.specs.Prelude.{filter}
 use Rattle.std.specs.List.{list_any}
 use Rattle.std.proofs.lemmas.List.Sums.{sum_by-cons}
@@ -8,7 +8,6 @@ use Rattle.sgb_graph.specs.Graphs.{GraphData}
 use Rattle.sgb_graph.specs.declared.fields.Link.{Link}
 use Rattle.sgb_gen.proofs.AllVectors.{flat_map-same}
 use Rattle.sgb_ops.specs.declared.entries.Entry.{Entry}
-use Rattle.sgb_ops.specs.declared.entries.Entry.TheVariants as entry
 use Rattle.sgb_ops.specs.Entries.{copies_by, copies_of, first_copy, is_unnumbered, merged_count, merged_number, size_of_entry}
 use Rattle.sgb_ops.specs.Induced.{events_between}
 use Rattle.sgb_graph.specs.Vertices.{places_of}
@@ -19,14 +18,12 @@ use Rattle.sgb_ops.specs.inner.Induced.{event_between, events_of_arc, events_of_
 
 -- one entry
 one_sized : (e : Entry) → (size_of_entry (sized e) ≡ size_of_entry e) × (merged_number (sized e) ≡ merged_number e) × (is_unnumbered (sized e) ≡ is_unnumbered e) × ((start : ℕ) → copies_by start (sized e) ≡ copies_by start e)
-one_sized (entry.Copies k) = (refl, refl, refl, λ start. refl)
-one_sized (entry.Graph inner) = (refl, refl, refl, λ start. refl)
-one_sized (entry.Merged k) = (refl, refl, refl, λ start. refl)
+one_sized e = grind (arith)
 
 -- all of them
 pub merged_sized : (es : List Entry) → merged_count (map sized es) ≡ merged_count es
 merged_sized [] = refl
-merged_sized (e ∷ es) = rw ((one_sized e).1, merged_sized es) refl
+merged_sized (e ∷ es) = grind (arith, one_sized, merged_sized es)
 
 pub numbered_sized : (es : List Entry) → list_any is_unnumbered (map sized es) ≡ list_any is_unnumbered es
 numbered_sized [] = refl
@@ -41,15 +38,12 @@ total_sized es = omega (arith, merged_sized es, own_sized es)
 
 -- where the copies of a vertex begin, and which they are
 taken_sized : (es : List Entry) (v : ℕ) → own_total (take v (map sized es)) ≡ own_total (take v es)
-taken_sized es zero = refl
-taken_sized [] (suc v) = refl
+taken_sized [] v = grind arith
+taken_sized (e ∷ es) zero = refl
 taken_sized (e ∷ es) (suc v) = omega (arith, sum_by-cons size_of_entry (sized e) (take v (map sized es)), sum_by-cons size_of_entry e (take v es), (one_sized e).0, taken_sized es v)
 
-pub first_sized : (es : List Entry) (v : ℕ) → first_copy (map sized es) v ≡ first_copy es v
-first_sized es v = omega (arith, merged_sized es, taken_sized es v)
-
 pub copies_sized : (es : List Entry) (v : ℕ) → copies_of (map sized es) v ≡ copies_of es v
-copies_sized es v = search (rules, slice_get-map, first_sized, one_sized)
+copies_sized es v = grind (arith, slice_get-map, one_sized, merged_sized, taken_sized)
 
 -- the events between them
 module _ (g : GraphData) (es : List Entry) (directed : Bool) where
@@ -67,4 +61,4 @@ module _ (g : GraphData) (es : List Entry) (directed : Bool) where
 
 -- the first copy that is looked up
 pub first_read : (es copies : List Entry) (v first : ℕ) → copies ≡ map sized es → first ≡ first_copy copies v → first ≡ first_copy es v
-first_read es copies v first are is = is ∙ (ap (λ xs. first_copy xs v) are ∙ first_sized es v)
+first_read es copies v first are is = grind (arith, merged_sized, taken_sized)

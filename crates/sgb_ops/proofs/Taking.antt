@@ -1,5 +1,5 @@
 -- What is known of the arcs taken of a list.
-use Rattle.std.proofs.Common.{rules, ◌≡◌, ◌+◌, ◌*◌, ◌≤◌, ◌<◌, ◌==◌, ℕ, ℤ, min, max, Bool, true, false, ◌&&◌, cond, ltb, nat_lt, List, [], ◌∷◌, ◌++◌, map, reverse, length, refl, sym, ap, ◌∙◌, Option, Some, None, arith}
+use Rattle.std.proofs.Common.{rules, ◌≡◌, ◌+◌, ◌*◌, ◌≤◌, ◌<◌, ◌==◌, ℕ, ℤ, min, max, Bool, true, false, cond, ltb, nat_lt, List, [], ◌∷◌, ◌++◌, map, reverse, length, refl, sym, ap, ◌∙◌, Option, Some, None, arith}
 use Rattle.std.specs.Prelude.{All, filter, if◌then◌else◌}
 use Rattle.std.specs.List.{enumerate_from}
 use Rattle.std.specs.Option.{option_map_or}
@@ -12,7 +12,7 @@ use Rattle.sgb_graph.specs.Growth.{link}
 use Rattle.sgb_graph.proofs.EventLemmas.{record_from}
 use Rattle.sgb_graph.specs.declared.fields.Link.{Link}
 use Rattle.sgb_ops.specs.Taken.{each_edge_once, taken, lower_record, edges_up_from}
-use Rattle.sgb_ops.specs.inner.TakenArcs.{IsStep, taken_after, without_other, is_loop_with}
+use Rattle.sgb_ops.specs.inner.TakenArcs.{IsStep, taken_after, without_other}
 
 -- an arc of the list of v that leads to no vertex before it
 abbrev leads_up : ℕ → Link → Type 0
@@ -22,32 +22,16 @@ leads_up v l = v ≤ l.tip
 pub all_once : (P : Link → Type 0) (v : ℕ) (links : List Link) → All (λ l. v ≤ l.tip → P l) links → All P (each_edge_once v links)
 unfolding each_edge_once
 all_once P v [] all = All-nil P
-all_once P v (l ∷ []) all =
-    cond_both (ltb l.tip v) [] (l ∷ []) (All P) (λ _. All-nil P) (λ e. All-cons P l [] (All-head (λ m. v ≤ m.tip → P m) l [] all (ltb-false l.tip v e)) (All-nil P))
-all_once P v (l ∷ k ∷ links) all =
-    let after = All-tail (λ m. v ≤ m.tip → P m) l (k ∷ links) all in
-    let next = all_once P v (k ∷ links) after in
-    let later = all_once P v links (All-tail (λ m. v ≤ m.tip → P m) k links after) in
-    let rest = if is_loop_with v l k then each_edge_once v links else each_edge_once v (k ∷ links) in
-    cond_both (ltb l.tip v) (each_edge_once v (k ∷ links)) (l ∷ rest) (All P) (λ _. next)
-    (λ e. All-cons P l rest (All-head (λ m. v ≤ m.tip → P m) l (k ∷ links) all (ltb-false l.tip v e)) (cond_both (is_loop_with v l k) (each_edge_once v links) (each_edge_once v (k ∷ links)) (All P) (λ _. later) (λ _. next)))
+all_once P v (l ∷ []) all = grind (arith, All-nil, cond_both, ltb, All-cons, All-head, ltb-false)
+all_once P v (l ∷ k ∷ links) all = grind (arith, All-tail, cond_both, ltb, All-cons, All-head, ltb-false, all_once P v (k ∷ links) (All-tail (λ m. v ≤ m.tip → P m) l (k ∷ links) all), all_once P v links (All-tail (λ m. v ≤ m.tip → P m) k links (All-tail (λ m. v ≤ m.tip → P m) l (k ∷ links) all)))
 
 -- they lead up
 pub each_edge_once_leads_up : (v : ℕ) (links : List Link) → All (leads_up v) (each_edge_once v links)
 each_edge_once_leads_up v links = all_once (leads_up v) v links (λ k d h up. up)
 
--- a list of arcs cut in two where no number is followed by the next: what is taken of each part
-apart_at : (v : ℕ) (skip loop : Bool) (l : Link) (one two three four rest : List Link) → one ≡ two ++ rest → three ≡ four ++ rest
-    → (if skip then one else l ∷ (if loop then three else one)) ≡ (if skip then two else l ∷ (if loop then four else two)) ++ rest
-apart_at v true loop l one two three four rest p q = p
-apart_at v false true l one two three four rest p q = ap (λ xs. l ∷ xs) q
-apart_at v false false l one two three four rest p q = ap (λ xs. l ∷ xs) p
-
--- the last arc of the first part leaves out none of the second
-last_alone : (v : ℕ) (skip : Bool) (l : Link) (rest : List Link)
-    → (if skip then rest else l ∷ rest) ≡ (if skip then [] else l ∷ []) ++ rest
-last_alone v true l rest = refl
-last_alone v false l rest = refl
+-- and so do the arcs that are taken of v for an undirected result
+pub taken_up : (directed : Bool) (g : GraphData) (v : ℕ) → All (λ l. directed ≡ false → v ≤ l.tip) (taken directed g v)
+taken_up directed g v = grind (arith, each_edge_once_leads_up)
 
 -- taken of two lists, one after the other
 taken_apart : (v low : ℕ) (xs ys : List Link) → All (λ l. low ≤ l.number) xs → All (λ l. l.number < low) ys
@@ -55,17 +39,8 @@ taken_apart : (v low : ℕ) (xs ys : List Link) → All (λ l. low ≤ l.number)
 unfolding each_edge_once
 taken_apart v low [] ys high below = refl
 taken_apart v low (l ∷ []) [] high below = sym (append-nil (each_edge_once v (l ∷ [])))
-taken_apart v low (l ∷ []) (y ∷ ys) high below =
-    let one = All-head (λ m. low ≤ m.number) l [] high in
-    let two = All-head (λ m. m.number < low) y ys below in
-    let not_next : (y.number == l.number + 1) ≡ false = ne_eqb y.number (l.number + 1) (λ e. absurd (omega arith)) in
-    let no : is_loop_with v l y ≡ false = and_right (l.tip == v) (y.number == l.number + 1) not_next in
-    rw no (last_alone v (nat_lt l.tip v) l (each_edge_once v (y ∷ ys)))
-taken_apart v low (l ∷ m ∷ xs) ys high below =
-    let after = All-tail (λ x. low ≤ x.number) l (m ∷ xs) high in
-    apart_at v (nat_lt l.tip v) (is_loop_with v l m) l _ _ _ _ (each_edge_once v ys)
-    (taken_apart v low (m ∷ xs) ys after below)
-    (taken_apart v low xs ys (All-tail (λ x. low ≤ x.number) m xs after) below)
+taken_apart v low (l ∷ []) (y ∷ ys) high below = grind (arith, All-head, ne_eqb, and_right, nat_lt)
+taken_apart v low (l ∷ m ∷ xs) ys high below = grind (arith, All-tail, nat_lt, taken_apart v low (m ∷ xs) ys (All-tail (λ x. low ≤ x.number) l (m ∷ xs) high) below, taken_apart v low xs ys (All-tail (λ x. low ≤ x.number) m xs (All-tail (λ x. low ≤ x.number) l (m ∷ xs) high)) below)
 
 -- of the records of one edge the lower one is taken, at the smaller end
 one_edge : (v k a b : ℕ) (far : ℤ) → a ≤ b
@@ -76,13 +51,7 @@ one_edge v k a b far up = search (rules, cases_eq, eq-eqb, le-ltb, ne_eqb, lt-lt
 -- the numbers of the links of some rows
 numbers_at : (v k : ℕ) (rows : List Record) → All (λ l. (k ≤ l.number) × (l.number < k + length rows)) (links_at v k rows)
 numbers_at v k [] = All-nil _
-numbers_at v k (r ∷ rows) =
-    All-append In (if r.start == v then link k r.tip r.len ∷ [] else []) (links_at v (k + 1) rows)
-    (cond_both (r.start == v) (link k r.tip r.len ∷ []) [] (All In) (λ _. All-cons In (link k r.tip r.len) [] (omega arith, omega arith) (All-nil In)) (λ _. All-nil In))
-    (All-weaker (λ l. (k + 1 ≤ l.number) × (l.number < k + 1 + length rows)) In (λ l p. (omega (arith, p.0), omega (arith, p.1))) (links_at v (k + 1) rows) (numbers_at v (k + 1) rows))
-  where
-    In : Link → Type 0
-    In l = (k ≤ l.number) × (l.number < k + length (r ∷ rows))
+numbers_at v k (r ∷ rows) = grind (arith, All-append, cond_both, All-cons, All-nil, All-weaker, numbers_at v (k + 1) rows)
 
 -- the numbers on the list of events whose first record has number k
 numbers_from_first : (k : ℕ) (events : List Event) (v : ℕ) → All (λ l. k ≤ l.number) (list_from false k events v)
@@ -124,51 +93,33 @@ taken_of_edges events g v has below = ap (each_edge_once v) (has.lists v below) 
 abbrev pub is_other : Option ℕ → ℕ → Bool
 is_other after_loop number = option_map_or (λ k. number == k + 1) after_loop false
 
--- an arc that follows no loop with its number is not left out
-kept_after : (after_loop : Option ℕ) (l : Link) (links : List Link) → is_other after_loop l.number ≡ false → without_other after_loop (l ∷ links) ≡ l ∷ links
-kept_after None l links out = refl
-kept_after (Some k) l links out = rw out refl
-
 -- the other record of a loop is passed over
 pub step_other : (directed : Bool) (v : ℕ) (after_loop : Option ℕ) (l : Link) → is_other after_loop l.number ≡ true → IsStep directed v after_loop l false None
-step_other directed v None l is = absurd cc
-step_other directed v (Some k) l is = λ links. rw is refl
+step_other directed v after_loop l is = grind (arith)
 
 -- each other arc is taken for a directed result
 pub step_directed : (v : ℕ) (after_loop : Option ℕ) (l : Link) → is_other after_loop l.number ≡ false → IsStep true v after_loop l true None
-step_directed v after_loop l out = λ links. kept_after after_loop l links out
+step_directed v after_loop l out = grind (arith)
 
 -- one arc of the list of an undirected graph
 one_taken : (v : ℕ) (l : Link) (links : List Link)
     → each_edge_once v (l ∷ links) ≡ (if nat_lt l.tip v then each_edge_once v links else l ∷ each_edge_once v (without_other (if l.tip == v then Some l.number else None) links))
 unfolding each_edge_once
-one_taken v l [] =
-    elim (l.tip == v) as (λ b. (if nat_lt l.tip v then [] else l ∷ []) ≡ (if nat_lt l.tip v then [] else l ∷ each_edge_once v (without_other (if b then Some l.number else None) []))) [ true ↦ refl | false ↦ refl ]
-one_taken v l (k ∷ links) = by_test (l.tip == v)
-  where
-    by_test : (b : Bool) → (if nat_lt l.tip v then each_edge_once v (k ∷ links) else l ∷ (if b && (k.number == l.number + 1) then each_edge_once v links else each_edge_once v (k ∷ links)))
-        ≡ (if nat_lt l.tip v then each_edge_once v (k ∷ links) else l ∷ each_edge_once v (without_other (if b then Some l.number else None) (k ∷ links)))
-    by_test true =
-        ap (λ xs. if nat_lt l.tip v then each_edge_once v (k ∷ links) else l ∷ xs)
-        (elim (k.number == l.number + 1) as (λ b. (if b then each_edge_once v links else each_edge_once v (k ∷ links)) ≡ each_edge_once v (if b then links else k ∷ links)) [ true ↦ refl | false ↦ refl ])
-    by_test false = refl
+one_taken v l links = grind (arith, nat_lt)
 
 -- an arc to a vertex before v is passed over
 pub step_down : (v : ℕ) (after_loop : Option ℕ) (l : Link) → is_other after_loop l.number ≡ false → l.tip < v → IsStep false v after_loop l false None
-step_down v after_loop l out down = λ links. rw (kept_after after_loop l links out, one_taken v l links, lt-ltb l.tip v down) refl
+step_down v after_loop l out down = grind (arith, one_taken, lt-ltb)
 
 -- of a loop the first record is taken
 pub step_loop : (v : ℕ) (after_loop : Option ℕ) (l : Link) → is_other after_loop l.number ≡ false → l.tip ≡ v → IsStep false v after_loop l true (Some l.number)
-step_loop v after_loop l out here = λ links. rw (kept_after after_loop l links out, one_taken v l links, le-ltb l.tip v (omega arith), eq-eqb l.tip v here) refl
+step_loop v after_loop l out here = grind (arith, one_taken, le-ltb, eq-eqb)
 
 -- an arc to a vertex after v is taken
 pub step_up : (v : ℕ) (after_loop : Option ℕ) (l : Link) → is_other after_loop l.number ≡ false → v ≤ l.tip → (l.tip ≡ v → ⊥) → IsStep false v after_loop l true None
-step_up v after_loop l out up other = λ links. rw (kept_after after_loop l links out, one_taken v l links, le-ltb l.tip v up, ne_eqb l.tip v other) refl
+step_up v after_loop l out up other = grind (arith, one_taken, le-ltb, ne_eqb)
 
 -- of no arcs none is taken
 pub none_taken : (directed : Bool) (v : ℕ) (after_loop : Option ℕ) → taken_after directed v after_loop [] ≡ []
 unfolding each_edge_once
-none_taken true v None = refl
-none_taken true v (Some k) = refl
-none_taken false v None = refl
-none_taken false v (Some k) = refl
+none_taken directed v after_loop = grind (arith)

@@ -1,5 +1,5 @@
 -- What is noted of arcs.
-use Rattle.std.proofs.Common.{rules, ◌≡◌, ◌<◌, ◌≤◌, ◌+◌, ◌==◌, ℕ, pos, Bool, true, false, cond, List, [], ◌∷◌, ◌++◌, map, length, fold, Option, Some, refl, sym, ap, ◌∙◌, append-nil, arith}
+use Rattle.std.proofs.Common.{rules, ◌≡◌, ◌<◌, ◌≤◌, ◌+◌, ◌==◌, ℕ, pos, Bool, true, false, cond, List, [], ◌∷◌, ◌++◌, length, Option, Some, refl, sym, ap, ◌∙◌, append-nil, arith}
 use Rattle.std.specs.Prelude.{All, filter, if◌then◌else◌}
 use Rattle.std.specs.Option.{option_map_or}
 use Rattle.std.proofs.lemmas.Bool.{cases_eq, eq-eqb, ne_eqb, eqb-true}
@@ -8,7 +8,6 @@ use Rattle.std.proofs.lemmas.List.Elements.{All-filter, filter-append, filter_pa
 use Rattle.std.proofs.lemmas.List.Sums.{fold-append, length-filter, count_by-le-length}
 use Rattle.sgb_graph.specs.declared.fields.Link.{Link}
 use Rattle.sgb_ops.specs.Intersection.{count_to}
-use Rattle.std.specs.Int.{int_min}
 use Rattle.sgb_ops.specs.inner.Tallies.{tally_of, tally_to, one_more}
 use Rattle.sgb_ops.specs.declared.tallies.Tally.{Tally}
 use Rattle.sgb_ops.proofs.EventsWithin.{TipBelow}
@@ -24,11 +23,7 @@ arcs_to u links = filter (λ l. l.tip == u) links
 -- one arc more
 tally_of_more : (links : List Link) (l : Link) → tally_of (links ++ l ∷ []) ≡ Some (one_more l.len (tally_of links))
 tally_of_more [] l = refl
-tally_of_more (x ∷ links) l =
-    let many : length (x ∷ links ++ l ∷ []) ≡ length (x ∷ links) + 1 = omega (arith, length-append links (l ∷ [])) in
-    let least : fold int_min x.len (map (λ y. y.len) (links ++ l ∷ [])) ≡ int_min (fold int_min x.len (map (λ y. y.len) links)) l.len =
-    ap (fold int_min x.len) (map_push (λ y. y.len) links l) ∙ fold-append int_min x.len (map (λ y. y.len) links) (l.len ∷ []) in
-    rw (many, least) refl
+tally_of_more (x ∷ links) l = grind (arith, length-append, map_push, fold-append)
 
 arcs_to_more : (u : ℕ) (links : List Link) (l : Link) (b : Bool) → (l.tip == u) ≡ b → arcs_to u (links ++ l ∷ []) ≡ arcs_to u links ++ (if b then l ∷ [] else [])
 arcs_to_more u links l b is =
@@ -55,20 +50,14 @@ count_more u links l false is = omega (arith, counted u (links ++ l ∷ []), cou
 
 -- an arc that stands after others is not among them
 pub count_at : (u : ℕ) (before links : List Link) (l : Link) → l.tip ≡ u → count_to u before < count_to u (before ++ l ∷ links)
-count_at u before links l here =
-    let test = λ (x : Link). x.tip == u in
-    let there = eq-eqb l.tip u here in
-    let all : arcs_to u (before ++ l ∷ links) ≡ arcs_to u before ++ l ∷ arcs_to u links = filter-append test before (l ∷ links) ∙ ap (λ b. arcs_to u before ++ cond b (l ∷ arcs_to u links) (arcs_to u links)) there in
-    omega (arith, length-filter test before, length-filter test (before ++ l ∷ links), ap length all, length-append (arcs_to u before) (l ∷ arcs_to u links))
+count_at u before links l here = grind (arith, counted u before, counted u (before ++ l ∷ links), filter-append, eq-eqb, length-append)
 
 -- a tally counts no more arcs than there are
 few_of : (links : List Link) → option_map_or (λ (t : Tally). t.count + 1) (tally_of links) 0 ≤ length links + 1
-few_of [] = omega arith
-few_of (l ∷ links) = omega arith
+few_of links = grind arith
 
 pub few_to : (u : ℕ) (links : List Link) → option_map_or (λ (t : Tally). t.count + 1) (tally_to u links) 0 ≤ length links + 1
-few_to u links =
-    omega (arith, few_of (arcs_to u links), length-filter (λ (x : Link). x.tip == u) links, count_by-le-length (λ (x : Link). x.tip == u) links)
+few_to u links = grind (arith, few_of, length-filter, count_by-le-length)
 
 -- a vertex that some of the arcs lead to is below n where they all lead below n
 pub tip_counted : (n u : ℕ) (links : List Link) → All (TipBelow n) links → 0 < count_to u links → u < n

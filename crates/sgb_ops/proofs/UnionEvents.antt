@@ -1,11 +1,11 @@
 -- The events of a union, as they are found and merged vertex by vertex.
-use Rattle.std.proofs.Common.{rules, ◌≡◌, ◌<◌, ◌≤◌, ◌==◌, ℕ, Bool, true, false, List, [], ◌++◌, map, get_or, refl, sym, append-nil, arith}
+use Rattle.std.proofs.Common.{rules, ◌≡◌, ◌<◌, ◌≤◌, ℕ, Bool, false, List, [], ◌++◌, map, get_or, sym, append-nil, arith}
 use Rattle.std.specs.Prelude.{All, filter, flat_map, nat_lt}
 use Rattle.std.proofs.lemmas.Bool.{cond_both, lt-ltb, le-ltb, ltb-true, ne_eqb, and_right}
 use Rattle.std.proofs.lemmas.List.{map-append}
 use Rattle.std.proofs.lemmas.List.Elements.{All-append, All-filter, All-map, All-nil, filter_passes}
 use Rattle.sgb_vec.proofs.Lists.{filter-all}
-use Rattle.sgb_graph.specs.Graphs.{GraphData, chain_of}
+use Rattle.sgb_graph.specs.Graphs.{GraphData}
 use Rattle.sgb_graph.specs.Events.{Event}
 use Rattle.sgb_graph.specs.Growth.{IsKept}
 use Rattle.sgb_graph.specs.declared.fields.Link.{Link}
@@ -17,7 +17,7 @@ use Rattle.sgb_ops.specs.Merged.{has_ends_of, merged_unless}
 use Rattle.sgb_ops.specs.inner.Gunion.{union_arcs}
 use Rattle.sgb_ops.proofs.EventsWithin.{TipBelow, taken_tips, events_of_within, merged_unless_within}
 use Rattle.sgb_ops.proofs.MergedParts.{AreApart, merged_parts}
-use Rattle.sgb_ops.proofs.Taking.{each_edge_once_leads_up}
+use Rattle.sgb_ops.proofs.Taking.{taken_up}
 
 -- the arcs that lead to vertices below n
 abbrev pub leading_below : ℕ → List Link → List Link
@@ -66,24 +66,15 @@ abbrev LeadsUp : Bool → ℕ → Link → Type 0
 LeadsUp directed v l = directed ≡ false → v ≤ l.tip
 
 arcs_lead_up : (g h : GraphData) (directed : Bool) (v : ℕ) → All (LeadsUp directed v) (union_arcs g h directed v)
-arcs_lead_up g h true v = λ k d below same. absurd cc
-arcs_lead_up g h false v =
-    All-append (LeadsUp false v) (taken false g v) _ (up g)
-    (cond_both (nat_lt v (order_of h)) (leading_below (order_of g) (taken false h v)) [] (All (LeadsUp false v))
-    (λ _. All-filter (λ l. nat_lt l.tip (order_of g)) (LeadsUp false v) (taken false h v) (up h))
-    (λ _. All-nil (LeadsUp false v)))
-  where
-    up : (x : GraphData) → All (LeadsUp false v) (taken false x v)
-    up x = λ k d below same. each_edge_once_leads_up v (chain_of x v) k d below
+arcs_lead_up g h directed v =
+    All-append (LeadsUp directed v) (taken directed g v) _ (taken_up directed g v)
+    (cond_both (nat_lt v (order_of h)) (leading_below (order_of g) (taken directed h v)) [] (All (LeadsUp directed v))
+    (λ _. All-filter (λ l. nat_lt l.tip (order_of g)) (LeadsUp directed v) (taken directed h v) (taken_up directed h v))
+    (λ _. All-nil (LeadsUp directed v)))
 
 -- the events of two arcs of different vertices do not have the same ends
 arcs_apart : (directed : Bool) (u w : ℕ) (l k : Link) → u < w → LeadsUp directed w k → has_ends_of directed (event_of u l) (event_of w k) ≡ false
-arcs_apart true u w l k after up = let other : (w == u) ≡ false = ne_eqb w u (λ same. absurd (omega (arith, after, same))) in rw other refl
-arcs_apart false u w l k after up =
-    let leads = up refl in
-    let other : (w == u) ≡ false = ne_eqb w u (λ same. absurd (omega (arith, after, same))) in
-    let turned : (k.tip == u) ≡ false = ne_eqb k.tip u (λ same. absurd (omega (arith, after, same, leads))) in
-    rw (other, turned) (and_right (w == l.tip) false refl)
+arcs_apart directed u w l k after up = grind (arith, ne_eqb, and_right)
 
 -- nor do any two events of different vertices
 vertices_apart : (g h : GraphData) (directed : Bool) (u w : ℕ) → u < w → AreApart directed (events_of g h directed u) (events_of g h directed w)

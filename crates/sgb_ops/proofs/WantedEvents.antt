@@ -1,5 +1,5 @@
 -- The wanted events of a list, as they are found part by part.
-use Rattle.std.proofs.Common.{rules, ◌≡◌, ◌<◌, ◌+◌, ℕ, Bool, false, List, [], ◌∷◌, ◌++◌, map, inl, inr, refl, sym, ap, ◌∙◌, arith}
+use Rattle.std.proofs.Common.{rules, ◌≡◌, ◌<◌, ◌+◌, ℕ, Bool, List, [], ◌∷◌, ◌++◌, map, refl, ap, ◌∙◌, arith}
 use Rattle.std.specs.Prelude.{filter, flat_map}
 use Rattle.std.specs.List.{enumerate_from}
 use Rattle.std.proofs.lemmas.Bool.{ltb-false, cases_Bool}
@@ -34,18 +34,9 @@ pub met_more : (directed : Bool) (v u : ℕ) (a : Link) (stop t : ℕ) → t < s
     → events_met directed v u a stop t ≡ map (event_between u a.len) (filter (is_met directed v u a.tip) (t ∷ [])) ++ events_met directed v u a stop (t + 1)
 met_more directed v u a stop t below = search (rules, places-next, made-append, places_from)
 
--- an arc that leads to no copies gives no events
-no_copies : (entries : List Entry) (directed : Bool) (v u : ℕ) (a : Link) → leads_to_copies entries a ≡ false → events_of_arc entries directed v u a ≡ []
-no_copies entries directed v u a none = grind (arith, ltb-false, copies_between)
-
 pub arcs_to_copies : (entries : List Entry) (directed : Bool) (v u : ℕ) (arcs : List Link) → flat_map (events_of_arc entries directed v u) (filter (leads_to_copies entries) arcs) ≡ flat_map (events_of_arc entries directed v u) arcs
 arcs_to_copies entries directed v u [] = refl
-arcs_to_copies entries directed v u (a ∷ arcs) =
-    let rest = arcs_to_copies entries directed v u arcs in
-    elim (cases_Bool (leads_to_copies entries a)) [
-      | inl e ↦ rw e (ap (λ es. events_of_arc entries directed v u a ++ es) rest)
-      | inr e ↦ rw e (rest ∙ ap (λ es. es ++ flat_map (events_of_arc entries directed v u) arcs) (sym (no_copies entries directed v u a e)))
-    ]
+arcs_to_copies entries directed v u (a ∷ arcs) = grind (arith, cases_Bool, ltb-false, copies_between, arcs_to_copies entries directed v u arcs)
 
 -- the events inside the entries that are left, the first of which stands at place v
 abbrev pub events_within_from : List Entry → Bool → ℕ → List Entry → List Event

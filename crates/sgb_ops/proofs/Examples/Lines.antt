@@ -48,21 +48,6 @@ pub loop_lines :
 unfolding digits numbers_from list_from each_edge_once
 loop_lines = (refl, refl)
 
--- two vertices whose lists share one record, as a file may have them
-abbrev shared : GraphData
-shared = record {
-  id = codes "s";
-  m = 2;
-  kinds = no_kinds;
-  util = no_fields;
-  vertices = record { name = codes "x"; arcs = Some 0; util = no_fields } ∷ record { name = codes "y"; arcs = Some 0; util = no_fields } ∷ [];
-  records = record { tip = At 0; next = None; len = pos 1; a = Nothing; b = Nothing } ∷ [];
-}
-
-pub lines_of_shared : line_graph_of shared false ≡ Err Invalid
-unfolding digits numbers_from each_edge_once
-lines_of_shared = refl
-
 -- two vertices x and y, of which one has a list: record 0, which leads to itself. Record 1 has another tip
 abbrev pair : ℕ → Option ℕ → Option ℕ → Ref → Ref → GraphData
 pair count first second here there = record {
@@ -73,6 +58,14 @@ pair count first second here there = record {
   vertices = record { name = codes "x"; arcs = first; util = no_fields } ∷ record { name = codes "y"; arcs = second; util = no_fields } ∷ [];
   records = record { tip = here; next = None; len = pos 1; a = Nothing; b = Nothing } ∷ record { tip = there; next = None; len = pos 1; a = Nothing; b = Nothing } ∷ [];
 }
+
+-- two vertices whose lists share one record, as a file may have them
+abbrev shared : GraphData
+shared = record (pair 2 (Some 0) (Some 0) (At 0) (At 0)) { records = record { tip = At 0; next = None; len = pos 1; a = Nothing; b = Nothing } ∷ [] }
+
+pub lines_of_shared : line_graph_of shared false ≡ Err Invalid
+unfolding digits numbers_from each_edge_once
+lines_of_shared = refl
 
 -- a loop at y; its other record need not be on a list
 pub lines_of_half_a_loop : names (line_graph_of (pair 2 None (Some 0) (At 1) (At 1)) false) ≡ codes "y--y" ∷ []

@@ -1,7 +1,6 @@
-use Rattle.std.proofs.Common.{rules, ◌≡◌, ◌∙◌, ◌<◌, ◌+◌, ◌++◌, ℕ, Bool, List, drop, length, get_or, sym, ap, append_assoc, arith}
+use Rattle.std.proofs.Common.{rules, ◌≡◌, ◌<◌, ◌+◌, ◌++◌, ℕ, Bool, List, drop, length, get_or, append_assoc, arith}
 use Rattle.std.proofs.lemmas.List.{drop_more}
 use Rattle.std.proofs.lemmas.List.Elements.{filter-append}
-use Rattle.sgb_graph.specs.Events.{Event}
 use Rattle.sgb_ops.specs.declared.entries.Entry.{Entry}
 use Rattle.sgb_ops.specs.Entries.{first_copy, inner_events}
 use Rattle.sgb_ops.specs.inner.Induced.{is_wanted, wanted}
@@ -22,13 +21,6 @@ push_inner_events-requires c = search (rules, first_read, place_fits)
 pub loop-v-preserved : goal.loop-v-preserved
 loop-v-preserved c =
     let entries = c.args.entries.now in
-    let self = c.args.flags.self_loops in
-    let d = c.args.flags.directed in
-    let v = c.loop-v.v in
-    let e = c.index-entries-v.result in
-    let items = c.loop-v.events.items in
-    let first = first_read entries c.args.copies.now v c.first.result c.requires.copies c.first.ensures.value in
-    let here : List Event = wanted self (inner_events d (first_copy entries v) e) in
-    let later : List Event = wanted self (events_within_from entries d (v + 1) (drop (v + 1) entries)) in
-    ap (λ (es : List Event). es ++ later) (c.in_ok-push_inner_events.ensures.ok ∙ ap (λ s. items ++ wanted self (inner_events d s e)) first)
-    ∙ (append_assoc items here later ∙ (ap (λ (es : List Event). items ++ es) (sym (step entries d self v e (omega (arith, c.requires.count)) c.index-entries-v.is)) ∙ c.loop-v.invariant))
+    let first = first_read entries c.args.copies.now c.loop-v.v c.first.result c.requires.copies c.first.ensures.value in
+    let more = step entries c.args.flags.directed c.args.flags.self_loops c.loop-v.v c.index-entries-v.result (omega (arith, c.requires.count)) c.index-entries-v.is in
+    grind (arith, append_assoc, first, more)

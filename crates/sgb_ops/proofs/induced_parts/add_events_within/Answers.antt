@@ -1,10 +1,7 @@
-use Rattle.std.proofs.Common.{rules, ◌≡◌, ◌<◌, ◌∙◌, [], length, Some, ap, sym, subst, refl, arith}
-use Rattle.std.specs.List.{flat_map, slice_get}
-use Rattle.std.specs.Option.{option_map_or}
+use Rattle.std.proofs.Common.{rules, ◌≡◌, ◌<◌, length, subst, refl, arith}
+use Rattle.std.specs.List.{flat_map}
 use Rattle.sgb_graph.specs.Growth.{AddsEvents}
-use Rattle.sgb_ops.specs.Entries.{first_copy, inner_events}
-use Rattle.sgb_ops.specs.inner.Induced.{wanted}
-use Rattle.sgb_ops.specs.Merged.{merged_unless}
+use Rattle.sgb_ops.specs.Entries.{inner_events}
 use Rattle.sgb_ops.proofs.EntryTotals.{entry_there, place_fits}
 use Rattle.sgb_ops.proofs.InducedParts.{inside_at, inside_part, within_left}
 use Rattle.sgb_ops.proofs.SizedEntries.{first_read}
@@ -21,13 +18,9 @@ loop-v-preserved c =
     let d = c.args.flags.directed in
     let entries = c.args.entries.now in
     let v = c.loop-v.v in
-    let e = c.index-entries-v.result in
     let below : v < length entries = omega (arith, c.requires.count) in
-    let here : slice_get entries v ≡ Some e = entry_there entries v e below c.index-entries-v.is in
-    let inside : inner_events d c.first-start.result e ≡ inside_at entries d v =
-    ap (λ s. inner_events d s e) (first_read entries c.args.copies.now v c.first-start.result c.requires.copies c.first-start.ensures.value) ∙ ap (λ o. option_map_or (inner_events d (first_copy entries v)) o []) (sym here) in
-    let added = subst (AddsEvents d c.loop-v.built c.add_inner_events.new.built) (ap (λ es. merged_unless multi d (wanted self es)) inside) c.in_ok-add_inner_events.ensures.ok in
-    place_added d c.args.built.now c.loop-v.built (flat_map (inside_part self multi entries d)) (length entries) v c.add_inner_events.new.built _ below c.loop-v.invariant added refl
+    let inside : inner_events d c.first-start.result c.index-entries-v.result ≡ inside_at entries d v = search (rules, entry_there, first_read, inside_at, below) in
+    place_added d c.args.built.now c.loop-v.built (flat_map (inside_part self multi entries d)) (length entries) v c.add_inner_events.new.built _ below c.loop-v.invariant (rw inside at c.in_ok-add_inner_events.ensures.ok) refl
 
 pub returns-clause-ok : goal.returns-clause-ok
 returns-clause-ok c =

@@ -1,6 +1,6 @@
 use Rattle.std.proofs.Common.{rules, ◌≡◌, ◌+◌, ◌∙◌, ◌++◌, ◌∷◌, [], sym, ap, take, arith}
 use Rattle.std.proofs.lemmas.List.{take_more}
-use Rattle.sgb_ops.specs.inner.Ends.{ends_key, with_event}
+use Rattle.sgb_ops.specs.inner.Ends.{ends_key}
 use Rattle.sgb_ops.specs.Merged.{merged}
 use Rattle.sgb_ops.proofs.MergeSteps.{merged_more}
 use Rattle.sgb_ops.proofs.merged.merged.Goals as goal
@@ -15,9 +15,6 @@ loop-event-preserved c =
     let e = c.event-item.result in
     let i = c.loop-event.event-index in
     let next : take (i + 1) events ≡ take i events ++ e ∷ [] = take_more events i e (omega arith) ∙ ap (λ x. take i events ++ x ∷ []) (sym c.event-item.is) in (
-      c.in_ok-merge_event.ensures.ok
-          ∙ (ap (λ left. with_event c.args.directed left e) c.loop-event.invariant.0
-          ∙ (sym (merged_more c.args.directed (take i events) e)
-          ∙ ap (merged c.args.directed) (sym next))),
+      rw (c.in_ok-merge_event.ensures.ok, next, c.loop-event.invariant.0) (sym (merged_more c.args.directed (take i events) e)),
       c.in_ok-merge_event.ensures.ends,
     )
