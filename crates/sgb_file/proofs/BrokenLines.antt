@@ -1,7 +1,7 @@
 -- Lemmas on the lines of a piece that is broken.
 use Rattle.std.specs.Prelude.{◌≡◌, ℕ, zero, suc, ◌+◌, ◌*◌, ◌<◌, ◌≤◌, List, [], ◌∷◌, ◌++◌, map, length, take, drop, refl}
 use Rattle.std.specs.List.{range_with_len}
-use Rattle.std.proofs.Common.{arith, ap, sym, ◌∙◌, length-append, inl, inr}
+use Rattle.std.proofs.Common.{arith, ap, length-append, inl, inr}
 use Rattle.std.proofs.lemmas.List.{drop-drop, drop-append-le, take-append-le}
 use Rattle.std.proofs.Math.ListN.{length-drop}
 use Rattle.std.proofs.lemmas.Bool.{cases_lt}
@@ -31,42 +31,33 @@ shifted f a (suc n) = ap (λ xs. f (a + 1) ∷ xs) (shifted f (a + 1) n)
 pub breaks-long : (piece : List ℕ) → 79 < length piece → breaks_of piece ≡ suc (breaks_of (drop 78 piece))
 breaks-long piece h = rw length-drop (omega arith)
 
-next_line : (piece : List ℕ) (k : ℕ) → broken_line piece (k + 1) ≡ broken_line (drop 78 piece) k
-next_line piece k =
-    let place : 78 * (k + 1) ≡ 78 + 78 * k = omega arith in
-    ap (λ (part : List ℕ). take 78 part ++ 92 ∷ []) (ap (λ (n : ℕ). drop n piece) place ∙ sym (drop-drop (78 * k) 78 piece))
-
 next_lines : (piece : List ℕ) (ks : List ℕ) → map (λ k. broken_line piece (k + 1)) ks ≡ map (broken_line (drop 78 piece)) ks
 next_lines piece [] = refl
-next_lines piece (k ∷ ks) = rw (next_line piece k) (ap (λ lines. broken_line (drop 78 piece) k ∷ lines) (next_lines piece ks))
+next_lines piece (k ∷ ks) =
+    let place : 78 * (k + 1) ≡ 78 + 78 * k = omega arith in rw (place, drop-drop (78 * k) 78 piece, next_lines piece ks) refl
 
 pub broken-long : (piece : List ℕ) → 79 < length piece → broken_lines piece ≡ (take 78 piece ++ 92 ∷ []) ∷ broken_lines (drop 78 piece)
 broken-long piece h =
-    rw (breaks-long piece h)
-    (ap (λ lines. (take 78 piece ++ 92 ∷ []) ∷ lines)
-    (shifted (broken_line piece) 0 (breaks_of (drop 78 piece)) ∙ next_lines piece (range_with_len 0 (breaks_of (drop 78 piece)))))
+    rw (breaks-long piece h, shifted (broken_line piece) 0 (breaks_of (drop 78 piece)), next_lines piece (range_with_len 0 (breaks_of (drop 78 piece)))) refl
 
 pub last-long : (piece : List ℕ) → 79 < length piece → last_part piece ≡ last_part (drop 78 piece)
 last-long piece h =
     let n = breaks_of (drop 78 piece) in
     let place : 78 * suc n ≡ 78 + 78 * n = omega arith in
-    rw (breaks-long piece h) (ap (λ (k : ℕ). drop k piece) place ∙ sym (drop-drop (78 * n) 78 piece))
+    rw (breaks-long piece h, place, drop-drop (78 * n) 78 piece) refl
 
 -- a piece of 80 bytes is broken once
 pub broken-once : (line : List ℕ) (byte : ℕ) → length line ≡ 79 → broken_lines (line ++ byte ∷ []) ≡ (take 78 line ++ 92 ∷ []) ∷ []
 broken-once line byte h =
     let size : length (line ++ byte ∷ []) ≡ 80 = rw length-append (omega (arith, h)) in
     let left : length (drop 78 (line ++ byte ∷ [])) ≤ 79 = rw length-drop (omega (arith, size)) in
-    broken-long (line ++ byte ∷ []) (omega (arith, size))
-    ∙ rw (broken-short (drop 78 (line ++ byte ∷ [])) left)
-    (ap (λ (xs : List ℕ). (xs ++ 92 ∷ []) ∷ []) (take-append-le 78 line (byte ∷ []) (omega (arith, h))))
+    rw (broken-long (line ++ byte ∷ []) (omega (arith, size)), broken-short (drop 78 (line ++ byte ∷ [])) left, take-append-le 78 line (byte ∷ []) (omega (arith, h))) refl
 
 pub last-once : (line : List ℕ) (byte : ℕ) → length line ≡ 79 → last_part (line ++ byte ∷ []) ≡ drop 78 line ++ byte ∷ []
 last-once line byte h =
     let size : length (line ++ byte ∷ []) ≡ 80 = rw length-append (omega (arith, h)) in
     let left : length (drop 78 (line ++ byte ∷ [])) ≤ 79 = rw length-drop (omega (arith, size)) in
-    last-long (line ++ byte ∷ []) (omega (arith, size))
-    ∙ (last-short (drop 78 (line ++ byte ∷ [])) left ∙ drop-append-le 78 line (byte ∷ []) (omega (arith, h)))
+    grind (arith, last-long, last-short, drop-append-le, size, left)
 
 -- a piece can be broken a part at a time: what is left of the first part begins the next
 broken-append-by : (n : ℕ) (xs ys : List ℕ) → length xs < n
@@ -77,12 +68,8 @@ broken-append-by (suc n) xs ys h =
       | inl long ↦
           let more = broken-append-by n (drop 78 xs) ys (rw length-drop (omega (arith, long, h))) in
           let whole : 79 < length (xs ++ ys) = rw length-append (omega (arith, long)) in
-          let front = take-append-le 78 xs ys (omega (arith, long)) in
-          let back = drop-append-le 78 xs ys (omega (arith, long)) in (
-            broken-long (xs ++ ys) whole
-                ∙ rw (front, back, broken-long xs long, last-long xs long) (ap (λ lines. (take 78 xs ++ 92 ∷ []) ∷ lines) more.0),
-            last-long (xs ++ ys) whole ∙ rw (back, last-long xs long) more.1,
-          )
+          rw (broken-long (xs ++ ys) whole, last-long (xs ++ ys) whole, broken-long xs long, last-long xs long)
+          (rw (take-append-le 78 xs ys (omega (arith, long)), drop-append-le 78 xs ys (omega (arith, long)), more.0, more.1) (refl, refl))
       | inr short ↦ rw (broken-short xs short, last-short xs short) (refl, refl)
     ]
 

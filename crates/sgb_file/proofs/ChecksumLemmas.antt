@@ -1,12 +1,10 @@
 -- Lemmas on the order of bytes in the checksum, and on the sum made byte by byte.
-use Rattle.std.specs.Prelude.{◌≡◌, ℕ, suc, ◌+◌, ◌*◌, ◌/◌, ◌%◌, ◌^◌, ◌<◌, ◌≤◌, Bool, true, not, ◌&&◌, ◌||◌, List, [], ◌∷◌, ◌++◌, length, take, fold, refl, nat_lt, ◌==◌, slice_index, slice_index_or as get_or}
-use Rattle.std.specs.List.{list_all, range_with_len}
-use Rattle.std.proofs.Common.{arith, ap, sym, ◌∙◌}
+use Rattle.std.specs.Prelude.{◌≡◌, ℕ, ◌+◌, ◌*◌, ◌/◌, ◌%◌, ◌^◌, ◌<◌, ◌≤◌, Bool, true, not, ◌&&◌, ◌||◌, List, [], ◌∷◌, length, take, fold, refl, nat_lt, ◌==◌, slice_index, slice_index_or as get_or}
+use Rattle.std.proofs.Common.{arith, ◌∙◌, rules}
 use Rattle.std.proofs.Math.Nat.{mul_assoc, mul_comm, add-mul, pow-suc, add-mul-mod_self_right, mod-add-div', mod-eq_of_lt, two-pow-succ}
 use Rattle.std.proofs.lemmas.List.{take_more}
 use Rattle.std.proofs.lemmas.List.Sums.{fold-append, prefix_len-le-length}
 use Rattle.std.proofs.lemmas.Nat.{mod_below}
-use native.Mathlib.Nat.{pow-le-pow_right}
 use Rattle.std.proofs.lemmas.Bool.Decides.{Decides-eqb, Decides-ltb, nat_tests}
 use Rattle.sgb_graph.proofs.TestLemmas.{at_each_below, both_first, both_second, where_passes}
 use Rattle.std.proofs.lemmas.Grind.{get_or_default_zero}
@@ -21,21 +19,10 @@ has_place byte = nat_lt (value_of_byte byte) 96 && slice_index characters (value
 abbrev pub has_character : ℕ → Bool
 has_character k = is_character (slice_index characters k) && value_of_byte (slice_index characters k) == k
 
-each_has_place : list_all (λ byte. not (is_character byte) || has_place byte) (range_with_len 0 127) ≡ true
-each_has_place = refl
-
-each_has_character : list_all has_character (range_with_len 0 96) ≡ true
-each_has_character = refl
-
--- a character is below 127
-character_below : (byte : ℕ) → is_character byte ≡ true → byte < 127
-character_below byte h = grind (arith, nat_tests)
-
 -- each character has a place
 pub character_has_place : (byte : ℕ) → is_character byte ≡ true → has_place byte ≡ true
 character_has_place byte h =
-    where_passes (is_character byte) (has_place byte)
-    (at_each_below (λ b. not (is_character b) || has_place b) 127 each_has_place byte (character_below byte h)) h
+    where_passes (is_character byte) (has_place byte) (at_each_below (λ b. not (is_character b) || has_place b) 127 refl byte (grind (arith, nat_tests, h))) h
 
 pub place_below : (byte : ℕ) → is_character byte ≡ true → value_of_byte byte < 96
 place_below byte h = (Decides-ltb (value_of_byte byte) 96).0 (both_first _ _ (character_has_place byte h))
@@ -45,40 +32,28 @@ character_at_place byte h = (Decides-eqb _ byte).0 (both_second _ _ (character_h
 
 -- each place has a character
 pub place_allowed : (k : ℕ) → k < 96 → is_character (slice_index characters k) ≡ true
-place_allowed k h = both_first _ _ (at_each_below has_character 96 each_has_character k h)
+place_allowed k h = both_first _ _ (at_each_below has_character 96 refl k h)
 
 pub place_back : (k : ℕ) → k < 96 → value_of_byte (slice_index characters k) ≡ k
-place_back k h = (Decides-eqb _ k).0 (both_second _ _ (at_each_below has_character 96 each_has_character k h))
+place_back k h = (Decides-eqb _ k).0 (both_second _ _ (at_each_below has_character 96 refl k h))
 
 -- a remainder may stand for its number in a sum modulo p
 pub remainder_in_sum : (n k w p : ℕ) → (n % p * k + w) % p ≡ (n * k + w) % p
-remainder_in_sum n k w p =
-    let taken : n % p + n / p * p ≡ n = mod-add-div' n p in
-    let times : (n % p + n / p * p) * k ≡ n * k = ap (λ (x : ℕ). x * k) taken in
-    let split : (n % p + n / p * p) * k ≡ n % p * k + n / p * p * k = add-mul (n % p) (n / p * p) k in
-    let inner : p * k ≡ k * p = mul_comm p k in
-    let moved : n / p * p * k ≡ n / p * k * p =
-    mul_assoc (n / p) p k ∙ (ap (λ (x : ℕ). n / p * x) inner ∙ sym (mul_assoc (n / p) k p)) in
-    let whole : n * k + w ≡ n % p * k + w + n / p * k * p = omega arith in
-    sym (ap (λ (x : ℕ). x % p) whole ∙ add-mul-mod_self_right (n % p * k + w) (n / p * k) p)
+remainder_in_sum n k w p = grind (arith, mod-add-div' n p, add-mul, mul_assoc, mul_comm p k, add-mul-mod_self_right (n % p * k + w) (n / p * k) p)
 
 -- a number that is doubled and added to may stand for its remainder
 pub remainder_doubled : (n v p : ℕ) → (2 * (n % p) + v) % p ≡ (2 * n + v) % p
-remainder_doubled n v p =
-    ap (λ (x : ℕ). (x + v) % p) (mul_comm 2 (n % p))
-    ∙ (remainder_in_sum n 2 v p ∙ ap (λ (x : ℕ). (x + v) % p) (mul_comm n 2))
+remainder_doubled n v p = grind (arith, mul_comm, remainder_in_sum n 2 v p)
 
 -- the checksum after some bytes may begin at the remainder
 pub from_remainder : (sum : ℕ) (few : List ℕ) → 0 < length few → checksum_from (sum % checksum_prime) few ≡ checksum_from sum few
 unfolding checksum_from checksum_after
 from_remainder sum [] some = absurd (omega (arith, some))
-from_remainder sum (b ∷ few) some = ap (λ x. checksum_from x few) (remainder_doubled sum (place_of b) checksum_prime)
+from_remainder sum (b ∷ few) some = grind (arith, remainder_doubled)
 
 -- a value that grows by a byte
 value_doubled : (value byte i : ℕ) → value + 256 ≤ 2 ^ (33 + i) → byte < 256 → 2 * value + byte + 256 ≤ 2 ^ (33 + (i + 1))
-value_doubled value byte i h small =
-    let next : 33 + (i + 1) ≡ suc (33 + i) = omega arith in
-    rw next (omega (arith, two-pow-succ (33 + i), h, small))
+value_doubled value byte i h small = grind (arith, two-pow-succ (33 + i))
 
 -- a place is at most the number of characters
 pub place_small : (byte : ℕ) → place_of byte < 256
@@ -90,29 +65,18 @@ value_counts : (bytes : List ℕ) (value i : ℕ) → value + 256 ≤ 2 ^ (33 + 
     → value_from value bytes % checksum_prime ≡ checksum_from (value % checksum_prime) bytes
 unfolding value_from checksum_from checksum_after
 value_counts [] value i room few = refl
-value_counts (b ∷ bytes) value i room few =
-    let next : ℕ = 2 * value + place_of b in
-    let grown : next + 256 ≤ 2 ^ (33 + (i + 1)) = value_doubled value (place_of b) i room (place_small b) in
-    let bits : 33 + (i + 1) ≤ 64 = omega (arith, few) in
-    let most : 2 ^ (33 + (i + 1)) ≤ 2 ^ 64 = pow-le-pow_right (omega arith) bits in
-    let kept : next % 2 ^ 64 ≡ next = mod-eq_of_lt (omega (arith, grown, most)) in
-    ap (λ (v : ℕ). value_from v bytes % checksum_prime) kept
-    ∙ (value_counts bytes next (i + 1) grown (omega (arith, few))
-    ∙ ap (λ (s : ℕ). checksum_from s bytes) (sym (remainder_doubled value (place_of b) checksum_prime)))
+value_counts (b ∷ bytes) value i room few = search (rules, value_doubled, place_small, mod-eq_of_lt, remainder_doubled, place_of, value_from, checksum_prime, checksum_from, value_counts bytes (2 * value + place_of b) (i + 1) (value_doubled value (place_of b) i room (place_small b)) (omega (arith, few)))
 
 -- the checksum after few bytes more
 pub few_counted : (sum value : ℕ) (bytes : List ℕ) → sum < 2 ^ 32 → 0 < length bytes → length bytes ≤ 31
     → value ≡ value_from sum bytes % checksum_prime → value ≡ checksum_from sum bytes
-few_counted sum value bytes small some few e =
-    e ∙ (value_counts bytes sum 0 (omega (arith, small)) (omega (arith, few)) ∙ from_remainder sum bytes some)
+few_counted sum value bytes small some few e = grind (arith, value_counts bytes sum 0, from_remainder)
 
 -- the value after a byte more
 pub byte_valued : (value after next byte : ℕ) (bytes : List ℕ) (i : ℕ) → i < length bytes → byte ≡ get_or bytes i 0
     → after ≡ value_from value (take i bytes) → next ≡ value_after after byte → next ≡ value_from value (take (i + 1) bytes)
 unfolding value_from
-byte_valued value after next byte bytes i within is e f =
-    f ∙ (ap (λ (a : ℕ). value_after a byte) e ∙ (sym (fold-append value_after value (take i bytes) (byte ∷ []))
-    ∙ ap (fold value_after value) (ap (λ (b : ℕ). take i bytes ++ b ∷ []) is ∙ sym (take_more bytes i 0 within))))
+byte_valued value after next byte bytes i within is e f = grind (arith, fold-append, take_more bytes i 0)
 
 -- doubling, adding a value, and then weighing by k
 pub weighed : (a v k : ℕ) → (2 * a + v) * k ≡ a * (k * 2) + v * k
@@ -122,18 +86,11 @@ weighed a v k = grind (arith, add-mul, mul_assoc)
 pub running_from : (p : ℕ) → 0 < p → (bytes : List ℕ) (a : ℕ) → a < p
     → fold (λ x byte. (2 * x + value_of_byte byte) % p) a bytes ≡ (a * 2 ^ length bytes + weighted_sum bytes) % p
 unfolding weighted_sum
-running_from p positive [] a h =
-    let same : a * 1 + 0 ≡ a = omega arith in
-    sym (ap (λ (x : ℕ). x % p) same ∙ mod-eq_of_lt h)
+running_from p positive [] a h = grind (arith, mod-eq_of_lt)
 running_from p positive (byte ∷ bytes) a h =
-    let v : ℕ = value_of_byte byte in
     let k : ℕ = 2 ^ length bytes in
-    let rest = running_from p positive bytes ((2 * a + v) % p) (mod_below (2 * a + v) p positive) in
-    let open_up = remainder_in_sum (2 * a + v) k (weighted_sum bytes) p in
-    let power : 2 ^ suc (length bytes) ≡ k * 2 = pow-suc 2 (length bytes) in
-    let all : (2 * a + v) * k + weighted_sum bytes ≡ a * 2 ^ suc (length bytes) + (v * k + weighted_sum bytes) =
-    rw power (ap (λ (x : ℕ). x + weighted_sum bytes) (weighed a v k) ∙ omega arith) in
-    rest ∙ (open_up ∙ ap (λ (x : ℕ). x % p) all)
+    let open_up = remainder_in_sum (2 * a + value_of_byte byte) k (weighted_sum bytes) p in
+    grind (arith, mod_below, pow-suc, weighed, k, open_up, running_from p positive bytes ((2 * a + value_of_byte byte) % p))
 
 -- the table of places has each byte's
 length-places : length places ≡ 256

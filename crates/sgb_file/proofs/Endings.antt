@@ -1,17 +1,16 @@
 -- Lemmas on the opening and the end of a file, in the words of the code.
 use Rattle.std.specs.Prelude.{if◌then◌else◌}
-use Rattle.std.proofs.Common.{◌≡◌, ◌<◌, ◌∙◌, ℕ, Bool, true, false, List, [], ◌∷◌, Some, None, length, take, drop, set, slice_index, ◌+◌, zero, suc, filter_map, refl, sym, ap, arith, ◌==◌, ◌++◌, Result, Ok, Err, subst, inl, inr}
+use Rattle.std.proofs.Common.{◌≡◌, ◌<◌, ◌∙◌, ℕ, Bool, true, false, List, [], ◌∷◌, Some, None, length, take, drop, set, slice_index, ◌+◌, zero, suc, filter_map, refl, sym, ap, arith, Result, Ok, Err, inl}
 use Rattle.std.proofs.lemmas.Bool.Decides.{nat_tests}
 use Rattle.std.proofs.lemmas.List.{length-take, get_or-take, take_more, take_more_set, take_all}
 use Rattle.std.proofs.lemmas.List.Elements.{filter_map-append}
-use Rattle.std.specs.List.{cons_option}
 use Rattle.std.specs.Result.{IsErrAnd}
 use Rattle.sgb_graph.specs.declared.fields.Kind.{Kind}
 use Rattle.sgb_file.specs.FileLines.{lines_among, clean_lines, text_of_lines}
 use Rattle.sgb_file.specs.inner.LinesLeft.{lines_of_text, LinesLeft, text_left, next_begun, none_begun, lines_still, lines_passed}
 use Rattle.sgb_file.specs.inner.Found.{IsFoundBy}
 use Rattle.sgb_vec.specs.declared.panics.Panic.{Panic}
-use Rattle.sgb_vec.specs.declared.panics.Panic.TheVariants.{NoRoom, Syntax}
+use Rattle.sgb_vec.specs.declared.panics.Panic.TheVariants.{Syntax}
 use Rattle.sgb_graph.specs.Graphs.{GraphData}
 use Rattle.sgb_graph.specs.Parts.{checked}
 use Rattle.sgb_graph.specs.Sound.{is_sound}
@@ -19,39 +18,33 @@ use Rattle.sgb_file.specs.Checksum.{has_star}
 use Rattle.sgb_vec.specs.Results.{IsValue}
 use Rattle.sgb_file.specs.inner.Heads.{Head}
 use Rattle.sgb_file.specs.inner.ReadRecords.{records_at}
-use Rattle.sgb_file.proofs.FirstLines.{kept_one, no_more_kinds}
+use Rattle.sgb_file.proofs.FirstLines.{no_more_kinds}
 use Rattle.sgb_file.proofs.LeftTexts.{next_left}
 use Rattle.sgb_file.proofs.ReadParts.{read_is_checked}
-use Rattle.sgb_file.specs.inner.ReadFiles.{opening_of, head_of_line, graph_of_text, graph_of_opening, graph_after, graph_at_end, closes, line_closes, kind_of_letter, kinds_at}
+use Rattle.sgb_file.specs.inner.ReadFiles.{opening_of, head_of_line, graph_of_text, graph_after, graph_at_end, closes, line_closes, kind_of_letter, kinds_at}
 
 -- a text of fewer letters has not the kinds
 filtered_fewer : (xs : List ℕ) (i : ℕ) → i < length xs → kind_of_letter (slice_index xs i) ≡ None → length (filter_map kind_of_letter xs) < length xs
 filtered_fewer [] i h e = absurd (omega (arith, h))
-filtered_fewer (x ∷ xs) zero h e = rw e (omega (arith, no_more_kinds xs))
-filtered_fewer (x ∷ xs) (suc i) h e = omega (arith, kept_one (kind_of_letter x) (filter_map kind_of_letter xs), filtered_fewer xs i (omega (arith, h)) e)
+filtered_fewer (x ∷ xs) zero h e = grind (arith, no_more_kinds)
+filtered_fewer (x ∷ xs) (suc i) h e = grind (arith, filtered_fewer xs i)
 
 -- where a byte is no letter of a kind, the text has not the kinds
 pub kinds_missed : (text : List ℕ) (i : ℕ) → i < 14 → i < length text → kind_of_letter (slice_index text i) ≡ None → kinds_at text ≡ None
 kinds_missed text i low within e =
     let few = filtered_fewer (take 14 text) i (omega (arith, length-take 14 text, low, within)) (ap kind_of_letter (get_or-take 14 text i 0 low) ∙ e) in
-    let other : (length (filter_map kind_of_letter (take 14 text)) == 14) ≡ false = grind (arith, nat_tests, few, length-take 14 text) in
-    rw other refl
+    grind (arith, nat_tests, few, length-take 14 text)
 
 -- one kind more, and all
 pub kinds_more : (text : List ℕ) (kinds : List Kind) (i : ℕ) (k : Kind) → i < length text → i < length kinds → kind_of_letter (slice_index text i) ≡ Some k
     → filter_map kind_of_letter (take i text) ≡ take i kinds → filter_map kind_of_letter (take (i + 1) text) ≡ take (i + 1) (set kinds i k)
-kinds_more text kinds i k within room e so_far =
-    ap (filter_map kind_of_letter) (take_more text i 0 within) ∙ (filter_map-append kind_of_letter (take i text) (slice_index text i ∷ [])
-    ∙ (ap (λ xs. xs ++ cons_option (kind_of_letter (slice_index text i)) []) so_far ∙ (ap (λ y. take i kinds ++ cons_option y []) e ∙ sym (take_more_set kinds i k room))))
+kinds_more text kinds i k within room e so_far = rw (take_more text i 0 within, filter_map-append, so_far, e, take_more_set kinds i k room) refl
 
 pub kinds_read : (text : List ℕ) (kinds : List Kind) → filter_map kind_of_letter (take 14 text) ≡ take 14 kinds → length kinds ≡ 14 → kinds_at text ≡ Some (record { value = kinds; rest = drop 14 text })
 kinds_read text kinds e size = rw (e ∙ take_all 14 kinds (omega (arith, size))) (rw size refl)
 
 pub short_kinds : (text : List ℕ) → length text < 14 → None ≡ kinds_at text
-short_kinds text h =
-    let few = no_more_kinds (take 14 text) in
-    let other : (length (filter_map kind_of_letter (take 14 text)) == 14) ≡ false = grind (arith, nat_tests, few, length-take 14 text) in
-    rw other refl
+short_kinds text h = let few = no_more_kinds (take 14 text) in grind (arith, nat_tests, few, length-take 14 text)
 
 -- at the end of the lines nothing closes the file
 pub closes_none : (s : LinesLeft) → lines_of_text (text_left s) ≡ lines_still s → s.line ≡ None → (head : Head)
@@ -87,37 +80,28 @@ text_whole s begun = ap text_left begun ∙ next_left (none_begun s.all)
 -- the graph of a text that opens here is that of the records in the lines that are left
 pub graph_opened : (text : List ℕ) (head : Head) (s : LinesLeft) → Some (record { head = head; lines = s.all }) ≡ opening_of (clean_lines text) → s ≡ next_begun (none_begun s.all)
     → graph_of_text text ≡ graph_after (record { head = head; lines = s.all }) (records_at head (text_left s))
-graph_opened text head s e begun =
-    ap graph_of_opening (sym e) ∙ ap (λ t. graph_after (record { head = head; lines = s.all }) (records_at head t)) (sym (text_whole s begun))
+graph_opened text head s e begun = grind (arith, text_whole)
 
 -- a text whose records are not read is refused, or memory ran out
 pub graph_unread : (text : List ℕ) (head : Head) (s : LinesLeft) (p : Panic) (rest : List ℕ) (r : Result GraphData Panic) → Some (record { head = head; lines = s.all }) ≡ opening_of (clean_lines text)
     → s ≡ next_begun (none_begun s.all) → IsFoundBy (records_at head (text_left s)) (Err p) rest → IsErrAnd r (λ q. q ≡ p) → IsValue (graph_of_text text) r
 graph_unread text head s p rest (Ok g) e begun found is = absurd is
 graph_unread text head s Syntax rest (Err q) e begun found is = inl (graph_opened text head s e begun ∙ ap (graph_after (record { head = head; lines = s.all })) found ∙ ap Err (sym is))
-graph_unread text head s NoRoom rest (Err q) e begun found is = inr is
-graph_unread text head s _ rest (Err q) e begun found is = absurd found
+graph_unread text head s p rest r e begun found is = grind (arith)
 
 -- what the graph of a text is where its records end in these lines
 pub graph_ended : (text : List ℕ) (head : Head) (s t : LinesLeft) (g : GraphData) (closed : Bool) → Some (record { head = head; lines = s.all }) ≡ opening_of (clean_lines text)
     → s ≡ next_begun (none_begun s.all) → records_at head (text_left s) ≡ Some (record { value = g; rest = text_left t }) → t.all ≡ s.all
     → closed ≡ closes (record { head = head; lines = t.all }) (text_left t) → graph_of_text text ≡ graph_at_end closed (is_sound g) g
-graph_ended text head s t g closed e begun found all closing =
-    graph_opened text head s e begun ∙ ap (graph_after (record { head = head; lines = s.all })) found
-    ∙ ap (λ lines. graph_at_end (closes (record { head = head; lines = lines }) (text_left t)) (is_sound g) g) (sym all)
-    ∙ ap (λ c. graph_at_end c (is_sound g) g) (sym closing)
+graph_ended text head s t g closed e begun found all closing = graph_opened text head s e begun ∙ rw (found, sym all, sym closing) refl
 
 -- the graph of a text is that of the check of its parts
 pub graph_checked : (text : List ℕ) (head : Head) (s : LinesLeft) (rest : List ℕ) (g : GraphData) (r : Result GraphData Panic) → Some (record { head = head; lines = s.all }) ≡ opening_of (clean_lines text)
     → s ≡ next_begun (none_begun s.all) → records_at head (text_left s) ≡ Some (record { value = g; rest = rest }) → graph_of_text text ≡ graph_at_end true (is_sound g) g → IsValue (checked g) r
     → IsValue (graph_of_text text) r
 graph_checked text head s rest g r e begun found is h =
-    let says : records_at head (text_of_lines s.all) ≡ Some (record { value = g; rest = rest }) = ap (records_at head) (sym (text_whole s begun)) ∙ found in
-    let fit : checked g ≡ (if is_sound g then Ok g else Err Syntax) =
-    read_is_checked (clean_lines text) (record { head = head; lines = s.all }) (record { value = g; rest = rest }) (sym e) says in
-    let same : graph_of_text text ≡ checked g = is ∙ (at_end (is_sound g) ∙ sym fit) in
-    subst (λ value. IsValue value r) (sym same) h
+    let fit = read_is_checked (clean_lines text) (record { head = head; lines = s.all }) (record { value = g; rest = rest }) (sym e) (rw (text_whole s begun) at found) in
+    rw (is, at_end (is_sound g), sym fit) h
   where
     at_end : (sound : Bool) → graph_at_end true sound g ≡ (if sound then Ok g else Err Syntax)
-    at_end true = refl
-    at_end false = refl
+    at_end sound = grind (arith)

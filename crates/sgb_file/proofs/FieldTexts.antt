@@ -1,5 +1,5 @@
 -- The texts of fields, laid out as pieces one after another.
-use Rattle.std.proofs.Common.{rules, ◌≡◌, ◌<◌, ◌≤◌, ◌+◌, ◌++◌, ◌∙◌, ℕ, Bool, true, false, List, [], ◌∷◌, Result, Ok, Err, length, drop, map, slice_index_or, refl, sym, ap, subst, append-nil, Some, arith, slice_get}
+use Rattle.std.proofs.Common.{rules, ◌≡◌, ◌<◌, ◌≤◌, ◌+◌, ◌++◌, ℕ, Bool, true, false, List, [], ◌∷◌, Result, Ok, Err, length, drop, map, slice_index_or, refl, sym, subst, append-nil, Some, arith, slice_get}
 use Rattle.sgb_graph.specs.Columns.{util_seen}
 use Rattle.sgb_graph.specs.declared.fields.UtilRef.{UtilRef}
 use Rattle.std.specs.List.{flat_map}
@@ -15,27 +15,16 @@ use Rattle.sgb_file.proofs.LaidLines.{lines-more, lines-cut, lines-last, stopped
 abbrev pub texts_of : List UtilRef → List (List ℕ)
 texts_of fields = flat_map field_texts (map util_seen fields)
 
--- of texts after texts
-pub any-here : (xs ys : List (List ℕ)) → has_any xs ≡ true → has_any (xs ++ ys) ≡ true
-any-here [] ys e = absurd cc
-any-here (x ∷ xs) ys e = refl
-
-pub any-later : (xs ys : List (List ℕ)) → has_any xs ≡ false → has_any (xs ++ ys) ≡ has_any ys
-any-later [] ys e = refl
-any-later (x ∷ xs) ys e = absurd cc
-
 -- the texts from the i-th field on
 pub texts-from : (fields : List UtilRef) (i : ℕ) (field : UtilRef) → i < length fields → field ≡ slice_index_or fields i field
     → texts_of (drop i fields) ≡ field_texts (util_seen field) ++ texts_of (drop (i + 1) fields)
-texts-from fields i field h e =
-    at_drop_more texts_of fields i field h ∙ ap (λ (f : UtilRef). field_texts (util_seen f) ++ texts_of (drop (i + 1) fields)) (sym e)
+texts-from fields i field h e = rw (at_drop_more texts_of fields i field h, sym e) refl
 
 -- the first text as a piece, and the others after it
 pub first_piece : (line text : List ℕ) (rest : List (List ℕ)) → laid_out line (pieces_of (text ∷ rest))
     ≡ lines_ended line (piece_of (has_any rest) text) ++ laid_out (line_begun line (piece_of (has_any rest) text)) (pieces_of rest)
 unfolding laid_out pieces_of
-first_piece line text [] = rw (append-nil text) refl
-first_piece line text (x ∷ xs) = refl
+first_piece line text rest = grind (arith, append-nil)
 
 -- of all lines these are left, or the writing stopped within all
 abbrev pub IsFurther : {T E : Type 0} → List (List ℕ) → List (List ℕ) → Stage → Stage → Result T E → Type 0
@@ -76,8 +65,7 @@ fields-end fields i all a b c r h p q = search (rules, drop_all, no_texts, lines
 
 -- no field is used: the line ends
 pub fields-unused : {T E : Type 0} (texts : List (List ℕ)) (a b : Stage) (r : Result T E) → has_any texts ≡ false → IsLaid (a.layout.line ∷ []) [] a b r → AreLaidOut texts a b r
-fields-unused [] a b r e p = subst (λ lines. IsLaid lines [] a b r) (sym (no_texts a.layout.line)) p
-fields-unused (text ∷ texts) a b r e p = absurd cc
+fields-unused texts a b r e p = grind (arith, no_texts)
 
 -- a piece was laid out
 abbrev pub HasPlaced : List ℕ → Stage → Stage → Type 0
@@ -87,8 +75,7 @@ HasPlaced piece a b = HasLaid (lines_ended a.layout.line piece) a b × (b.layout
 pub record-cut : (text t : List ℕ) (rest : List (List ℕ)) (more : Bool) (a b : Stage) → t ≡ text → more ≡ has_any rest
     → IsStopped (lines_ended a.layout.line (piece_of more t)) a b → IsStopped (laid_out a.layout.line (pieces_of (text ∷ rest))) a b
 record-cut text t rest more a b w e p =
-    stopped-first _ _ _ a b (first_piece a.layout.line text rest)
-    (subst (λ (v : Bool). IsStopped (lines_ended a.layout.line (piece_of v text)) a b) e (subst (λ (u : List ℕ). IsStopped (lines_ended a.layout.line (piece_of more u)) a b) w p))
+    stopped-first (laid_out a.layout.line (pieces_of (text ∷ rest))) (lines_ended a.layout.line (piece_of (has_any rest) text)) _ a b (first_piece a.layout.line text rest) (rw (← e, ← w) p)
 
 pub record-then : {T E : Type 0} (text t : List ℕ) (rest : List (List ℕ)) (more : Bool) (a b c : Stage) (r : Result T E) → t ≡ text
     → more ≡ has_any rest → HasPlaced (piece_of more t) a b → AreLaidOut rest b c r → AreLaidOut (text ∷ rest) a c r

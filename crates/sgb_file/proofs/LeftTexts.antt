@@ -1,9 +1,9 @@
 -- Lemmas on the text that is left of a file's lines.
-use Rattle.std.specs.Prelude.{◌≡◌, ℕ, suc, ◌+◌, ◌<◌, ◌≤◌, Bool, true, false, cond, not, ◌||◌, List, [], ◌∷◌, ◌++◌, length, take, drop, codes, Some, None, ◌==◌, slice_get, refl}
+use Rattle.std.specs.Prelude.{◌≡◌, ℕ, ◌+◌, ◌<◌, ◌≤◌, Bool, true, not, ◌||◌, List, [], ◌∷◌, ◌++◌, length, take, drop, codes, Some, None, ◌==◌, slice_get, refl}
 use Rattle.std.specs.List.{list_any, list_all, position_or_len, prefix_len, before_first}
 use Rattle.std.specs.Option.{option_map_or}
-use Rattle.std.proofs.Common.{rules, ap, sym, ◌∙◌, append_assoc, append-nil, arith, inl, inr}
-use Rattle.std.proofs.lemmas.Bool.{and_parts, cases_lt, not-true}
+use Rattle.std.proofs.Common.{rules, ap, sym, ◌∙◌, append_assoc, arith}
+use Rattle.std.proofs.lemmas.Bool.{and_parts, not-true}
 use Rattle.std.proofs.lemmas.Bool.Decides.{nat_tests}
 use Rattle.std.proofs.lemmas.List.{drop-append-le, get_or-take, take-append-le, length-take}
 use Rattle.std.proofs.lemmas.List.Folds.{prefix_len-append}
@@ -30,10 +30,7 @@ next_left s = begun_text s.others
 -- a text that begins with a line that is not empty does not begin with a newline
 pub no_line_end : (line more : List ℕ) → has_no_newline line ≡ true → 0 < length line → after_prefix (codes "\n") (line ++ more) ≡ None
 no_line_end [] more h some = absurd (omega (arith, some))
-no_line_end (b ∷ line) more h some =
-    let byte = and_parts (not (b == 10)) (has_no_newline line) h in
-    let same = not-true (b == 10) byte.0 in
-    let e : (10 == b) ≡ false = grind (arith, nat_tests) in rw e refl
+no_line_end (b ∷ line) more h some = grind (arith, and_parts, not-true, nat_tests)
 
 pub line_goes_on : (s : LinesLeft) (line : List ℕ) → Some line ≡ s.line → has_no_newline line ≡ true → 0 < length line → after_prefix (codes "\n") (text_left s) ≡ None
 line_goes_on s line e h some = ap (after_prefix (codes "\n")) (under_way s line e) ∙ no_line_end line (10 ∷ text_of_lines s.others) h some
@@ -49,49 +46,28 @@ none_before p x h = list_all-from_AllPass (λ c. not (p c)) x (λ k d below. ap 
 -- the first place that passes, after such a list
 pub first_beyond : (p : ℕ → Bool) (x y : List ℕ) → list_all (λ c. not (p c)) x ≡ true → position_or_len p (x ++ y) ≡ length x + position_or_len p y
 first_beyond p [] y h = omega arith
-first_beyond p (b ∷ x) y h =
-    let parts = and_parts (not (p b)) (list_all (λ c. not (p c)) x) h in
-    rw parts.0 (ap (λ k. 1 + k) (first_beyond p x y parts.1) ∙ omega arith)
+first_beyond p (b ∷ x) y h = grind (arith, and_parts, first_beyond p x y (and_parts (not (p b)) (list_all (λ c. not (p c)) x) h).1)
 
 pub any_beyond : (p : ℕ → Bool) (x y : List ℕ) → list_all (λ c. not (p c)) x ≡ true → list_any p (x ++ y) ≡ list_any p y
 any_beyond p [] y h = refl
-any_beyond p (b ∷ x) y h =
-    let parts = and_parts (not (p b)) (list_all (λ c. not (p c)) x) h in
-    rw (not-true (p b) parts.0) (any_beyond p x y parts.1)
+any_beyond p (b ∷ x) y h = grind (arith, and_parts, not-true, any_beyond p x y (and_parts (not (p b)) (list_all (λ c. not (p c)) x) h).1)
 
 -- the first place that passes, where it is in the first of two lists
 pub first_within : (p : ℕ → Bool) (x y : List ℕ) → position_or_len p x < length x → position_or_len p (x ++ y) ≡ position_or_len p x
 first_within p x y h = grind (arith, nat_tests, prefix_len-append)
 
 pub passes_within : (p : ℕ → Bool) (x : List ℕ) → list_any p x ≡ true → position_or_len p x < length x
-passes_within p x h =
-    elim (cases_lt (position_or_len p x) (length x)) [
-      | inl within ↦ within
-      | inr past ↦ let none : list_any p x ≡ false = rw append-nil at (any_beyond p x [] (none_before p x past)) in absurd cc
-    ]
-
-any_step : (t u : Bool) (n k : ℕ) → (k < n → u ≡ true) → cond (not t) (1 + k) 0 < suc n → (t || u) ≡ true
-any_step true u n k f h = refl
-any_step false u n k f h = f (omega (arith, h))
+passes_within p [] h = absurd cc
+passes_within p (b ∷ x) h = grind (arith, passes_within p x)
 
 pub any_within : (p : ℕ → Bool) (x y : List ℕ) → position_or_len p x < length x → list_any p (x ++ y) ≡ true
 any_within p [] y h = absurd (omega (arith, h))
-any_within p (b ∷ x) y h = any_step (p b) (list_any p (x ++ y)) (length x) (position_or_len p x) (any_within p x y) h
-
--- the bytes of a line before its first comma are the plain text of what is left
-plain_step : (t : Bool) (m k : ℕ) → m ≡ k → cond (not (t || false)) (1 + m) 0 ≡ cond (not t) (1 + k) 0
-plain_step true m k e = refl
-plain_step false m k e = ap (λ j. 1 + j) e
+any_within p (b ∷ x) y h = grind (arith, any_within p x y)
 
 plain_length : (line more : List ℕ) → has_no_newline line ≡ true → position_or_len (λ b. b == 44 || b == 10) (line ++ 10 ∷ more) ≡ position_or_len (λ b. b == 44) line
 plain_length [] more h = refl
-plain_length (b ∷ line) more h =
-    let parts = and_parts (not (b == 10)) (has_no_newline line) h in
-    rw (not-true (b == 10) parts.0) (plain_step (b == 44) (position_or_len (λ c. c == 44 || c == 10) (line ++ 10 ∷ more)) (position_or_len (λ c. c == 44) line) (plain_length line more parts.1))
+plain_length (b ∷ line) more h = grind (arith, and_parts, plain_length line more)
 
 pub plain_of_line : (line more : List ℕ) → has_no_newline line ≡ true → before_first (λ b. b == 44) line ≡ plain_text (line ++ 10 ∷ more)
 plain_of_line line more h =
-    sym (ap (λ k. take k (line ++ 10 ∷ more)) (plain_length line more h) ∙ take-append-le (position_or_len (λ b. b == 44) line) line (10 ∷ more) (prefix_len-le-length (λ b. not (b == 44)) line))
-
-pub before_comma_short : (line : List ℕ) → length (before_first (λ b. b == 44) line) ≤ length line
-before_comma_short line = let e = length-take (position_or_len (λ b. b == 44) line) line in omega (arith, e)
+    rw (plain_length line more h) (sym (take-append-le (position_or_len (λ b. b == 44) line) line (10 ∷ more) (prefix_len-le-length (λ b. not (b == 44)) line)))

@@ -6,8 +6,6 @@ pub mod ChecksumLemmas
 pub mod FirstLines
 -- what a file's records say fits its kinds, and can be saved
 pub mod ReadParts
--- a text stands for a value exactly where it says it
-pub mod FieldWords
 -- a field is read exactly of a text that says its value
 pub mod FieldsAndTexts
 -- a record is read exactly of the texts of its fields
@@ -16,8 +14,6 @@ pub mod RecordsAndTexts
 pub mod FilesAndTexts
 -- a text is read as a graph exactly where it is a file of it, and the code of each other text
 pub mod RefusedTexts
--- lines of at most 79 bytes
-pub mod LayoutLemmas
 -- the lines that are left while a file is read
 pub mod LinesLeftLemmas
 -- the vertices' and the arcs' records, read one by one
@@ -40,8 +36,6 @@ pub mod FoundSteps
 pub mod StringReading
 -- the lines of a record are a record of the graph's
 pub mod WrittenRecords
--- the lines of a graph's text hold no newline and end with no space
-pub mod WrittenLines
 -- the text of a graph is a file of it
 pub mod WrittenFiles
 -- what can be saved, and that its fields fit
@@ -52,18 +46,10 @@ pub mod BrokenLines
 pub mod LaidLines
 -- bytes put on lines, and pieces laid out
 pub mod PlacedPieces
--- fields that the bytes before the first comma of a line say
-pub mod PlainFields
--- fields with the value of a checksum after them
+-- fields that the bytes before the first comma of a line say, with the value of a checksum after them
 pub mod CountedFields
--- arc records that are read of one line
+-- arc records and vertices that are read of one line
 pub mod LineRecords
--- vertices that are read of one line
-pub mod VertexLines
--- the decimal text of a number of at most eight digits
-pub mod FewDigits
--- the first bytes of a full line, and the last one
-pub mod FullLines
 -- fields laid out one by one
 pub mod FieldTexts
 -- records written one by one
@@ -74,13 +60,9 @@ pub mod WholeText
 pub mod FirstPlaces
 -- worked examples
 pub mod Examples
--- bytes that a sink takes a part at a time
-pub mod PartialWrites
 -- a text written so far, and what is left of it
 pub mod SoFar
 -- what a sink has of a text where a write failed
 pub mod WrittenPrefixes
 -- short lines that are put together
 pub mod ShortLines
--- records whose lines are put together
-pub mod ShortRecords

@@ -1,5 +1,5 @@
 -- Lemmas on the lines that are left of a file: their checksum, and that a line has no newlines.
-use Rattle.std.proofs.Common.{rules, ◌≡◌, ◌<◌, ◌≤◌, ◌++◌, ◌∙◌, ℕ, Bool, true, false, Bor, List, [], ◌∷◌, Option, Some, None, length, take, drop, map, slice_index, not, ◌&&◌, ◌+◌, ◌-◌, ◌≢◌, All, unwrap_or, cond, ◌==◌, refl, sym, ap, subst, append_assoc, append-nil, length-append, slice_get, zero, suc, arith, nat_lt, IsTrue, IfSome, option_map}
+use Rattle.std.proofs.Common.{rules, ◌≡◌, ◌<◌, ◌≤◌, ◌++◌, ℕ, Bool, true, false, Bor, List, [], ◌∷◌, Option, Some, None, length, take, drop, slice_index, ◌&&◌, ◌+◌, ◌-◌, ◌≢◌, unwrap_or, cond, ◌==◌, refl, ap, append_assoc, length-append, slice_get, suc, arith, nat_lt, IsTrue, IfSome, option_map}
 use Rattle.std.specs.List.{list_all, position_or_len, position, before_first, after_first}
 use Rattle.std.proofs.lemmas.List.{drop_more, drop_all, take-append-drop, take_all, length-drop}
 use Rattle.std.proofs.lemmas.List.Folds.{list_all-append}
@@ -13,7 +13,7 @@ use Rattle.sgb_file.specs.FileLines.{lines_among, clean_lines, text_of_lines, wi
 use Rattle.sgb_file.specs.inner.LinesLeft.{lines_of_text, IsWhole, lines_passed, text_left, next_begun, has_no_newline, HasPassed, AreLinesLeft, lines_left, lines_still}
 use Rattle.sgb_file.specs.Checksum.{checksum_of_lines}
 use Rattle.sgb_file.specs.inner.Layouts.{checksum_from, counted_bytes}
-use Rattle.sgb_file.proofs.LineLemmas.{clean_are_one_line, is_one_line, is_within_line, ends_well, ends_well-last, list_all-drop, first_line, some_part, line_read, lines_read}
+use Rattle.sgb_file.proofs.LineLemmas.{clean_are_one_line, is_one_line, is_within_line, ends_well, ends_well-last, list_all-drop, first_line, line_read, lines_again}
 use Rattle.sgb_file.proofs.LaidLines.{checksum_from-append, counted-append}
 use Rattle.sgb_file.proofs.WholeText.{checksum-whole}
 
@@ -21,31 +21,20 @@ use Rattle.sgb_file.proofs.WholeText.{checksum-whole}
 pub passes_line : (all : List (List ℕ)) (line : List ℕ) (left : List (List ℕ)) (before after : ℕ) → HasPassed all (line ∷ left) before
     → after ≡ checksum_from before (counted_bytes (line ∷ [])) → HasPassed all left after
 passes_line all line left before after h e =
-    let start : checksum_from 0 (counted_bytes h.passed) ≡ before = checksum-whole h.passed ∙ sym h.checksum in
-    let joined = ap (checksum_from 0) (counted-append h.passed (line ∷ [])) ∙ checksum_from-append 0 (counted_bytes h.passed) (counted_bytes (line ∷ [])) in
-    record {
-      passed = h.passed ++ line ∷ [];
-      made = h.made ∙ sym (append_assoc h.passed (line ∷ []) left);
-      checksum = e ∙ ap (λ (sum : ℕ). checksum_from sum (counted_bytes (line ∷ []))) (sym start) ∙ sym joined ∙ checksum-whole (h.passed ++ line ∷ []);
-    }
+    grind (arith, append_assoc, checksum-whole, counted-append h.passed (line ∷ []), checksum_from-append 0 (counted_bytes h.passed) (counted_bytes (line ∷ [])))
 
 -- a line is under way
 pub passed_line : (all : List ℕ) (line : Option (List ℕ)) (begun rest : List ℕ) (sum : ℕ) (l : List ℕ)
     → AreLinesLeft all line begun rest sum → line ≡ Some l → HasPassed (clean_lines all) (begun ∷ clean_lines rest) sum
-passed_line all None begun rest sum l h e = absurd cc
-passed_line all (Some line) begun rest sum l h e = h.0
+passed_line all line begun rest sum l h e = grind (arith)
 
 -- the line that was begun is one, and so are those after it
 begun_lines : (all begun rest : List ℕ) (sum : ℕ) → HasPassed (clean_lines all) (begun ∷ clean_lines rest) sum → (is_one_line begun ≡ true) × (list_all is_one_line (clean_lines rest) ≡ true)
-begun_lines all begun rest sum h =
-    let lines : list_all is_one_line (h.passed ++ begun ∷ clean_lines rest) ≡ true = subst (λ ls. list_all is_one_line ls ≡ true) h.made (clean_are_one_line all) in
-    let last = and_parts (list_all is_one_line h.passed) (list_all is_one_line (begun ∷ clean_lines rest)) (sym (list_all-append is_one_line h.passed (begun ∷ clean_lines rest)) ∙ lines) in
-    and_parts (is_one_line begun) (list_all is_one_line (clean_lines rest)) last.1
+begun_lines all begun rest sum h = grind (arith, and_parts, list_all-append is_one_line h.passed (begun ∷ clean_lines rest), clean_are_one_line all)
 
 -- what is left of a line has no newlines
 left_is_line : (all line begun rest : List ℕ) (sum : ℕ) → AreLinesLeft all (Some line) begun rest sum → is_one_line line ≡ true
-left_is_line all line begun rest sum h =
-    subst (λ l. is_one_line l ≡ true) (sym h.2) (list_all-drop is_within_line h.1 begun (begun_lines all begun rest sum h.0).0)
+left_is_line all line begun rest sum h = rw h.2 (list_all-drop is_within_line h.1 begun (begun_lines all begun rest sum h.0).0)
 
 pub left_in_line : (all : List ℕ) (line : Option (Bor (List ℕ))) (begun rest : List ℕ) (sum : ℕ)
     → AreLinesLeft all (option_map (λ l. l.now) line) begun rest sum → IfSome line (λ l. IsTrue (has_no_newline l.now))
@@ -54,17 +43,11 @@ left_in_line all (Some line) begun rest sum h = left_is_line all line.now begun 
 
 -- the place of the first that passes, or the length
 pub position-unwrapped : {X : Type 0} (p : X → Bool) (xs : List X) → unwrap_or (position p xs) (length xs) ≡ position_or_len p xs
-position-unwrapped p xs = chosen (nat_lt (position_or_len p xs) (length xs)) refl
-  where
-    chosen : (t : Bool) → nat_lt (position_or_len p xs) (length xs) ≡ t → unwrap_or (cond t (Some (position_or_len p xs)) None) (length xs) ≡ position_or_len p xs
-    chosen true e = refl
-    chosen false e =
-        let most = prefix_len-le-length (λ x. not (p x)) xs in
-        grind (arith, nat_tests, most)
+position-unwrapped p xs = grind (arith, nat_lt, unwrap_or, cond, prefix_len-le-length, nat_tests)
 
 -- a text that is not empty has a first line, up to its first newline
 pub first_line_of : (text : List ℕ) → position_or_len (λ b. b == 10) text < length text → clean_lines text ≡ without_end_spaces (before_first (λ b. b == 10) text) ∷ clean_lines (after_first (λ b. b == 10) text)
-first_line_of text h = search (rules, slice_split_first, first_line, some_part)
+first_line_of text h = search (rules, slice_split_first, first_line)
 
 -- no bytes have no lines
 pub no_lines : clean_lines [] ≡ []
@@ -74,13 +57,7 @@ no_lines = refl
 -- a text without newlines that is not empty is one line
 pub only_line_of : (text : List ℕ) → position_or_len (λ b. b == 10) text ≡ length text → length text ≢ 0 → clean_lines text ≡ without_end_spaces text ∷ clean_lines []
 unfolding lines_among
-only_line_of text e some =
-    let none : All (λ b. (b == 10) ≡ false) text = All-from_get_or (λ b. (b == 10) ≡ false) text 0 (λ k h. fails_before_first (λ b. b == 10) text k 0 (omega (arith, e, h))) in
-    ap (λ parts. map without_end_spaces (lines_among parts)) (slice_split_none (λ b. b == 10) text none) ∙ alone (length text == 0) (grind (arith, nat_tests, some))
-  where
-    alone : (t : Bool) → t ≡ false → map without_end_spaces (cond t [] (text ∷ [])) ≡ without_end_spaces text ∷ []
-    alone true e = absurd cc
-    alone false e = refl
+only_line_of text e some = grind (arith, All-from_get_or, fails_before_first, slice_split_none, nat_tests, cond)
 
 -- a space at the end is left out
 clean-snoc : (line : List ℕ) → without_end_spaces (line ++ 32 ∷ []) ≡ without_end_spaces line
@@ -93,12 +70,11 @@ last_apart : (line : List ℕ) (k : ℕ) → length line ≡ suc k → take k li
 last_apart line k e = grind (arith, drop_more, drop_all, take-append-drop)
 
 pub clean-last : (line : List ℕ) (k : ℕ) → length line ≡ suc k → slice_index line k ≡ 32 → without_end_spaces (take k line) ≡ without_end_spaces line
-clean-last line k e space =
-    sym (clean-snoc (take k line)) ∙ ap without_end_spaces (ap (λ (b : ℕ). take k line ++ b ∷ []) (sym space) ∙ last_apart line k e)
+clean-last line k e space = grind (arith, clean-snoc (take k line), last_apart line k e)
 
 -- a line that does not end with a space stays as it is
 pub ends_well-at : (line : List ℕ) (k : ℕ) → length line ≡ suc k → (slice_index line k == 32) ≡ false → ends_well line ≡ true
-ends_well-at line k e other = subst (λ l. ends_well l ≡ true) (last_apart line k e) (ends_well-last (take k line) (slice_index line k) other)
+ends_well-at line k e other = grind (arith, ends_well-last (take k line), last_apart line k e)
 
 -- a text of no bytes has no line to begin
 pub none_left : (all text : List ℕ) → text ≡ [] → lines_left all None text ≡ next_begun (lines_left all None text)
@@ -134,9 +110,7 @@ pub left_lines : (all : List ℕ) (line : Option (List ℕ)) (begun rest : List 
 unfolding lines_among
 left_lines all None begun rest sum h = refl
 left_lines all (Some line) begun rest sum h =
-    let after = (begun_lines all begun rest sum h.0).1 in
-    line_read line (text_of_lines (clean_lines rest)) (left_is_line all line begun rest sum h)
-    ∙ ap (λ ls. line ∷ ls) (ap lines_of_text (sym (append-nil (text_of_lines (clean_lines rest)))) ∙ lines_read (clean_lines rest) [] after ∙ append-nil (clean_lines rest))
+    rw (line_read line (text_of_lines (clean_lines rest)) (left_is_line all line begun rest sum h), lines_again (clean_lines rest) (begun_lines all begun rest sum h.0).1) refl
 
 -- what stands after these lines, and what stands before it
 line_after : (before : List (List ℕ)) (line : List ℕ) (after : List (List ℕ)) → slice_get (before ++ line ∷ after) (length before) ≡ Some line
@@ -145,9 +119,7 @@ line_after (first ∷ before) line after = line_after before line after
 
 -- a list that loses nothing stays as it is
 drop_nothing : (k : ℕ) (bytes : List ℕ) → length bytes ≤ length (drop k bytes) → drop k bytes ≡ bytes
-drop_nothing zero bytes h = refl
-drop_nothing (suc k) [] h = refl
-drop_nothing (suc k) (b ∷ bytes) h = absurd (omega (arith, h, length-drop k bytes))
+drop_nothing k bytes h = grind (arith, length-drop)
 
 -- where the line that was begun stands
 begun_at : (all begun rest : List ℕ) (sum : ℕ) (h : HasPassed (clean_lines all) (begun ∷ clean_lines rest) sum)
@@ -156,19 +128,13 @@ begun_at all begun rest sum h = omega (arith, ap length h.made, length-append h.
 
 begun_there : (all begun rest : List ℕ) (sum : ℕ) (h : HasPassed (clean_lines all) (begun ∷ clean_lines rest) sum)
     → slice_get (clean_lines all) (length (clean_lines all) - suc (length (clean_lines rest))) ≡ Some begun
-begun_there all begun rest sum h =
-    ap (λ (k : ℕ). slice_get (clean_lines all) k) (begun_at all begun rest sum h)
-    ∙ (ap (λ lines. slice_get lines (length h.passed)) h.made ∙ line_after h.passed begun (clean_lines rest))
+begun_there all begun rest sum h = grind (arith, begun_at all begun rest sum h, line_after h.passed begun (clean_lines rest))
 
 -- the line under way is as long as the one that was begun: nothing of it was passed over
 pub whole_under_way : (all : List ℕ) (line : Option (List ℕ)) (begun rest : List ℕ) (sum : ℕ) (l : List ℕ)
     → AreLinesLeft all line begun rest sum → line ≡ Some l → length begun ≤ length l → IsWhole (lines_left all line rest) l
 whole_under_way all None begun rest sum l h e long = absurd cc
-whole_under_way all (Some line) begun rest sum l h e long =
-    let under_way : line ≡ l = cc in
-    let left : l ≡ drop h.1 begun = sym under_way ∙ h.2 in
-    let same : begun ≡ l = sym (left ∙ drop_nothing h.1 begun (omega (arith, long, ap length left))) in
-    (e, begun_there all begun rest sum h.0 ∙ ap Some same)
+whole_under_way all (Some line) begun rest sum l h e long = grind (arith, drop_nothing, begun_there all begun rest sum h.0)
 
 -- the checksum after a line of which nothing was passed over before
 pub whole_passed : (all : List ℕ) (line : Option (List ℕ)) (begun rest : List ℕ) (sum : ℕ) (l : List ℕ) (after : ℕ)
@@ -177,11 +143,4 @@ pub whole_passed : (all : List ℕ) (line : Option (List ℕ)) (begun rest : Lis
     → HasPassed (clean_lines all) (clean_lines rest) after
 whole_passed all None begun rest sum l after h whole counted = absurd cc
 whole_passed all (Some line) begun rest sum l after h whole counted =
-    let there : Some begun ≡ Some l = sym (begun_there all begun rest sum h.0) ∙ whole.1 in
-    let same : begun ≡ l = cc in
-    let passed : lines_passed (lines_left all (Some line) rest) ≡ h.0.passed =
-    ap (λ (k : ℕ). take k (clean_lines all)) (begun_at all begun rest sum h.0)
-    ∙ (ap (take (length h.0.passed)) h.0.made ∙ take-append_seam h.0.passed (begun ∷ clean_lines rest)) in
-    let before : checksum_of_lines (lines_passed (lines_left all (Some line) rest)) ≡ sum = ap checksum_of_lines passed ∙ sym h.0.checksum in
-    passes_line (clean_lines all) begun (clean_lines rest) sum after h.0
-    (counted ∙ (ap (λ (s : ℕ). checksum_from s (counted_bytes (l ∷ []))) before ∙ ap (λ (t : List ℕ). checksum_from sum (counted_bytes (t ∷ []))) (sym same)))
+    grind (arith, begun_at all begun rest sum h.0, begun_there all begun rest sum h.0, take-append_seam h.0.passed (begun ∷ clean_lines rest), passes_line)

@@ -1,11 +1,11 @@
 -- Records and their texts: a record's reader finds exactly a record of these values.
-use Rattle.std.specs.Prelude.{◌≡◌, ◌==◌, ℕ, List, [], ◌∷◌, ◌++◌, length, codes, Option, Some, None, option_map, unwrap_or, if◌then◌else◌, refl}
-use Rattle.std.proofs.Common.{arith, ap, sym, subst, ◌∙◌, inl, inr}
-use Rattle.std.proofs.lemmas.Bool.Decides.{Decides-eqb}
+use Rattle.std.specs.Prelude.{◌≡◌, ◌==◌, ℕ, List, [], ◌∷◌, ◌++◌, length, codes, Option, Some, None, option_map, if◌then◌else◌, refl}
+use Rattle.std.proofs.Common.{arith, sym, subst, inl, inr, ◌⊎◌}
+use Rattle.std.proofs.lemmas.Bool.Decides.{Decides-eqb, nat_tests}
 use Rattle.sgb_text.specs.Languages.{As, Each, Fixed, Then}
 use Rattle.sgb_text.proofs.Readers.{Anything}
 use Rattle.sgb_text.proofs.Finders.{AreSoMany, Finds, From, StandsIn, found_with, rest_alone, finds_all, finds_as, finds_cons, finds_fixed, finds_from, finds_is, finds_prefix, finds_then, tested}
-use Rattle.sgb_text.proofs.Findings.{Found, after_prefix, prefix_is, was_mapped, was_let_through, given}
+use Rattle.sgb_text.proofs.Findings.{Found, prefix_is, was_let_through, given}
 use Rattle.sgb_graph.specs.Graphs.{GraphData}
 use Rattle.sgb_graph.specs.Growth.{graph_data}
 use Rattle.sgb_graph.specs.Ids.{most_id_bytes}
@@ -13,7 +13,7 @@ use Rattle.sgb_graph.specs.Sound.{vertex_kinds, arc_kinds, graph_kinds}
 use Rattle.sgb_graph.specs.declared.fields.Kind.{Kind}
 use Rattle.sgb_graph.specs.declared.fields.Kind.TheVariants.{Z, I, V, S, A}
 use Rattle.sgb_graph.specs.declared.fields.Util.{Util}
-use Rattle.sgb_graph.specs.declared.fields.Util.TheVariants.{Nothing, Int, Vertex as VertexField, Str, Chain}
+use Rattle.sgb_graph.specs.declared.fields.Util.TheVariants.{Nothing}
 use Rattle.sgb_graph.specs.declared.fields.Vertex.{Vertex}
 use Rattle.sgb_graph.specs.declared.fields.ArcRec.{ArcRec}
 use Rattle.sgb_file.specs.Fields.{most_number_digits, IsStringText, IsNumberText}
@@ -24,31 +24,20 @@ use Rattle.sgb_file.specs.Files.{IsComma, AreMoreFields, IsGraphRecord, AreRecor
 use Rattle.sgb_file.specs.inner.ReadRecords.{after_comma, more_fields_at, record_at, graph_record_at, vertex_of_fields, vertex_record_at, arc_of_fields, arc_record_at, records_at}
 use Rattle.sgb_file.proofs.FieldReading.{Ends}
 use Rattle.sgb_file.proofs.SavedGraphs.{fields_of_vertex, fields_of_arc}
-use Rattle.sgb_file.proofs.FieldsAndTexts.{GoesOn, finds_said, finds_string, finds_field, number_is_plain}
-use Rattle.sgb_file.proofs.FieldWords.{digits_again, digits_found}
+use Rattle.sgb_file.proofs.FieldsAndTexts.{GoesOn, finds_said, finds_string, finds_field, number_is_plain, digits_again, digits_found}
 
 -- a comma and perhaps a newline stand before what follows the comma
+comma_before : (text start : List ℕ) → after_comma text ≡ Some start → (text ≡ codes "," ++ start) ⊎ (text ≡ codes ",\n" ++ start)
+comma_before text start e = grind (arith, prefix_is)
+
 comma_found : (text start : List ℕ) → after_comma text ≡ Some start → StandsIn rest_alone IsComma text start
-comma_found text start e =
-    let m = was_mapped (after_prefix (codes ",") text) e in
-    by_line m.first (after_prefix (codes "\n") m.first) refl (prefix_is (codes ",") text m.first m.here) m.same
-  where
-    by_line : (first : List ℕ) (o : Option (List ℕ)) → after_prefix (codes "\n") first ≡ o → text ≡ codes "," ++ first → unwrap_or o first ≡ start → StandsIn rest_alone IsComma text start
-    by_line first None here e same = record { value = tt; word = codes ","; rest = first; says = inl (refl, refl); parts = e; made = same }
-    by_line first (Some rest) here e same =
-        record { value = tt; word = codes ",\n"; rest = rest; says = inr (refl, refl); parts = e ∙ ap (λ x. 44 ∷ x) (prefix_is (codes "\n") first rest here); made = same }
-
--- after a comma a text that begins with no newline is what follows
-comma_passed : (comma text : List ℕ) (none : Unit {0}) → IsComma comma none → GoesOn text → after_comma (comma ++ text) ≡ Some text
-comma_passed comma text none (inl e) goes_on = rw e.0 (rw goes_on refl)
-comma_passed comma text none (inr e) goes_on = rw e.0 refl
-
-comma_ends : (comma text : List ℕ) (none : Unit {0}) → IsComma comma none → Ends (comma ++ text)
-comma_ends comma text none (inl e) = subst (λ x. Ends (x ++ text)) (sym e.0) refl
-comma_ends comma text none (inr e) = subst (λ x. Ends (x ++ text)) (sym e.0) refl
+comma_found text start e = elim (comma_before text start e) [
+  | inl p ↦ record { value = tt; word = codes ","; rest = start; says = inl (refl, refl); parts = p; made = refl }
+  | inr p ↦ record { value = tt; word = codes ",\n"; rest = start; says = inr (refl, refl); parts = p; made = refl }
+]
 
 finds_comma : Finds rest_alone Ends GoesOn IsComma after_comma
-finds_comma = record { found = comma_found; again = λ comma rest none h t. comma_passed comma rest none h t; front = λ comma rest none h t. comma_ends comma rest none h }
+finds_comma = grind (arith, comma_found)
 
 -- the fields after the first of a record
 finds_more : (counts : Counts) (kinds : List Kind) → Finds found_with Ends Anything (AreMoreFields counts.vertices counts.arcs kinds) (more_fields_at counts kinds)
@@ -67,20 +56,14 @@ finds_record counts kind kinds used make fields_of are made =
 
 -- vertices
 are_of_vertex : (us : List Util) (v : Vertex) → vertex_of_fields us ≡ Some v → us ≡ fields_of_vertex v
-are_of_vertex (Str name ∷ Chain arcs ∷ util) v e =
-    let same : record { name = name; arcs = arcs; util = util } ≡ v = cc in
-    ap fields_of_vertex same
-are_of_vertex _ v e = absurd cc
+are_of_vertex us v e = grind (arith, fields_of_vertex)
 
 finds_vertex : (head : Head) → Finds found_with Anything Anything (IsVertexAfter head) (vertex_record_at head)
 finds_vertex head = finds_record head.counts S (A ∷ vertex_kinds head.kinds) (λ z. absurd cc) vertex_of_fields fields_of_vertex are_of_vertex (λ v. refl)
 
 -- arcs
 are_of_arc : (us : List Util) (r : ArcRec) → arc_of_fields us ≡ Some r → us ≡ fields_of_arc r
-are_of_arc (VertexField tip ∷ Chain next ∷ Int len ∷ a ∷ b ∷ []) r e =
-    let same : record { tip = tip; next = next; len = len; a = a; b = b } ≡ r = cc in
-    ap fields_of_arc same
-are_of_arc _ r e = absurd cc
+are_of_arc us r e = grind (arith, fields_of_arc)
 
 finds_arc : (head : Head) → Finds found_with Anything Anything (IsArcAfter head) (arc_record_at head)
 finds_arc head = finds_record head.counts V (A ∷ I ∷ arc_kinds head.kinds) (λ z. absurd cc) arc_of_fields fields_of_arc are_of_arc (λ r. refl)
@@ -91,12 +74,7 @@ GraphWord Last = Then (IsStringText most_id_bytes) (λ id. Then IsComma (λ none
 
 other_last : {X Y : Type 0} (Last : List ℕ → ℕ → ℕ → List ℕ → X → Type 0) (Other : List ℕ → ℕ → ℕ → List ℕ → Y → Type 0) (x : X) (y : Y)
     → ((id : List ℕ) (n m : ℕ) (text : List ℕ) → Last id n m text x → Other id n m text y) → (whole : List ℕ) → GraphWord Last whole x → GraphWord Other whole y
-other_last Last Other x y turn whole h =
-    let c = h.5 in
-    let n = c.5 in
-    let d = n.5 in
-    let m = d.5 in
-    (h.0, h.1, h.2, h.3, h.4, (c.0, c.1, c.2, c.3, c.4, (n.0, n.1, n.2, n.3, n.4, (d.0, d.1, d.2, d.3, d.4, (m.0, m.1, m.2, m.3, m.4, turn h.2 n.2 m.2 m.1 m.5)))))
+other_last Last Other x y turn whole h = grind (arith)
 
 -- as its reader has it: what is made of the parts, where there are as many vertices as are counted
 abbrev graph_of_parts : Head → List ℕ → ℕ → ℕ → List Util → Option GraphData
@@ -123,39 +101,21 @@ is_bare : (head : Head) (n : ℕ) (id : List ℕ) (m : ℕ) (util : List Util) (
 is_bare head n id m util g e = grind (arith, was_let_through, Decides-eqb)
 
 pub starts_bare : (head : Head) (text rest : List ℕ) (g : GraphData) → graph_record_at head text ≡ Some (record { value = g; rest = rest }) → ([] ≡ g.vertices) × ([] ≡ g.records)
-starts_bare head text rest g e =
-    let own = (finds_graph head).found text _ e in
-    let n = own.says.5.5 in
-    let m = n.5.5 in
-    let same = (is_bare head n.2 own.says.2 m.2 m.5.0 own.value m.5.2).1 ∙ ap (λ (x : Found GraphData). x.value) own.made in
-    (ap (λ (x : GraphData). x.vertices) same, ap (λ (x : GraphData). x.records) same)
+starts_bare head text rest g e = grind (arith, finds_graph, is_bare, Found)
 
 made_kinds : (head : Head) (bare : GraphData) (whole : List ℕ) → GraphWord (GraphMade head) whole bare → bare.kinds ≡ head.kinds
-made_kinds head bare whole h =
-    let n = h.5.5 in
-    let m = n.5.5 in
-    sym (ap (λ (x : GraphData). x.kinds) (is_bare head n.2 h.2 m.2 m.5.0 bare m.5.2).1)
+made_kinds head bare whole h = grind (arith, is_bare)
 
 graph_from : (head : Head) (bare : GraphData) (vertices : List Vertex) (records : List ArcRec) (whole : List ℕ) → length vertices ≡ head.counts.vertices
     → GraphWord (GraphMade head) whole bare → IsGraphAfter head whole (record bare { vertices = vertices; records = records })
 graph_from head bare vertices records whole count h =
     other_last (GraphMade head) (GraphSaid head) bare (bare.id, length vertices, bare.m, bare.util) (λ id n m text last.
-    let t = is_bare head n id m last.0 bare last.2 in (
-      last.0,
-      last.1,
-      ap (λ (x : GraphData). (x.id, length vertices, x.m, x.util)) (sym t.1) ∙ ap (λ k. (id, k, m, last.0)) (count ∙ sym t.0),
-    )) whole h
+    let t = is_bare head n id m last.0 bare last.2 in (last.0, last.1, rw (sym t.1, count, t.0) refl)) whole h
 
 graph_into : (g : GraphData) (whole : List ℕ) → IsGraphRecord g whole → GraphWord (GraphMade (head_of g)) whole (record g { vertices = []; records = [] })
 graph_into g whole h =
-    let n = length g.vertices in
-    let made : graph_of_parts (head_of g) g.id n g.m g.util ≡ Some (record g { vertices = []; records = [] }) = rw ((Decides-eqb n n).1 refl) refl in
-    other_last (GraphSaid (head_of g)) (GraphMade (head_of g)) (g.id, n, g.m, g.util) (record g { vertices = []; records = [] }) (λ id k m text last.
-    (last.0, last.1, ap (λ (p : List ℕ × ℕ × ℕ × List Util). graph_of_parts (head_of g) p.0 p.1 p.2 p.3) (sym last.2) ∙ made)) whole h
-
--- the counts of a first line are those of the records after it
-head_again : (head : Head) (g : GraphData) → g.kinds ≡ head.kinds → length g.vertices ≡ head.counts.vertices → length g.records ≡ head.counts.arcs → head ≡ head_of g
-head_again head g kinds vertices arcs = rw (kinds, vertices, arcs) refl
+    other_last (GraphSaid (head_of g)) (GraphMade (head_of g)) (g.id, length g.vertices, g.m, g.util) (record g { vertices = []; records = [] })
+    (λ id k m text last. (last.0, last.1, grind (arith, nat_tests, last))) whole h
 
 -- the records of a graph; the first line that they are read with says what the graph has
 pub record AreCounted (head : Head) (whole : List ℕ) (g : GraphData) : Type 0 where
@@ -169,26 +129,14 @@ RecordsWord head =
     Then (Fixed {V = Unit {0}} tt (codes "* Arcs\n")) (λ none. As (λ records. record own { vertices = vertices; records = records }) (AreSoMany (IsArcAfter head) head.counts.arcs)))))
 
 records_from : (head : Head) (whole : List ℕ) (g : GraphData) → RecordsWord head whole g → AreCounted head whole g
-records_from head whole g h =
-    let second = h.5 in
-    let v = second.5 in
-    let third = v.5 in
-    let a = third.5 in
-    let full = record h.2 { vertices = v.2; records = a.0 } in
-    let counted = head_again head full (made_kinds head h.2 h.0 h.4) v.4.0 a.1.0 in
-    let are = λ (x : Head). Each (IsVertexAfter x) v.0 v.2 × Each (IsArcAfter x) third.1 a.0 × IsGraphAfter x h.0 full in
-    let all = subst are counted (v.4.1, a.1.1, graph_from head h.2 v.2 a.0 h.0 v.4.0 h.4) in
-    subst (λ (x : GraphData). AreCounted head whole x) (sym a.2) (record {
+records_from head whole g (own, rest, bare, start, own_says, (title, body, none, parts, named, (vertices, last, vs, middle, are, (other, arcs, nothing, end, also, (rs, said, made))))) =
+    let full = record bare { vertices = vs; records = rs } in
+    let counted : head ≡ head_of full = rw (made_kinds head bare own own_says, are.0, said.0) refl in
+    let says = λ (x : Head). Each (IsVertexAfter x) vertices vs × Each (IsArcAfter x) arcs rs × IsGraphAfter x own full in
+    let all = subst says counted (are.1, said.1, graph_from head bare vs rs own are.0 own_says) in
+    rw made (record {
       counted = counted;
-      are = record {
-        own = h.0;
-        vertices = v.0;
-        arcs = third.1;
-        graph_record = all.2;
-        vertex_records = all.0;
-        arc_records = all.1;
-        parts = cc (h.3, second.3, second.4.0, v.3, third.3, third.4.0);
-      };
+      are = record { own = own; vertices = vertices; arcs = arcs; graph_record = all.2; vertex_records = all.0; arc_records = all.1; parts = cc (named.0, also.0) };
     })
 
 records_into : (g : GraphData) (whole : List ℕ) → AreRecordsOf g whole → RecordsWord (head_of g) whole g

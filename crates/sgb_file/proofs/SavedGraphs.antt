@@ -1,7 +1,6 @@
 -- Graphs that can be saved: the fields of their records, and what is found so an element at a time.
-use Rattle.std.specs.Prelude.{◌^◌, ◌≡◌, ℕ, suc, ◌+◌, ◌<◌, ◌≤◌, true, ◌&&◌, List, [], ◌∷◌, length, get_or, Some, slice_get, All, refl}
-use Rattle.std.specs.List.{list_all}
-use Rattle.std.proofs.Common.{rules, ap, sym, ◌∙◌, arith, length-drop}
+use Rattle.std.specs.Prelude.{◌^◌, ◌≡◌, ℕ, suc, ◌+◌, ◌<◌, ◌≤◌, true, List, [], ◌∷◌, length, get_or, Some, slice_get, All, refl}
+use Rattle.std.proofs.Common.{rules, arith, length-drop}
 use Rattle.std.proofs.Math.Bool.{and_assoc}
 use Rattle.std.proofs.lemmas.Bool.{and_parts, cases_lt}
 use Rattle.std.proofs.lemmas.List.Elements.{All-cons, All-nil}
@@ -10,7 +9,7 @@ use Rattle.std.proofs.lemmas.List.Sums.{AllPass-from_list_all}
 use Rattle.sgb_vec.specs.Limits.{most_vertices}
 use Rattle.sgb_graph.specs.Graphs.{GraphData}
 use Rattle.sgb_graph.specs.Ids.{IsId}
-use Rattle.sgb_graph.specs.Sound.{IsGraph, ref_fits, chain_fits, util_fits, utils_fit, graph_kinds, vertex_kinds, arc_kinds, vertex_fits, record_fits}
+use Rattle.sgb_graph.specs.Sound.{IsGraph, ref_fits, chain_fits, utils_fit, graph_kinds, vertex_kinds, arc_kinds, vertex_fits, record_fits}
 use Rattle.sgb_graph.specs.declared.fields.Kind.{Kind}
 use Rattle.sgb_graph.specs.declared.fields.Kind.TheVariants.{I, V, S, A}
 use Rattle.sgb_graph.specs.declared.fields.Util.{Util}
@@ -24,10 +23,6 @@ use Rattle.sgb_file.proofs.NumberReading.{at_most}
 -- P holds of the first n elements
 abbrev pub HoldsOfFirst : {X : Type 0} → (X → Type 0) → List X → ℕ → Type 0
 HoldsOfFirst {X} P xs n = (k : ℕ) (x : X) → k < n → slice_get xs k ≡ Some x → P x
-
--- of none of them
-pub none_hold : {X : Type 0} (P : X → Type 0) (xs : List X) → HoldsOfFirst P xs 0
-none_hold P xs k x below here = absurd (omega (arith, below))
 
 -- of one more
 pub more_hold : {X : Type 0} (P : X → Type 0) (xs : List X) (n : ℕ) (x : X) → HoldsOfFirst P xs n → slice_get xs n ≡ Some x → P x → HoldsOfFirst P xs (n + 1)
@@ -57,48 +52,30 @@ abbrev pub ArcFits : GraphData → ArcRec → Type 0
 ArcFits g r = FieldsFit (head_of g).counts (V ∷ A ∷ I ∷ arc_kinds g.kinds) (fields_of_arc r)
 
 vertex_that_fits : (g : GraphData) (v : Vertex) → vertex_fits g v ≡ true → VertexCanBeSaved v → VertexFits g v
-vertex_that_fits g v fits saved = record {
-  fits = fits;
-  values = All-cons ValueCanBeSaved (Str v.name) (Chain v.arcs ∷ v.util) saved.name (All-cons ValueCanBeSaved (Chain v.arcs) v.util tt saved.util);
-}
+vertex_that_fits g v fits saved = grind (arith, All-cons)
 
 pub vertex_saved : (g : GraphData) (v : Vertex) → VertexFits g v → VertexCanBeSaved v
-vertex_saved g v h =
-    record { name = h.values 0 (Str v.name) (omega arith); util = λ k d below. h.values (suc (suc k)) d (omega (arith, below)) }
+vertex_saved g v h = grind (arith, h.values 0 (Str v.name), λ (k : ℕ) (d : Util). h.values (suc (suc k)) d)
 
 -- the tests of an arc's fields are grouped in two ways
 pub arc_tests : (g : GraphData) (r : ArcRec) → record_fits g r ≡ utils_fit (length g.vertices) (length g.records) (V ∷ A ∷ I ∷ arc_kinds g.kinds) (fields_of_arc r)
 arc_tests g r = and_assoc (ref_fits (length g.vertices) r.tip) (chain_fits (length g.records) r.next) (utils_fit (length g.vertices) (length g.records) (arc_kinds g.kinds) (r.a ∷ r.b ∷ []))
 
 arc_that_fits : (g : GraphData) (r : ArcRec) → record_fits g r ≡ true → ArcCanBeSaved r → ArcFits g r
-arc_that_fits g r fits saved =
-    let fields = r.a ∷ r.b ∷ [] in
-    let own = All-cons ValueCanBeSaved r.a (r.b ∷ []) saved.a (All-cons ValueCanBeSaved r.b [] saved.b (All-nil ValueCanBeSaved)) in
-    let after = All-cons ValueCanBeSaved (Chain r.next) (Int r.len ∷ fields) tt (All-cons ValueCanBeSaved (Int r.len) fields saved.len own) in
-    record { fits = sym (arc_tests g r) ∙ fits; values = All-cons ValueCanBeSaved (VertexField r.tip) (Chain r.next ∷ Int r.len ∷ fields) tt after }
+arc_that_fits g r fits saved = grind (arith, All-cons, All-nil, arc_tests)
 
 pub arc_saved : (g : GraphData) (r : ArcRec) → ArcFits g r → ArcCanBeSaved r
-arc_saved g r h =
-    record { len = h.values 2 (Int r.len) (omega arith); a = h.values 3 r.a (omega arith); b = h.values 4 r.b (omega arith) }
+arc_saved g r h = grind (arith, h.values 2, h.values 3, h.values 4)
 
 -- as many values as kinds
 pub length_fits : (n m : ℕ) (kinds : List Kind) (utils : List Util) → utils_fit n m kinds utils ≡ true → length utils ≡ length kinds
 length_fits n m [] [] h = refl
-length_fits n m (kind ∷ kinds) (u ∷ utils) h =
-    ap suc (length_fits n m kinds utils (and_parts (util_fits n m kind u) (utils_fit n m kinds utils) h).1)
+length_fits n m (kind ∷ kinds) (u ∷ utils) h = grind (arith, and_parts, length_fits n m kinds utils)
 length_fits n m _ _ h = absurd cc
-
--- the tests of a graph's own fields, of its vertices and of its arc records
-fields_apart : (g : GraphData) → IsGraph g → (utils_fit (length g.vertices) (length g.records) (graph_kinds g.kinds) g.util ≡ true) × (list_all (vertex_fits g) g.vertices ≡ true) × (list_all (record_fits g) g.records ≡ true)
-fields_apart g h =
-    let own = utils_fit (length g.vertices) (length g.records) (graph_kinds g.kinds) g.util in
-    let parts = and_parts (own && list_all (vertex_fits g) g.vertices) (list_all (record_fits g) g.records) h.fields in
-    let first = and_parts own (list_all (vertex_fits g) g.vertices) parts.0 in
-    (first.0, first.1, parts.1)
 
 -- a graph has six fields of its own
 pub six_fields : (g : GraphData) → IsGraph g → length g.kinds ≡ 14 → length g.util ≡ 6
-six_fields g h kinds = length_fits (length g.vertices) (length g.records) (graph_kinds g.kinds) g.util (fields_apart g h).0 ∙ rw length-drop (omega arith)
+six_fields g h kinds = grind (arith, length_fits, and_parts, length-drop)
 
 -- counts that numbers of 18 digits reach
 pub record AreSmall (counts : Counts) : Type 0 where
@@ -117,16 +94,4 @@ pub record IsReady (g : GraphData) : Type 0 where
   pub records : All (ArcFits g) g.records
 
 pub ready : (g : GraphData) → CanBeSaved g → IsReady g
-ready g h =
-    let most = at_most (length g.vertices) most_vertices h.graph.vertices_fit in
-    let fits = fields_apart g h.graph in
-    record {
-      small = record { vertices = omega (arith, most); arcs = omega (arith, h.writable.records_counted) };
-      vertices_few = most;
-      records_few = h.writable.records_counted;
-      arcs_few = h.writable.arcs_counted;
-      id = h.writable.id;
-      own = record { fits = fits.0; values = h.writable.util };
-      vertices = λ k d below. vertex_that_fits g (get_or g.vertices k d) (AllPass-from_list_all (vertex_fits g) g.vertices fits.1 k d below) (h.writable.vertices k d below);
-      records = λ k d below. arc_that_fits g (get_or g.records k d) (AllPass-from_list_all (record_fits g) g.records fits.2 k d below) (h.writable.records k d below);
-    }
+ready g h = grind (arith, at_most, and_parts, vertex_that_fits, AllPass-from_list_all, arc_that_fits)

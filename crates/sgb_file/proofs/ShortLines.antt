@@ -1,20 +1,26 @@
 -- Short lines that are put together: bytes after bytes, and the checksum that comes of the value.
-use Rattle.std.specs.Prelude.{◌≡◌, ℕ, ◌+◌, ◌*◌, ◌/◌, ◌%◌, ◌^◌, ◌<◌, ◌≤◌, true, false, List, [], ◌∷◌, ◌++◌, codes, decimal, length, take, slice_index_or as get_or, set, refl, Option, Some, None, IfSome}
-use Rattle.std.proofs.Common.{rules, arith, ap, sym, ◌∙◌, append_assoc, append-nil, length-append}
+use Rattle.std.specs.Prelude.{◌≡◌, ℕ, ◌+◌, ◌*◌, ◌/◌, ◌%◌, ◌^◌, ◌<◌, ◌≤◌, false, List, [], ◌∷◌, ◌++◌, codes, decimal, length, take, slice_index_or as get_or, set, refl, Option, Some, None, IfSome}
+use Rattle.std.proofs.Common.{rules, arith, ap, sym, ◌∙◌, append_assoc, append-nil, length-append, ◌≡◌, ◌≤◌, ◌<◌, ◌+◌, ◌/◌, ◌%◌, ◌^◌, ◌∷◌, [], ◌++◌, ℕ, decimal}
 use Rattle.std.proofs.Math.Nat.{mod-eq_of_lt}
 use Rattle.std.proofs.lemmas.Bool.Decides.{nat_tests}
 use Rattle.std.proofs.lemmas.List.{length-take, take_more, take_more_set}
 use Rattle.std.proofs.lemmas.List.Sums.{fold-append}
-use Rattle.std.proofs.lemmas.Fmt.{length-decimal-le}
+use Rattle.std.proofs.lemmas.Fmt.{length-decimal-le, decimal_digit, decimal_step}
 use Rattle.std.proofs.lemmas.Nat.{mod_below}
 use Rattle.sgb_file.specs.Checksum.{checksum_prime, has_star}
 use Rattle.sgb_file.specs.Saving.{laid_out, pieces_of, quoted, record_lines, record_number_text}
-use Rattle.sgb_file.specs.inner.SavedLines.{fits_on}
 use Rattle.sgb_file.specs.inner.Layouts.{HasLaid, checksum_from, place_of, value_from}
 use Rattle.sgb_file.specs.inner.ShortLines.{AreShort, AreShortFields, ShortText, field_texts_of, line_of, name_piece, put_after, short_stage, short_texts}
 use Rattle.sgb_file.proofs.ChecksumLemmas.{few_counted}
-use Rattle.sgb_file.proofs.FewDigits.{pair_after}
 use Rattle.sgb_file.proofs.LaidLines.{checksum-counted, checksum_from-append}
+
+-- the text of two digits
+pub two_digits : (n : ℕ) → 10 ≤ n → n < 100 → (48 + n / 10) ∷ (48 + n % 10) ∷ [] ≡ decimal n
+two_digits n more few = search (rules, decimal_step, decimal_digit)
+
+-- two digits after others
+pub pair_after : (n : ℕ) → 100 ≤ n → n < 2 ^ 32 → decimal (n / 100) ++ ((48 + n % 100 / 10) ∷ (48 + n % 100 % 10) ∷ []) ≡ decimal n
+pair_after n more few = search (rules, decimal_step, append_assoc)
 
 -- a byte was put after the bytes that are kept
 pub byte_put : (s : ShortText) (bytes : List ℕ) (len byte place value new : ℕ) → record { text = take len bytes; value = value } ≡ s
@@ -51,7 +57,7 @@ pair_put_after s before after n more few e f = grind (arith, put-append, pair_af
 -- bytes were put after others
 pub put-then : (s before after : ShortText) (xs ys : List ℕ) → before ≡ put_after s xs → after ≡ put_after before ys
     → after ≡ put_after s (xs ++ ys)
-put-then s before after xs ys e f = f ∙ (ap (λ t. put_after t ys) e ∙ put-append s xs ys)
+put-then s before after xs ys e f = grind (arith, put-append)
 
 -- a remainder is small
 pub remainder_small : (s : ShortText) (n : ℕ) → s.value ≡ n % checksum_prime → s.value < 2 ^ 32
@@ -69,13 +75,7 @@ pub short-laid : (old mid new : ShortText) (line : List ℕ) → old.value < 2 ^
     → mid ≡ put_after old line
     → new.text ≡ (put_after mid (10 ∷ [])).text → new.value ≡ (put_after mid (10 ∷ [])).value % checksum_prime
     → HasLaid (line ∷ []) (short_stage old) (short_stage new)
-short-laid old mid new line small short plain e text value =
-    let all = ended old mid new line small short e text value in
-    record {
-      written = all.0 ∙ ap (λ t. old.text ++ t) (sym (append-nil (line ++ 10 ∷ [])));
-      sound = refl;
-      checksum = all.1 ∙ (checksum_from-append old.value line (10 ∷ []) ∙ checksum-counted old.value line plain);
-    }
+short-laid old mid new line small short plain e text value = grind (arith, append-nil, checksum_from-append, checksum-counted, ended old mid new line)
 
 -- the same of a line in two parts, with the remainder taken between them
 parts-laid : (old first between mid new : ShortText) (front back : List ℕ) → old.value < 2 ^ 32 → 0 < length front
@@ -88,74 +88,43 @@ parts-laid : (old first between mid new : ShortText) (front back : List ℕ) →
 unfolding put_after
 parts-laid old first between mid new front back small some few short plain e t v f text value =
     let rest = ended between mid new back (remainder_small between first.value v) short f text value in
-    let text_so_far : between.text ≡ old.text ++ front = t ∙ ap (λ (s : ShortText). s.text) e in
-    let sum_so_far = few_counted old.value between.value front small some few (v ∙ ap (λ (s : ShortText). s.value % checksum_prime) e) in
-    let end = back ++ 10 ∷ [] in
-    let whole : (front ++ back) ++ 10 ∷ [] ≡ front ++ end = append_assoc front back (10 ∷ []) in
-    record {
-      written = rest.0 ∙ (ap (λ s. s ++ end) text_so_far ∙ (append_assoc old.text front end
-          ∙ ap (λ s. old.text ++ s) (sym whole ∙ sym (append-nil ((front ++ back) ++ 10 ∷ [])))));
-      sound = refl;
-      checksum = rest.1 ∙ (ap (λ (s : ℕ). checksum_from s end) sum_so_far ∙ (sym (checksum_from-append old.value front end)
-          ∙ (ap (checksum_from old.value) (sym whole) ∙ (checksum_from-append old.value (front ++ back) (10 ∷ []) ∙ checksum-counted old.value (front ++ back) plain))));
-    }
+    let sum = few_counted old.value between.value front small some few (v ∙ ap (λ (s : ShortText). s.value % checksum_prime) e) in
+    let whole = append_assoc front back (10 ∷ []) in
+    grind (arith, append_assoc, append-nil, checksum_from-append, checksum-counted old.value (front ++ back) plain, whole, rest, sum)
 
 -- the texts of a short line's fields have few bytes
 four_digits : (n : ℕ) → n < 10_000 → length (decimal n) ≤ 4
-four_digits n few = length-decimal-le 4 n (omega arith) (omega (arith, few)) (omega (arith, few))
+four_digits n few = grind (arith, length-decimal-le 4 n)
 
 next_short : (next : Option ℕ) → IfSome next (λ k. k < 100_000_000) → length (record_number_text next) ≤ 9
 next_short None h = omega arith
-next_short (Some k) h =
-    let few : length (decimal k) ≤ 8 = length-decimal-le 8 k (omega arith) (omega (arith, h)) (omega (arith, h)) in
-    omega (arith, few)
-
--- the length of a line of several texts
-line_length : (text next : List ℕ) (texts : List (List ℕ))
-    → length (line_of (text ∷ next ∷ texts)) ≡ length text + 1 + length (line_of (next ∷ texts))
-line_length text next texts = omega (arith, length-append text (44 ∷ line_of (next ∷ texts)))
+next_short (Some k) h = grind (arith, length-decimal-le)
 
 -- a record whose texts fit on one line
 texts_fit : (line : List ℕ) (texts : List (List ℕ)) → length line + length (line_of texts) ≤ 79
     → laid_out line (pieces_of texts) ≡ (line ++ line_of texts) ∷ []
 unfolding laid_out pieces_of
 texts_fit line [] few = ap (λ t. t ∷ []) (sym (append-nil line))
-texts_fit line (text ∷ []) few = let fits : fits_on line text ≡ true = grind (arith, nat_tests) in rw fits refl
-texts_fit line (text ∷ next ∷ texts) few =
-    let piece = text ++ codes "," in
-    let others = line_of (next ∷ texts) in
-    let n = length-append text (codes ",") in
-    let m = length-append text (44 ∷ others) in
-    let l = length-append line piece in
-    let fits : fits_on line piece ≡ true = grind (arith, nat_tests) in
-    rw fits (texts_fit (line ++ piece) (next ∷ texts) (omega (arith, few, n, m, l))
-    ∙ ap (λ t. t ∷ []) (append_assoc line piece others ∙ ap (λ t. line ++ t) (append_assoc text (codes ",") others)))
+texts_fit line (text ∷ texts) few = grind (arith, length-append, nat_tests, append_assoc, texts_fit (line ++ (text ++ codes ",")) texts)
 
 -- the texts of an arc record are short
 pub short_length : (tip : ℕ) (next : Option ℕ) (len : ℕ) → AreShort tip next len → length (line_of (short_texts tip next len)) ≤ 29
-short_length tip next len short =
-    let v : length (decimal tip) ≤ 8 = length-decimal-le 8 tip (omega arith) (omega (arith, short.0)) (omega (arith, short.0)) in
-    let first = codes "V" ++ decimal tip in
-    let second = record_number_text next in
-    omega (arith, v, four_digits len short.2, next_short next short.1, length-append (codes "V") (decimal tip), line_length first second (decimal len ∷ []), line_length second (decimal len) [])
+short_length tip next len short = grind (arith, length-decimal-le 8 tip, four_digits, next_short, length-append)
 
 pub short_record : (tip : ℕ) (next : Option ℕ) (len : ℕ) → AreShort tip next len
     → record_lines (short_texts tip next len) ≡ line_of (short_texts tip next len) ∷ []
 short_record tip next len short = texts_fit [] (short_texts tip next len) (omega (arith, short_length tip next len short))
 
 -- and those of a vertex
-name_length : (name : List ℕ) → length (name_piece name) ≡ length name + 3
-name_length name = omega (arith, length-append name (34 ∷ []), length-append (quoted name) (codes ","))
-
 pub next_length : (first : Option ℕ) → IfSome first (λ k. k < 100_000_000) → length (record_number_text first) ≤ 29
 next_length first short = omega (arith, next_short first short)
 
 pub fields_length : (first : Option ℕ) (x y z : ℕ) → AreShortFields first x y z → length (line_of (field_texts_of first x y z)) ≤ 29
-fields_length first x y z short = search (rules, next_short, four_digits, line_length)
+fields_length first x y z short = grind (arith, next_short, four_digits, length-append)
 
 vertex_record : (name field : List ℕ) (fields : List (List ℕ)) → length name ≤ 28 → length (line_of (field ∷ fields)) ≤ 29
     → record_lines (quoted name ∷ field ∷ fields) ≡ (name_piece name ++ line_of (field ∷ fields)) ∷ []
-vertex_record name field fields few short = search (rules, length-append, texts_fit, line_length, append_assoc)
+vertex_record name field fields few short = grind (arith, length-append, texts_fit [] (quoted name ∷ field ∷ fields), append_assoc)
 
 pub vertex-laid : (old first between mid new : ShortText) (name field : List ℕ) (fields : List (List ℕ)) → old.value < 2 ^ 32
     → length name ≤ 28 → length (line_of (field ∷ fields)) ≤ 29 → first ≡ put_after old (name_piece name)
@@ -163,6 +132,5 @@ pub vertex-laid : (old first between mid new : ShortText) (name field : List ℕ
     → new.text ≡ (put_after mid (10 ∷ [])).text → new.value ≡ (put_after mid (10 ∷ [])).value % checksum_prime
     → HasLaid (record_lines (quoted name ∷ field ∷ fields)) (short_stage old) (short_stage new)
 vertex-laid old first between mid new name field fields small few short e t v f text value =
-    let n = name_length name in
     rw (vertex_record name field fields few short)
-    (parts-laid old first between mid new (name_piece name) (line_of (field ∷ fields)) small (omega (arith, n)) (omega (arith, n, few)) short refl e t v f text value)
+    (parts-laid old first between mid new (name_piece name) (line_of (field ∷ fields)) small (grind (arith, length-append)) (grind (arith, length-append)) short refl e t v f text value)

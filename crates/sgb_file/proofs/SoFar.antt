@@ -1,5 +1,5 @@
 -- A text written part by part: what was written so far, and what is left.
-use Rattle.std.proofs.Common.{rules, ◌≡◌, ◌++◌, ◌∙◌, ℕ, List, [], Option, refl, sym, ap, subst, append_assoc, append-nil}
+use Rattle.std.proofs.Common.{rules, ◌≡◌, ◌++◌, ℕ, List, [], Option, refl, append_assoc, append-nil}
 use Rattle.std.specs.Io.KnownBytes.{Appends}
 use Rattle.std.proofs.KnownBytes.{Appends-trans, Appends-nil}
 use Rattle.sgb_file.specs.Devices.{AppendsPrefix}
@@ -15,8 +15,7 @@ so_far-none all a = ([], refl, Appends-nil a)
 
 -- the next part was written
 pub so_far-more : (all part left rest : List ℕ) (a b c : Option (List ℕ)) → left ≡ part ++ rest → SoFar all left a b → Appends b c part → SoFar all rest a c
-so_far-more all part left rest a b c e p q =
-    (p.0 ++ part, append_assoc p.0 part rest ∙ ap (λ text. p.0 ++ text) (sym e) ∙ p.1, Appends-trans a b c p.0 part p.2 q)
+so_far-more all part left rest a b c e p q = search (rules, append_assoc, Appends-trans)
 
 -- all was written
 pub so_far-all : (all left : List ℕ) (a b : Option (List ℕ)) → left ≡ [] → SoFar all left a b → Appends a b all
@@ -24,7 +23,4 @@ so_far-all all left a b e p = search (rules, append-nil)
 
 -- a prefix of the next part was written
 pub so_far-prefix : (all part left rest : List ℕ) (a b c : Option (List ℕ)) → left ≡ part ++ rest → SoFar all left a b → AppendsPrefix b c part → AppendsPrefix a c all
-so_far-prefix all part left rest a b c e p q =
-    let whole : p.0 ++ (part ++ rest) ≡ all = ap (λ text. p.0 ++ text) (sym e) ∙ p.1 in
-    let P : List ℕ → Type 0 = λ text. AppendsPrefix a c text in
-    subst P whole (prefix_after a b c p.0 (part ++ rest) p.2 (prefix_more b c part rest q))
+so_far-prefix all part left rest a b c e p q = rw (← p.1, e) (prefix_after a b c p.0 (part ++ rest) p.2 (prefix_more b c part rest q))

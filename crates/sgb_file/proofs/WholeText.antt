@@ -1,5 +1,5 @@
 -- The text of a graph in three parts, and what stands in each.
-use Rattle.std.proofs.Common.{◌≡◌, ◌+◌, ◌*◌, ◌%◌, ◌^◌, ◌++◌, ◌∙◌, ℕ, List, [], ◌∷◌, length, map, codes, decimal, sym, ap, append_assoc, append-nil, arith}
+use Rattle.std.proofs.Common.{◌≡◌, ◌+◌, ◌*◌, ◌%◌, ◌^◌, ◌++◌, ◌∙◌, ℕ, List, [], ◌∷◌, length, map, codes, decimal, ap, append_assoc, append-nil, arith}
 use Rattle.std.proofs.lemmas.List.Concat.{flat_map-append}
 use Rattle.sgb_graph.specs.Graphs.{GraphData}
 use Rattle.sgb_file.specs.FileLines.{text_of_lines}
@@ -22,11 +22,8 @@ pub text-parts : (g : GraphData) (n records sum : ℕ) → n ≡ length g.vertic
     → text_of_graph g ≡ head_text (map letter_of g.kinds) n records ++ (text_of_lines (middle_lines g) ++ checksum_text sum)
 text-parts g n records sum h k s =
     let front : List ℕ = codes "* GraphBase graph (util_types " ++ map letter_of g.kinds ++ codes "," ++ decimal (length g.vertices) ++ codes "V," ++ decimal (length g.records) in
-    let first : head_line g ++ 10 ∷ [] ≡ head_text (map letter_of g.kinds) n records =
-    rw (h, k) (append_assoc front (codes "A)") (10 ∷ [])) in
-    let last : text_of_lines (middle_lines g ++ checksum_line g ∷ []) ≡ text_of_lines (middle_lines g) ++ checksum_text sum =
-    flat_map-append (λ line. line ++ 10 ∷ []) (middle_lines g) (checksum_line g ∷ [])
-    ∙ ap (λ text. text_of_lines (middle_lines g) ++ text) (append-nil (checksum_line g ++ 10 ∷ []) ∙ ap (λ (x : ℕ). checksum_text x) (sym s)) in
+    let first : head_line g ++ 10 ∷ [] ≡ head_text (map letter_of g.kinds) n records = grind (arith, append_assoc, codes) in
+    let last : text_of_lines (middle_lines g ++ checksum_line g ∷ []) ≡ text_of_lines (middle_lines g) ++ checksum_text sum = grind (arith, flat_map-append, append-nil) in
     ap (λ text. text ++ text_of_lines (middle_lines g ++ checksum_line g ∷ [])) first ∙ ap (λ text. head_text (map letter_of g.kinds) n records ++ text) last
 
 -- seven texts, one after another

@@ -1,10 +1,8 @@
 -- Prefixes of texts, written one after the other.
-use Rattle.std.proofs.Common.{◌≡◌, ◌++◌, ℕ, Bool, true, false, List, [], Option, Result, Ok, Err, refl, sym, ap, ◌∙◌, append_assoc, append-nil}
+use Rattle.std.proofs.Common.{◌++◌, ℕ, Bool, List, [], Option, Result, Ok, Err, refl, sym, ap, ◌∙◌, append_assoc, append-nil, arith}
 use Rattle.std.specs.Io.KnownBytes.{Appends}
 use Rattle.std.proofs.KnownBytes.{Appends-trans, Appends-nil}
 use Rattle.sgb_file.specs.Devices.{AppendsPrefix, AppendsUnlessFailed, Change, IsPut}
-use Rattle.std.specs.Bool.{MatchBool}
-use Rattle.std.proofs.lemmas.Bool.{both_ways}
 
 -- a whole text is a prefix of itself
 pub prefix_all : (a b : Option (List ℕ)) (xs : List ℕ) → Appends a b xs → AppendsPrefix a b xs
@@ -24,13 +22,8 @@ prefix_after a b c xs ys p q = (xs ++ q.0, q.1, ap (λ l. xs ++ l) q.2 ∙ sym (
 
 -- what was put, whether or not the sink has failed
 pub unless_failed : {T E : Type 0} (xs : List ℕ) (sink : Change) (r : Result T E) → IsPut xs sink r → AppendsUnlessFailed sink xs
-unless_failed {T = T} {E = E} xs sink r p = by_failure sink.failed r refl p
-  where
-    by_failure : (failed : Bool) (r : Result T E) → sink.failed ≡ failed → IsPut xs sink r → MatchBool failed (AppendsPrefix sink.before sink.after xs) (Appends sink.before sink.after xs)
-    by_failure true (Ok x) is p = prefix_all sink.before sink.after xs p
-    by_failure false (Ok x) is p = p
-    by_failure true (Err e) is p = p.0
-    by_failure false (Err e) is p = absurd (both_ways sink.failed is p.1)
+unless_failed xs sink (Ok x) p = grind (arith, prefix_all)
+unless_failed xs sink (Err e) p = grind arith
 
 -- after a whole text, what becomes of the next is what becomes of both
 pub put_after : {T E : Type 0} (a b c : Option (List ℕ)) (failed : Bool) (xs ys : List ℕ) (r : Result T E) → Appends a b xs

@@ -1,8 +1,8 @@
 -- The records of a file as they are written: each is a record of the graph's, with breaks in its texts.
-use Rattle.std.specs.Prelude.{◌≡◌, ℕ, Bool, true, false, cond, List, [], ◌∷◌, ◌++◌, length, codes, decimal, Option, Some, All, refl}
+use Rattle.std.specs.Prelude.{◌≡◌, ℕ, Bool, true, cond, List, [], ◌∷◌, ◌++◌, length, codes, decimal, Option, Some, All, refl}
 use Rattle.std.specs.Fmt.{signed_decimal}
 use Rattle.std.specs.List.{flat_map}
-use Rattle.std.proofs.Common.{ap, sym, subst, ◌∙◌, arith, inl, inr}
+use Rattle.std.proofs.Common.{arith}
 use Rattle.std.proofs.lemmas.Bool.{and_parts}
 use Rattle.std.proofs.lemmas.List.Elements.{All-head, All-tail}
 use Rattle.sgb_vec.specs.Limits.{most_bytes}
@@ -19,14 +19,14 @@ use Rattle.sgb_file.specs.inner.FieldValues.{number_of, integer_of, ref_of, reco
 use Rattle.sgb_file.specs.inner.Heads.{Counts, head_of, IsRecordAmong}
 use Rattle.sgb_text.specs.Languages.{Each}
 use Rattle.sgb_file.specs.Files.{IsFieldText, IsComma, AreMoreFields, IsGraphRecord}
-use Rattle.sgb_file.specs.Saving.{quoted, ref_text, record_number_text, field_texts, pieces_of, record_lines}
+use Rattle.sgb_file.specs.Saving.{quoted, ref_text, record_number_text, field_texts, record_lines}
 use Rattle.sgb_file.specs.inner.SavedLines.{graph_texts}
 use Rattle.sgb_file.specs.Saved.{ValueCanBeSaved}
 use Rattle.sgb_file.proofs.LineLemmas.{is_line}
 use Rattle.sgb_file.proofs.LaidOutText.{with_breaks, after_field, lay_out, laid_out_text}
 use Rattle.sgb_file.proofs.FieldReading.{IsBroken, IsSaid, said_broken, number_is_said, integer_is_said, ref_is_said, record_number_is_said, string_is_said, quoted_is_line}
 use Rattle.sgb_file.proofs.SavedGraphs.{AreSmall, FieldsFit, IsReady}
-use Rattle.sgb_file.proofs.FieldWords.{digits_found, integer_found, record_number_found, ref_found}
+use Rattle.sgb_file.proofs.FieldsAndTexts.{digits_found, integer_found, record_number_found, ref_found}
 
 -- a field that has a text: with any breaks it says the value, and it is a line as it is written
 pub record IsField (counts : Counts) (kind : Kind) (u : Util) : Type 0 where
@@ -56,8 +56,7 @@ field_of counts small _ _ used fits h = absurd cc
 
 -- a comma, and the end of the line or not
 is_comma : (gap : Bool) → IsComma (44 ∷ cond gap (10 ∷ []) []) tt
-is_comma true = inr (refl, refl)
-is_comma false = inl (refl, refl)
+is_comma gap = grind (arith)
 
 -- these texts as they stand with breaks, each after a comma, and a newline at the end
 abbrev AreLaid : List (List ℕ) → List ℕ → Type 0
@@ -68,37 +67,17 @@ AreLaid (text ∷ texts) tail = (comma broken others : List ℕ) × IsComma comm
 tail_written : (line : List ℕ) (texts : List (List ℕ)) → AreLaid texts (after_field line texts)
 tail_written line [] = refl
 tail_written line (text ∷ texts) =
-    let laid = lay_out line text texts in (
-      44 ∷ cond laid.gap (10 ∷ []) [],
-      with_breaks laid.breaks 78 text,
-      after_field laid.next texts,
-      is_comma laid.gap,
-      (laid.breaks, laid.few, refl),
-      tail_written laid.next texts,
-      ap (λ x. 44 ∷ x) laid.whole,
-    )
+    let laid = lay_out line text texts in
+    grind (arith, laid, is_comma laid.gap, tail_written laid.next texts)
 
 -- the lines of a record with these texts
 record_written : (text : List ℕ) (texts : List (List ℕ)) → (broken others : List ℕ) × IsBroken text broken × AreLaid texts others × (text_of_lines (record_lines (text ∷ texts)) ≡ broken ++ others)
-record_written text texts =
-    let laid = lay_out [] text texts in
-    let body = with_breaks laid.breaks 78 text in
-    let others = after_field laid.next texts in
-    let whole = laid_out_text [] (pieces_of (text ∷ texts)) ∙ laid.whole ∙ ap (λ gap. cond gap (10 ∷ []) [] ++ (body ++ others)) (laid.starts refl) in
-    (body, others, (laid.breaks, laid.few, refl), tail_written laid.next texts, whole)
+record_written text texts = grind (arith, with_breaks, after_field, laid_out_text, tail_written, lay_out [] text texts)
 
 -- the texts of fields with breaks are texts of the fields
 field_more : (counts : Counts) (kind : Kind) (kinds : List Kind) (u : Util) (us : List Util) (comma broken others : List ℕ) → IsComma comma tt → IsFieldText counts.vertices counts.arcs kind broken u → AreMoreFields counts.vertices counts.arcs kinds others us
     → AreMoreFields counts.vertices counts.arcs (kind ∷ kinds) (comma ++ (broken ++ others)) (u ∷ us)
-field_more counts Z kinds u us comma broken others is says more = absurd says
-field_more counts kind kinds u us comma broken others is says more = (comma, broken ++ others, tt, refl, is, (broken, others, u, refl, says, (us, more, refl)))
-
-next_written : (counts : Counts) (kind : Kind) (kinds : List Kind) (u : Util) (us : List Util) → IsField counts kind u
-    → ((others : List ℕ) → AreLaid (flat_map field_texts us) others → AreMoreFields counts.vertices counts.arcs kinds others us)
-    → (tail : List ℕ) → AreLaid (flat_map field_texts (u ∷ us)) tail → AreMoreFields counts.vertices counts.arcs (kind ∷ kinds) tail (u ∷ us)
-next_written counts kind kinds u us field more tail laid =
-    let l = subst (λ texts. AreLaid (texts ++ flat_map field_texts us) tail) field.texts laid in
-    subst (λ t. AreMoreFields counts.vertices counts.arcs (kind ∷ kinds) t (u ∷ us)) (sym l.6) (field_more counts kind kinds u us l.0 l.1 l.2 l.3 (field.says l.1 l.4) (more l.2 l.5))
+field_more counts kind kinds u us comma broken others is says more = grind (arith, says)
 
 more_written : (counts : Counts) → AreSmall counts → (kinds : List Kind) (us : List Util) → utils_fit counts.vertices counts.arcs kinds us ≡ true → All ValueCanBeSaved us
     → (tail : List ℕ) → AreLaid (flat_map field_texts us) tail → AreMoreFields counts.vertices counts.arcs kinds tail us
@@ -106,8 +85,8 @@ more_written counts small [] [] fits h tail laid = (laid, refl)
 more_written counts small (Z ∷ kinds) (Nothing ∷ us) fits h tail laid = (us, more_written counts small kinds us fits (All-tail ValueCanBeSaved Nothing us h) tail laid, refl)
 more_written counts small (kind ∷ kinds) (u ∷ us) fits h tail laid =
     let parts = and_parts (util_fits counts.vertices counts.arcs kind u) (utils_fit counts.vertices counts.arcs kinds us) fits in
-    next_written counts kind kinds u us (field_of counts small kind u (λ z. absurd cc) parts.0 (All-head ValueCanBeSaved u us h))
-    (more_written counts small kinds us parts.1 (All-tail ValueCanBeSaved u us h)) tail laid
+    let field = field_of counts small kind u (λ z. absurd cc) parts.0 (All-head ValueCanBeSaved u us h) in
+    grind (arith, field_more, field, more_written counts small kinds us parts.1 (All-tail ValueCanBeSaved u us h))
 more_written counts small _ _ fits h tail laid = absurd cc
 
 -- the record of fields, a vertex's or an arc's, and the graph's
@@ -117,8 +96,7 @@ fields_stand counts small kind kinds u us used h =
     let parts = and_parts (util_fits counts.vertices counts.arcs kind u) (utils_fit counts.vertices counts.arcs kinds us) h.fits in
     let field = field_of counts small kind u used parts.0 (All-head ValueCanBeSaved u us h.values) in
     let w = record_written field.text (flat_map field_texts us) in
-    subst (λ texts. IsRecordAmong counts kind kinds (text_of_lines (record_lines (texts ++ flat_map field_texts us))) (u ∷ us)) (sym field.texts)
-    (w.0, w.1, u, w.4, field.says w.0 w.2, (us, more_written counts small kinds us parts.1 (All-tail ValueCanBeSaved u us h.values) w.1 w.3, refl))
+    grind (arith, field, w, more_written counts small kinds us parts.1 (All-tail ValueCanBeSaved u us h.values))
 
 pub graph_written : (g : GraphData) → IsReady g → IsGraphRecord g (text_of_lines (record_lines (graph_texts g)))
 graph_written g h =

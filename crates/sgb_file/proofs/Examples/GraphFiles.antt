@@ -1,5 +1,5 @@
 -- Graphs written out by hand, and their files.
-use Rattle.std.specs.Prelude.{ℕ, pos, List, [], ◌∷◌, codes, replicate, Option, Some, None}
+use Rattle.std.specs.Prelude.{ℕ, pos, List, [], ◌∷◌, codes, replicate, Option, Some, None, ◌++◌}
 use Rattle.sgb_graph.specs.Graphs.{GraphData}
 use Rattle.sgb_graph.specs.Made.{no_fields, no_kinds}
 use Rattle.sgb_graph.specs.declared.fields.Kind.{Kind}
@@ -81,16 +81,17 @@ nothing_lines =
     ∷ codes "* Vertices"
     ∷ codes "* Arcs" ∷ []
 
+-- the file of a graph without utility fields: the numbers of its first line, its records, and its checksum
+abbrev pub file_text : List ℕ → List ℕ → List (List ℕ) → List (List ℕ) → List ℕ → List ℕ
+file_text counts own vertices arcs sum = text_of_lines (
+    (codes "* GraphBase graph (util_types ZZZZZZZZZZZZZZ," ++ counts ++ codes ")")
+    ∷ own
+    ∷ codes "* Vertices"
+    ∷ (vertices ++ codes "* Arcs" ∷ (arcs ++ (codes "* Checksum " ++ sum) ∷ [])))
+
 -- a file of one vertex x, with an arc record and an unchecked end
 abbrev pub ring_text : List ℕ → List ℕ
-ring_text arc = text_of_lines (
-    codes "* GraphBase graph (util_types ZZZZZZZZZZZZZZ,1V,1A)"
-    ∷ codes "\"ring\",1,1"
-    ∷ codes "* Vertices"
-    ∷ codes "\"x\",A0"
-    ∷ codes "* Arcs"
-    ∷ arc
-    ∷ codes "* Checksum -1" ∷ [])
+ring_text arc = file_text (codes "1V,1A") (codes "\"ring\",1,1") (codes "\"x\",A0" ∷ []) (arc ∷ []) (codes "-1")
 
 -- the graph of one vertex x with this arc record on its list
 abbrev pub ring : ArcRec → GraphData

@@ -3,22 +3,17 @@ use Rattle.std.specs.Prelude.{◌≡◌, ℕ, List, [], ◌∷◌, ◌++◌, cod
 use Rattle.sgb_text.proofs.Findings.{all_at}
 use Rattle.sgb_vec.specs.declared.panics.Panic.TheVariants.{Early, Syntax}
 use Rattle.sgb_graph.specs.Graphs.{ends_from, numbers_from}
-use Rattle.sgb_file.specs.FileLines.{lines_among, without_end_spaces, text_of_lines}
+use Rattle.sgb_file.specs.FileLines.{lines_among, without_end_spaces}
 use Rattle.sgb_file.specs.Checksum.{weighted_sum}
 use Rattle.sgb_file.specs.Fields.{unbroken}
 use Rattle.sgb_file.specs.inner.ReadRecords.{more_fields_at}
 use Rattle.sgb_file.specs.inner.ReadFiles.{opening_of, graph_of_text}
 use Rattle.sgb_file.specs.Saving.{quoted}
-use Rattle.sgb_file.proofs.Examples.GraphFiles.{nothing, plain_vertex}
+use Rattle.sgb_file.proofs.Examples.GraphFiles.{nothing, plain_vertex, file_text}
 
 -- the file of a graph of no vertices with this record, and an unchecked end
 abbrev with_record : List ℕ → List ℕ
-with_record own = text_of_lines (
-    codes "* GraphBase graph (util_types ZZZZZZZZZZZZZZ,0V,0A)"
-    ∷ own
-    ∷ codes "* Vertices"
-    ∷ codes "* Arcs"
-    ∷ codes "* Checksum -1" ∷ [])
+with_record own = file_text (codes "0V,0A") own [] [] (codes "-1")
 
 -- an id of 160 bytes; a number of arcs of 18 digits, and one of vertices; the first and the last byte of a string
 pub within_limits : map (λ own. graph_of_text (with_record own)) (
@@ -52,13 +47,7 @@ past_limits = refl
 
 -- a file of one vertex with this name, no arcs, and an unchecked end
 abbrev with_name : List ℕ → List ℕ
-with_name name = text_of_lines (
-    codes "* GraphBase graph (util_types ZZZZZZZZZZZZZZ,1V,0A)"
-    ∷ codes "\"a\",1,0"
-    ∷ codes "* Vertices"
-    ∷ (quoted name ++ codes ",0")
-    ∷ codes "* Arcs"
-    ∷ codes "* Checksum -1" ∷ [])
+with_name name = file_text (codes "1V,0A") (codes "\"a\",1,0") ((quoted name ++ codes ",0") ∷ []) [] (codes "-1")
 
 -- a name of 4,095 bytes, and of 4,096
 pub long_names : map (λ n. graph_of_text (with_name (replicate n 97))) (4095 ∷ 4096 ∷ []) ≡ Ok (record nothing { vertices = plain_vertex (replicate 4095 97) None ∷ [] }) ∷ Err Syntax ∷ []

@@ -8,7 +8,7 @@ use Rattle.sgb_file.specs.Checksum.{weighted_sum}
 use Rattle.sgb_file.specs.Fields.{unbroken}
 use Rattle.sgb_file.specs.inner.ReadRecords.{more_fields_at}
 use Rattle.sgb_file.specs.inner.ReadFiles.{opening_of, graph_of_text}
-use Rattle.sgb_file.proofs.Examples.GraphFiles.{two_joined_lines, nothing_lines, ring_text}
+use Rattle.sgb_file.proofs.Examples.GraphFiles.{two_joined_lines, nothing_lines, ring_text, file_text}
 
 -- nothing at all has no first line; more vertices than a graph can have, a letter that is no kind, and a line that does not
 -- begin with `*` are none
@@ -31,27 +31,18 @@ pub no_closings : map (λ closing. graph_of_text (text_of_lines (nothing_lines +
 unfolding lines_among without_end_spaces weighted_sum unbroken more_fields_at all_at opening_of ends_from numbers_from
 no_closings = refl
 
--- a field too many and a wrong checksum: the record's code
-pub record_and_checksum : graph_of_text (text_of_lines (
-    codes "* GraphBase graph (util_types ZZZZZZZZZZZZZZ,0V,0A)"
-    ∷ codes "\"a\",0,0,0"
-    ∷ codes "* Vertices"
-    ∷ codes "* Arcs"
-    ∷ codes "* Checksum 0" ∷ [])) ≡ Err Syntax
+-- a field too many and a wrong checksum: the record's code; a ring and a wrong checksum: the checksum's code; a ring of two
+-- records that is on no list; a first line that promises a thousand million vertices, of which none follows
+pub record_or_checksum : map graph_of_text (
+    file_text (codes "0V,0A") (codes "\"a\",0,0,0") [] [] (codes "0")
+    ∷ file_text (codes "1V,1A") (codes "\"ring\",1,1") (codes "\"x\",A0" ∷ []) (codes "V0,A0,1" ∷ []) (codes "0")
+    ∷ file_text (codes "1V,2A") (codes "\"ring\",1,1") (codes "\"x\",0" ∷ []) (codes "V0,A1,1" ∷ codes "V0,A0,1" ∷ []) (codes "-1")
+    ∷ text_of_lines (
+    codes "* GraphBase graph (util_types ZZZZZZZZZZZZZZ,999999999V,0A)"
+    ∷ codes "\"a\",999999999,0"
+    ∷ codes "* Vertices" ∷ []) ∷ []) ≡ Err Syntax ∷ Err Late ∷ Err Syntax ∷ Err Syntax ∷ []
 unfolding lines_among without_end_spaces weighted_sum unbroken more_fields_at all_at opening_of ends_from numbers_from
-record_and_checksum = refl
-
--- a ring and a wrong checksum: the checksum's code
-pub ring_and_checksum : graph_of_text (text_of_lines (
-    codes "* GraphBase graph (util_types ZZZZZZZZZZZZZZ,1V,1A)"
-    ∷ codes "\"ring\",1,1"
-    ∷ codes "* Vertices"
-    ∷ codes "\"x\",A0"
-    ∷ codes "* Arcs"
-    ∷ codes "V0,A0,1"
-    ∷ codes "* Checksum 0" ∷ [])) ≡ Err Late
-unfolding lines_among without_end_spaces weighted_sum unbroken more_fields_at all_at opening_of ends_from numbers_from
-ring_and_checksum = refl
+record_or_checksum = refl
 
 -- a record whose line ends in a tab (9), which is no space; a ring of one record; a tip that is no vertex of the graph; an arc
 -- on a list without a tip vertex; a length of more than 64 bits; and a next record that is not there
@@ -64,27 +55,6 @@ pub no_records : map (λ arc. graph_of_text (ring_text arc)) (
     ∷ codes "V0,A1,1" ∷ []) ≡ replicate 6 (Err Syntax)
 unfolding lines_among without_end_spaces weighted_sum unbroken more_fields_at all_at opening_of ends_from numbers_from
 no_records = refl
-
--- a ring of two records that is on no list
-pub ring_on_no_list : graph_of_text (text_of_lines (
-    codes "* GraphBase graph (util_types ZZZZZZZZZZZZZZ,1V,2A)"
-    ∷ codes "\"ring\",1,1"
-    ∷ codes "* Vertices"
-    ∷ codes "\"x\",0"
-    ∷ codes "* Arcs"
-    ∷ codes "V0,A1,1"
-    ∷ codes "V0,A0,1"
-    ∷ codes "* Checksum -1" ∷ [])) ≡ Err Syntax
-unfolding lines_among without_end_spaces weighted_sum unbroken more_fields_at all_at opening_of ends_from numbers_from
-ring_on_no_list = refl
-
--- a first line that promises a thousand million vertices, of which none follows
-pub promised_vertices : graph_of_text (text_of_lines (
-    codes "* GraphBase graph (util_types ZZZZZZZZZZZZZZ,999999999V,0A)"
-    ∷ codes "\"a\",999999999,0"
-    ∷ codes "* Vertices" ∷ [])) ≡ Err Syntax
-unfolding lines_among without_end_spaces weighted_sum unbroken more_fields_at all_at opening_of ends_from numbers_from
-promised_vertices = refl
 
 -- the file of complete(2) cut short: 50 bytes have no first line; from 51 on no records follow; from 137 on
 -- no checksum follows; with 158 it is another one

@@ -2,20 +2,19 @@
 use Rattle.std.specs.Prelude.{◌≡◌, ◌^◌, pos, neg_ℤ, [], ◌∷◌, ◌++◌, codes, map, replicate, take, Some, None, Ok, Err, refl}
 use Rattle.sgb_text.proofs.Findings.{all_at}
 use Rattle.sgb_graph.specs.Graphs.{ends_from, numbers_from}
-use Rattle.sgb_graph.specs.Made.{no_fields, no_kinds}
-use Rattle.sgb_graph.specs.declared.fields.Ref.TheVariants.{Null, One, At}
+use Rattle.sgb_graph.specs.declared.fields.Ref.TheVariants.{Null, One}
 use Rattle.sgb_graph.specs.declared.fields.Util.TheVariants.{Nothing, Vertex as VertexField, Str, Chain}
 use Rattle.sgb_graph.specs.declared.fields.Kind.TheVariants.{Z, V, S, A}
 use Rattle.sgb_vec.specs.declared.panics.Panic.TheVariants.{Early}
 use Rattle.sgb_file.specs.Refused.{IsRestoredAs}
-use Rattle.sgb_file.proofs.RefusedTexts.{early_is, file_from_read}
+use Rattle.sgb_file.proofs.RefusedTexts.{restored_as}
 use Rattle.sgb_file.specs.FileLines.{lines_among, without_end_spaces, clean_lines, text_of_lines}
 use Rattle.sgb_file.specs.inner.LinesLeft.{lines_of_text}
 use Rattle.sgb_file.specs.Checksum.{weighted_sum}
 use Rattle.sgb_file.specs.Fields.{unbroken}
 use Rattle.sgb_file.specs.inner.ReadRecords.{more_fields_at}
 use Rattle.sgb_file.specs.inner.ReadFiles.{opening_of, graph_of_text}
-use Rattle.sgb_file.proofs.Examples.GraphFiles.{plain_vertex, plain_arc, one_cell, one_cell_lines, two_joined, two_joined_lines, nothing, nothing_lines, ring, ring_text}
+use Rattle.sgb_file.proofs.Examples.GraphFiles.{plain_vertex, plain_arc, one_cell, one_cell_lines, two_joined, two_joined_lines, nothing, nothing_lines, ring, ring_text, file_text}
 
 -- lines end at newlines; what is after the last one is a line where it is not empty
 pub some_lines : map lines_of_text (codes "a\n\nb" ∷ [] ∷ codes "\n" ∷ []) ≡ (codes "a" ∷ [] ∷ codes "b" ∷ []) ∷ [] ∷ ([] ∷ []) ∷ []
@@ -35,11 +34,11 @@ of_written = refl
 -- so the first is a file of its graph, and a text with no first line is a file of none
 pub one_cell_read : IsRestoredAs (text_of_lines one_cell_lines) (Ok one_cell)
 unfolding lines_among without_end_spaces weighted_sum unbroken more_fields_at all_at opening_of ends_from numbers_from
-one_cell_read = file_from_read one_cell (text_of_lines one_cell_lines) refl
+one_cell_read = restored_as (text_of_lines one_cell_lines) (Ok one_cell) refl
 
 pub no_file_read : IsRestoredAs (codes "0\n") (Err Early)
 unfolding lines_among without_end_spaces opening_of
-no_file_read = early_is (codes "0\n") refl
+no_file_read = restored_as (codes "0\n") (Err Early) refl
 
 -- the graph of no vertices; with a first line that begins with `*`, and without the last newline; anything may follow the
 -- number, and other lines the last one
@@ -50,33 +49,17 @@ pub of_nothing : map graph_of_text (
 unfolding lines_among without_end_spaces weighted_sum unbroken more_fields_at all_at opening_of ends_from numbers_from
 of_nothing = refl
 
--- a graph whose one arc is a loop, and the least length
-pub of_loops : map (λ arc. graph_of_text (ring_text arc)) (codes "V0,0,1" ∷ codes "V0,0,-9223372036854775808" ∷ []) ≡
+-- a graph whose one arc is a loop, and the least length; two vertices that share a record, and a number of arcs that is not that
+-- of the records
+pub of_loops : map graph_of_text (
+    ring_text (codes "V0,0,1")
+    ∷ ring_text (codes "V0,0,-9223372036854775808")
+    ∷ file_text (codes "2V,1A") (codes "\"s\",2,2") (codes "\"x\",A0" ∷ codes "\"y\",A0" ∷ []) (codes "V0,0,1" ∷ []) (codes "-1") ∷ []) ≡
     Ok (ring (plain_arc 0 None))
-    ∷ Ok (ring (record { tip = At 0; next = None; len = neg_ℤ (pos (2 ^ 63)); a = Nothing; b = Nothing })) ∷ []
+    ∷ Ok (ring (record (plain_arc 0 None) { len = neg_ℤ (pos (2 ^ 63)) }))
+    ∷ Ok (record (ring (plain_arc 0 None)) { id = codes "s"; m = 2; vertices = plain_vertex (codes "x") (Some 0) ∷ plain_vertex (codes "y") (Some 0) ∷ [] }) ∷ []
 unfolding lines_among without_end_spaces weighted_sum unbroken more_fields_at all_at opening_of ends_from numbers_from
 of_loops = refl
-
--- two vertices that share a record, and a number of arcs that is not that of the records
-pub of_shared : graph_of_text (text_of_lines (
-    codes "* GraphBase graph (util_types ZZZZZZZZZZZZZZ,2V,1A)"
-    ∷ codes "\"s\",2,2"
-    ∷ codes "* Vertices"
-    ∷ codes "\"x\",A0"
-    ∷ codes "\"y\",A0"
-    ∷ codes "* Arcs"
-    ∷ codes "V0,0,1"
-    ∷ codes "* Checksum -1" ∷ [])) ≡
-    Ok (record {
-      id = codes "s";
-      m = 2;
-      kinds = no_kinds;
-      util = no_fields;
-      vertices = plain_vertex (codes "x") (Some 0) ∷ plain_vertex (codes "y") (Some 0) ∷ [];
-      records = plain_arc 0 None ∷ [];
-    })
-unfolding lines_among without_end_spaces weighted_sum unbroken more_fields_at all_at opening_of ends_from numbers_from
-of_shared = refl
 
 -- a record on no list, with a tip that is no vertex; leading zeros; a record that goes on after a comma at a line's end;
 -- spaces at a line's end; a broken string, whose second line begins with `*`; an empty name

@@ -1,5 +1,5 @@
 -- Graphs that can be saved, at each limit, and what becomes of a file past it.
-use Rattle.std.specs.Prelude.{◌≡◌, ℕ, pos, negsuc, List, [], ◌∷◌, ◌++◌, codes, map, replicate, Some, None, Err, All, refl}
+use Rattle.std.specs.Prelude.{◌≡◌, ℕ, pos, negsuc, List, [], ◌∷◌, ◌++◌, codes, map, replicate, Some, None, Err, refl}
 use Rattle.std.specs.Fmt.{digits}
 use Rattle.std.proofs.Common.{arith}
 use Rattle.std.proofs.lemmas.List.Elements.{All-nil, All-cons}
@@ -21,7 +21,7 @@ use Rattle.sgb_file.specs.Fields.{unbroken}
 use Rattle.sgb_file.specs.inner.ReadRecords.{more_fields_at}
 use Rattle.sgb_file.specs.inner.ReadFiles.{opening_of, graph_of_text}
 use Rattle.sgb_file.specs.Saving.{pieces_of, laid_out, text_of_graph}
-use Rattle.sgb_file.specs.Saved.{CanBeSaved, ValueCanBeSaved, VertexCanBeSaved, ArcCanBeSaved}
+use Rattle.sgb_file.specs.Saved.{CanBeSaved}
 
 -- a name of the most bytes, and an id of the most bytes
 abbrev longest_name : List ℕ
@@ -55,14 +55,6 @@ at_limits = record {
 name_is_text : IsText longest_name
 name_is_text = record { short = omega arith; printable = AllPass-from_list_all is_text_byte longest_name refl }
 
-all_values : (a b c d e f : Util) → ValueCanBeSaved a → ValueCanBeSaved b → ValueCanBeSaved c → ValueCanBeSaved d → ValueCanBeSaved e → ValueCanBeSaved f → All ValueCanBeSaved (a ∷ b ∷ c ∷ d ∷ e ∷ f ∷ [])
-all_values a b c d e f ha hb hc hd he hf =
-    All-cons ValueCanBeSaved a (b ∷ c ∷ d ∷ e ∷ f ∷ []) ha
-    (All-cons ValueCanBeSaved b (c ∷ d ∷ e ∷ f ∷ []) hb
-    (All-cons ValueCanBeSaved c (d ∷ e ∷ f ∷ []) hc
-    (All-cons ValueCanBeSaved d (e ∷ f ∷ []) hd
-    (All-cons ValueCanBeSaved e (f ∷ []) he (All-cons ValueCanBeSaved f [] hf (All-nil ValueCanBeSaved))))))
-
 -- it can be saved
 pub limits_can_be_saved : CanBeSaved at_limits
 unfolding ends_from numbers_from
@@ -73,12 +65,9 @@ limits_can_be_saved = record {
     id = record { short = omega arith; printable = AllPass-from_list_all is_text_byte longest_id refl };
     arcs_counted = omega arith;
     records_counted = omega arith;
-    util = all_values (Int (pos 9223372036854775807)) Nothing Nothing Nothing Nothing Nothing (omega arith) tt tt tt tt tt;
-    vertices = All-cons VertexCanBeSaved last_vertex [] (record {
-      name = name_is_text;
-      util = all_values Nothing (Int (negsuc 9223372036854775807)) (VertexField One) (Str longest_name) (Chain None) Nothing tt (omega arith) tt name_is_text tt tt;
-    }) (All-nil VertexCanBeSaved);
-    records = All-cons ArcCanBeSaved last_arc [] (record { len = omega arith; a = omega arith; b = tt }) (All-nil ArcCanBeSaved);
+    util = grind (arith, All-cons, All-nil);
+    vertices = grind (arith, All-cons, All-nil, name_is_text);
+    records = grind (arith, All-cons, All-nil);
   };
 }
 

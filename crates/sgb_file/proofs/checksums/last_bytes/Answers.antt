@@ -1,4 +1,4 @@
-use Rattle.std.proofs.Common.{rules, refl}
+use Rattle.std.proofs.Common.{rules}
 use Rattle.std.proofs.lemmas.List.{length-drop, length-take, take-append-drop}
 use Rattle.std.proofs.lemmas.Nat.{mod_below}
 use Rattle.sgb_file.specs.Checksum.{checksum_prime}
@@ -6,12 +6,6 @@ use Rattle.sgb_file.specs.inner.Layouts.{checksum_from, value_from}
 use Rattle.sgb_file.proofs.ChecksumLemmas.{few_counted}
 use Rattle.sgb_file.proofs.LaidLines.{checksum_from-append}
 use Rattle.sgb_file.proofs.checksums.last_bytes.Goals as goal
-
-pub loop-rest-smaller : goal.loop-rest-smaller
-loop-rest-smaller c = search (rules, length-drop)
-
-pub loop-rest-init : goal.loop-rest-init
-loop-rest-init c = (refl, c.ranges.sum.fits, λ some. some)
 
 pub loop-rest-preserved : goal.loop-rest-preserved
 loop-rest-preserved c = search (rules, checksum_from, checksum_from-append, checksum_prime, few_counted, length-drop, length-take, mod_below, take-append-drop, value_from)

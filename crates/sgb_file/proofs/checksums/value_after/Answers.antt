@@ -1,5 +1,4 @@
 use Rattle.std.proofs.Common.{rules, refl}
-use Rattle.std.proofs.lemmas.List.{take_all}
 use Rattle.sgb_file.specs.inner.Layouts.{value_from}
 use Rattle.sgb_file.proofs.ChecksumLemmas.{byte_valued}
 use Rattle.sgb_file.proofs.checksums.value_after.Goals as goal
@@ -10,6 +9,3 @@ loop-byte-init c = refl
 
 pub loop-byte-preserved : goal.loop-byte-preserved
 loop-byte-preserved c = search (rules, byte_valued)
-
-pub returns : goal.returns
-returns c = search (rules, take_all, value_from)

@@ -1,12 +1,9 @@
-use Rattle.std.proofs.Common.{rules, ℕ, List, Bor, ◌∙◌, refl}
-use Rattle.std.proofs.lemmas.List.{at_drop_more, drop_all}
+use Rattle.std.proofs.Common.{ℕ, List, Bor, ◌∙◌}
+use Rattle.std.proofs.lemmas.List.{at_drop_more}
 use Rattle.std.proofs.lemmas.Result.{err_from_is_err_and}
 use Rattle.std.specs.List.{flat_map}
-use Rattle.sgb_file.proofs.SoFar.{so_far-all, so_far-more, so_far-none, so_far-prefix}
+use Rattle.sgb_file.proofs.SoFar.{so_far-more, so_far-prefix}
 use Rattle.sgb_file.proofs.saving.put_texts.Goals as goal
-
-pub loop-text-init : goal.loop-text-init
-loop-text-init g c = (so_far-none _ _, refl)
 
 pub returns-in_err-put_all-clause-put : goal.returns-in_err-put_all-clause-put
 returns-in_err-put_all-clause-put g c =
@@ -18,9 +15,3 @@ pub loop-text-preserved : goal.loop-text-preserved
 loop-text-preserved g c =
     let first = at_drop_more (flat_map (λ (text : Bor (List ℕ)). text.now)) c.args.texts.now c.loop-text.text-index _ c.loop-text-test.true in
     (so_far-more _ _ _ _ _ _ _ first c.loop-text.invariant.0 c.in_ok-put_all.ensures.put, c.in_ok-put_all.ensures.sound ∙ c.loop-text.invariant.1)
-
-pub returns-clause-put : goal.returns-clause-put
-returns-clause-put g c = search (rules, drop_all, so_far-all)
-
-pub returns-clause-sound : goal.returns-clause-sound
-returns-clause-sound g c = c.loop-text.invariant.1

@@ -1,20 +1,14 @@
 use Rattle.std.proofs.Common.{rules, ◌==◌, arith, unwrap_or}
 use Rattle.std.proofs.lemmas.List.{take_rest, length-drop}
-use Rattle.sgb_file.proofs.FirstPlaces.{found_here, found_later}
+use Rattle.sgb_file.proofs.FirstPlaces.{found_later}
 use Rattle.sgb_file.proofs.LinesLeftLemmas.{position-unwrapped}
 use Rattle.sgb_file.proofs.scans.bytes_before.Goals as goal
-
-pub loop-rest-init : goal.loop-rest-init
-loop-rest-init c = (omega arith, omega arith)
-
-pub returns-then-few-lt-LANES : goal.returns-then-few-lt-LANES
-returns-then-few-lt-LANES c = search (rules, found_here)
 
 pub loop-rest-preserved : goal.loop-rest-preserved
 loop-rest-preserved c =
     let rest = c.loop-rest.rest.now in
-    let later = found_later (λ b. b == c.args.byte) rest c.lanes_before-few.result (omega (arith, c.loop-rest-test.true)) c.lanes_before-few.ensures (omega (arith, c.if-few-lt-LANES.false)) in
-    rw (take_rest rest 16) (omega (arith, later, c.loop-rest.invariant.0), omega (arith, length-drop 16 rest, c.loop-rest-test.true, c.loop-rest.invariant.1))
+    let later = found_later (λ b. b == c.args.byte) rest c.lanes_before-few.result (omega arith) c.lanes_before-few.ensures (omega arith) in
+    rw (take_rest rest 16) (omega (arith, later, c.loop-rest.invariant.0), omega (arith, length-drop 16 rest))
 
 pub returns : goal.returns
 returns c = search (rules, position-unwrapped, unwrap_or)

@@ -4,6 +4,3 @@ use Rattle.sgb_file.proofs.laws.saved_graphs.graphs_can_be_saved.Goals as goal
 
 pub graph_fields-requires : goal.graph_fields-requires
 graph_fields-requires c = search (rules, six_fields)
-
-pub returns : goal.returns
-returns c = search rules

@@ -1,7 +1,7 @@
 use Rattle.std.proofs.Common.{sym}
 use Rattle.sgb_file.specs.Fields.{most_number_digits}
 use Rattle.sgb_file.specs.inner.FieldValues.{number_of}
-use Rattle.sgb_file.proofs.PlainFields.{field_found, field_missing}
+use Rattle.sgb_file.proofs.CountedFields.{field_found, field_missing}
 use Rattle.sgb_file.proofs.reading.fields.read_number.Goals as goal
 
 pub returns-in_default-number_before_comma-clause-found :

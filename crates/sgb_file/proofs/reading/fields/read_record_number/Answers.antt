@@ -1,6 +1,6 @@
 use Rattle.std.proofs.Common.{sym}
 use Rattle.sgb_file.specs.inner.FieldValues.{record_number_of}
-use Rattle.sgb_file.proofs.PlainFields.{field_found, field_missing}
+use Rattle.sgb_file.proofs.CountedFields.{field_found, field_missing}
 use Rattle.sgb_file.proofs.reading.fields.read_record_number.Goals as goal
 
 pub returns-in_default-record_number_before_comma-clause-found :

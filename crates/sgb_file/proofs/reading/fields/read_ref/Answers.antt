@@ -1,6 +1,6 @@
 use Rattle.std.proofs.Common.{sym}
 use Rattle.sgb_file.specs.inner.FieldValues.{ref_of}
-use Rattle.sgb_file.proofs.PlainFields.{field_found, field_missing}
+use Rattle.sgb_file.proofs.CountedFields.{field_found, field_missing}
 use Rattle.sgb_file.proofs.reading.fields.read_ref.Goals as goal
 
 pub returns-in_default-ref_before_comma-clause-found :

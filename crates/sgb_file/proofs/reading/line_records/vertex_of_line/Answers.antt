@@ -1,7 +1,7 @@
 use Rattle.std.proofs.Common.{rules, w64}
 use Rattle.std.proofs.lemmas.Int.{to_z-of_z}
 use Rattle.std.proofs.lemmas.List.{length-take}
-use Rattle.sgb_file.proofs.VertexLines.{named_parts, rest_is_line, vertex_counted, vertex_line}
+use Rattle.sgb_file.proofs.LineRecords.{named_parts, rest_is_line, vertex_counted, vertex_line}
 use Rattle.sgb_file.proofs.reading.line_records.vertex_of_line.Goals as goal
 
 pub slice_bounds-checksum_after-count : goal.slice_bounds-checksum_after-count
@@ -11,7 +11,7 @@ pub checksum_after-before-requires : goal.checksum_after-before-requires
 checksum_after-before-requires c = search (rules, length-take, named_parts)
 
 pub fields_of_line-requires : goal.fields_of_line-requires
-fields_of_line-requires c = rest_is_line c.args.line.now c.in_ok-name.name.now c.in_ok-name.rest.now c.requires c.in_ok-name.ensures
+fields_of_line-requires c = search (rules, rest_is_line)
 
 pub returns-clause-vertex : goal.returns-clause-vertex
 returns-clause-vertex c =

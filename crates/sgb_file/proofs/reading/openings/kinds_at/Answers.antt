@@ -1,6 +1,5 @@
-use Rattle.std.proofs.Common.{◌≡◌, ◌-◌, ◌∙◌, ℕ, Some, drop, length, take, filter_map, rules, arith, sym, ap, subst, length-set, length-drop}
+use Rattle.std.proofs.Common.{refl, ◌≡◌, ◌-◌, drop, length, rules, arith, length-set, length-drop}
 use Rattle.std.proofs.lemmas.List.{take_all}
-use Rattle.sgb_file.specs.inner.ReadFiles.{kind_of_letter}
 use Rattle.sgb_file.proofs.Endings.{short_kinds, kinds_missed, kinds_more, kinds_read}
 use Rattle.sgb_file.proofs.reading.openings.kinds_at.Goals as goal
 
@@ -16,8 +15,5 @@ loop-place-preserved c = search (rules, kinds_more, length-set)
 pub returns : goal.returns
 returns c =
     let text = c.args.text.now in
-    let kinds = c.loop-place.kinds in
-    let most = c.loop-place.invariant.2 in
-    let all : c.loop-place.place ≡ 14 = omega (arith, most, c.loop-place-test.false) in
-    let read = kinds_read text kinds (subst (λ (i : ℕ). filter_map kind_of_letter (take i text) ≡ take i kinds) all c.loop-place.invariant.0) c.loop-place.invariant.1 in
-    ap (λ rest. Some (record { value = kinds; rest = rest })) (take_all (length text - 14) (drop 14 text) (omega (arith, length-drop 14 text))) ∙ sym read
+    let all : c.loop-place.place ≡ 14 = omega (arith, c.loop-place.invariant.2, c.loop-place-test.false) in
+    rw (take_all (length text - 14) (drop 14 text) (omega (arith, length-drop 14 text)), kinds_read text c.loop-place.kinds (rw all at c.loop-place.invariant.0) c.loop-place.invariant.1) refl

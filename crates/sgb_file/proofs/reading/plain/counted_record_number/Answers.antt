@@ -1,14 +1,10 @@
-use Rattle.std.proofs.Common.{rules, subst, sym, Some, ◌+◌, ◌∙◌}
-use Rattle.sgb_file.specs.inner.FieldValues.{record_number_of}
-use Rattle.sgb_file.specs.inner.Heads.{Counts}
-use Rattle.sgb_file.specs.inner.LineRecords.{IsCountedField}
+use Rattle.std.proofs.Common.{sym, rules, sym, ◌∙◌}
 use Rattle.sgb_file.proofs.CountedFields.{no_record_counted, record_number_counted}
 use Rattle.sgb_file.proofs.reading.plain.counted_record_number.Goals as goal
 
 pub returns-in-Some : goal.returns-in-Some
 returns-in-Some c =
-    subst (λ (counts : Counts). IsCountedField (record_number_of counts.arcs) c.args.line.now c.args.value (Some c.in_ok-k.k) (c.in_ok-k.len + 1)
-    c.in_ok-k.after) c.counts.view_is
+    rw (sym c.counts.view_is)
     (record_number_counted _ _ _ _ _ _ _ _ (search rules) c.value_after_byte-begun.ensures c.in_ok-k.ensures.field)
 
 pub returns : goal.returns

@@ -3,9 +3,8 @@ use Rattle.sgb_file.specs.inner.FieldValues.{is_decimal_digit}
 use Rattle.std.proofs.lemmas.Grind.{common_steps}
 use Rattle.std.proofs.lemmas.List.{length-take, take_all}
 use Rattle.sgb_file.specs.inner.Layouts.{value_from}
-use Rattle.sgb_file.proofs.CountedFields.{digit_valued}
+use Rattle.sgb_file.proofs.CountedFields.{digit_valued, digits_all, digits_until, no_digit_counts}
 use Rattle.sgb_file.proofs.NumberReading.{counts_on}
-use Rattle.sgb_file.proofs.PlainFields.{digits_all, digits_until, no_digit_counts}
 use Rattle.sgb_file.proofs.reading.plain.first_digits.Goals as goal
 
 pub returns-then-digit-gt9 : goal.returns-then-digit-gt9

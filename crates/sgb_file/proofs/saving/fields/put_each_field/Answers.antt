@@ -1,9 +1,8 @@
 use Rattle.std.proofs.Common.{arith, ap, ◌+◌}
 use Rattle.std.proofs.lemmas.List.{take_rest}
 use Rattle.sgb_file.specs.inner.Layouts.{has_any}
-use Rattle.std.proofs.lemmas.Result.{err_from_is_err_and}
 use Rattle.sgb_file.proofs.FieldTexts.{texts_of, fields-next, fields-end}
-use Rattle.sgb_file.proofs.LaidLines.{lines-none}
+use Rattle.sgb_file.proofs.LaidLines.{lines-none, stopped-on}
 use Rattle.sgb_file.proofs.saving.fields.put_each_field.Goals as goal
 
 pub loop-place-init : goal.loop-place-init
@@ -11,13 +10,12 @@ loop-place-init g c = lines-none _ _
 
 pub returns-in_err-put_field : goal.returns-in_err-put_field
 returns-in_err-put_field g c =
-    let p = err_from_is_err_and c.from_residual.result c.from_residual.ensures.1 in
-    rw p.1 (fields-next c.args.fields.now c.loop-place.place _ _ _ _ _ _ _ c.loop-place-test.true c.index-fields-place.is (ap (λ fields. has_any (texts_of fields)) (take_rest c.args.fields.now (c.loop-place.place + 1)))
+    stopped-on _ _ c.from_residual.result c.from_residual.ensures.1 (fields-next c.args.fields.now c.loop-place.place _ _ _ _ _ _ _ c.loop-place-test.true c.index-fields-place.is (ap (λ fields. has_any (texts_of fields)) (take_rest c.args.fields.now (c.loop-place.place + 1)))
     c.loop-place.invariant c.in_err-put_field.ensures)
 
 pub loop-place-preserved : goal.loop-place-preserved
 loop-place-preserved g c =
-    fields-next c.args.fields.now c.loop-place.place _ _ _ _ _ _ _ c.loop-place-test.true c.index-fields-place.is (ap (λ fields. has_any (texts_of fields)) (take_rest c.args.fields.now (c.loop-place.place + 1)))
+    fields-next c.args.fields.now c.loop-place.place _ _ _ _ _ _ _ c.loop-place-test.true c.index-fields-place.is (grind (arith, take_rest))
     c.loop-place.invariant c.in_ok-put_field.ensures
 
 pub returns : goal.returns

@@ -1,10 +1,9 @@
-use Rattle.std.proofs.Common.{◌≡◌, ◌==◌, ◌∙◌, [], length, sym, ap, refl}
+use Rattle.std.proofs.Common.{◌≡◌, [], refl, arith}
 use Rattle.sgb_file.proofs.LaidLines.{laid-none}
-use Rattle.sgb_file.proofs.LineLemmas.{no_bytes}
+use Rattle.std.proofs.lemmas.List.{nil_from_length}
 use Rattle.sgb_file.proofs.saving.layouts.Layout.make_room.Goals as goal
 
 pub returns-then-len-eq0 : goal.returns-then-len-eq0
 returns-then-len-eq0 g c =
-    let empty : c.args.self.now.line ≡ [] =
-    no_bytes c.args.self.now.line (ap (λ n. n == 0) (sym (ap (λ l. length l.line) c.self.view_is) ∙ (sym c.len.ensures.value ∙ c.if-len-eq0.true))) in
+    let empty : c.args.self.now.line ≡ [] = nil_from_length _ (grind (arith, c.self.view_is)) in
     rw empty (laid-none _ _ refl refl refl, refl)

@@ -1,6 +1,4 @@
 use Rattle.std.proofs.Common.{rules, arith}
-use Rattle.std.proofs.lemmas.List.{take_all}
-use Rattle.sgb_file.specs.inner.ShortLines.{put_after}
 use Rattle.sgb_file.proofs.ShortLines.{put-next, put-none}
 use Rattle.sgb_file.proofs.saving.short_lines.ShortLines.push_bytes.Goals as goal
 
@@ -9,6 +7,3 @@ loop-byte-init c = (put-none c.args.self.now c.args.bytes.now, omega arith)
 
 pub loop-byte-preserved : goal.loop-byte-preserved
 loop-byte-preserved c = search (rules, put-next)
-
-pub returns-clause-put : goal.returns-clause-put
-returns-clause-put c = search (rules, put_after, take_all)

@@ -1,5 +1,6 @@
-use Rattle.sgb_file.proofs.ShortLines.{put-then}
+use Rattle.sgb_file.proofs.ShortLines.{put-append}
+use Rattle.std.proofs.Common.{rules}
 use Rattle.sgb_file.proofs.saving.short_lines.ShortLines.push_pair.Goals as goal
 
 pub returns-clause-put : goal.returns-clause-put
-returns-clause-put c = put-then c.args.self.now _ _ _ _ c.push_digit.ensures.put c.push_digit-2.ensures.put
+returns-clause-put c = search (rules, put-append)
