@@ -1,18 +1,17 @@
 -- A reader of numbers in a radix.
 use Rattle.std.proofs.lemmas.Int.Digits.{digits_value-lt}
 use native.Mathlib.Nat.{pow-le-pow_right}
-use Rattle.std.proofs.Common.{◌^◌, lt_of_lt_of_le, ◌≡◌, ℕ, zero, suc, ◌<◌, ◌≤◌, ◌⊎◌, true, false, List, [], ◌∷◌, ◌++◌, length, drop, Option, Some, Ok, Err, refl, sym, ◌∙◌, ap, subst, inl, inr, arith}
+use Rattle.std.proofs.Common.{◌^◌, lt_of_lt_of_le, ◌≡◌, ℕ, zero, suc, ◌<◌, ◌≤◌, ◌⊎◌, true, false, List, [], ◌∷◌, ◌++◌, length, Option, Some, Ok, Err, refl, sym, ◌∙◌, ap, subst, inl, inr, arith}
 use Rattle.std.specs.Char.{digit_value, is_digit}
 use Rattle.std.specs.Str.Parse.{AllDigits, digits_value}
 use Rattle.std.proofs.Math.Seq.{drop-append_seam}
-use Rattle.std.proofs.lemmas.Bool.{cases_lt, lt-ltb, le-ltb}
+use Rattle.std.proofs.lemmas.Bool.{cases_lt}
 use Rattle.std.proofs.lemmas.List.{nil_from_length}
 use Rattle.sgb_text.specs.Numbers.{IsNumber}
 use Rattle.sgb_vec.specs.Digits.{leading_digits}
 use Rattle.sgb_vec.proofs.NamedNumbers.{first_byte}
 use Rattle.sgb_expr.specs.inner.Readings.{number_of_digits, number_at}
 use Rattle.sgb_text.proofs.Readers.{next, IsFound, Wrong, Reads, no_ok, ok_same}
-use Rattle.sgb_text.proofs.Words.{err_same}
 
 -- the text does not begin with a digit in the radix
 abbrev pub NoDigit : ℕ → List ℕ → Type 0
@@ -20,31 +19,19 @@ NoDigit radix text = (byte : ℕ) → next text ≡ Some byte → digit_value by
 
 -- a byte is a digit or none
 digit_cases : (radix byte : ℕ) → ((is_digit byte radix ≡ true) × (digit_value byte < radix)) ⊎ ((is_digit byte radix ≡ false) × (radix ≤ digit_value byte))
-digit_cases radix byte = elim (cases_lt (digit_value byte) radix) [
-  | inl h ↦ inl (lt-ltb (digit_value byte) radix h, h)
-  | inr h ↦ inr (le-ltb (digit_value byte) radix h, h)
-]
+digit_cases radix byte = grind arith
 
 -- digits that end there, or of which there may be no more
 pub leading_again : (radix most : ℕ) (digits rest : List ℕ) → AllDigits radix digits → length digits ≤ most → (length digits < most → NoDigit radix rest) → leading_digits radix most (digits ++ rest) ≡ digits
 leading_again radix zero [] rest all short none = refl
 leading_again radix (suc most) [] [] all short none = refl
-leading_again radix (suc most) [] (byte ∷ rest) all short none = elim (digit_cases radix byte) [
-  | inl h ↦ absurd (none (omega arith) byte refl h.1)
-  | inr h ↦ first_byte radix most byte rest ∙ rw h.0 refl
-]
+leading_again radix (suc most) [] (byte ∷ rest) all short none = grind arith
 leading_again radix zero (byte ∷ digits) rest all short none = absurd (omega (arith, short))
-leading_again radix (suc most) (byte ∷ digits) rest all short none = elim (digit_cases radix byte) [
-  | inl h ↦ first_byte radix most byte (digits ++ rest) ∙ rw h.0 (ap (λ u. byte ∷ u) (leading_again radix most digits rest all.1 (omega (arith, short)) (λ lt. none (omega (arith, lt)))))
-  | inr h ↦ absurd (omega (arith, h.1, all.0))
-]
+leading_again radix (suc most) (byte ∷ digits) rest all short none = grind (arith, first_byte, leading_again radix most digits rest all.1 (omega (arith, short)) (λ lt. none (omega (arith, lt))))
 
 -- a byte that is no digit is another than one that is
 pub other_digit : (radix byte other : ℕ) → radix ≤ digit_value byte → ◌≡◌ {A = Option ℕ} (Some byte) (Some other) → digit_value other < radix → ⊥
-other_digit radix byte other h e digit =
-    let same : other ≡ byte = cc in
-    let below : digit_value byte < radix = subst (λ (b : ℕ). digit_value b < radix) same digit in
-    omega (arith, h, below)
+other_digit radix byte other h e digit = grind (arith)
 
 -- a text in its first digits and the rest
 pub record Leading (radix most : ℕ) (text : List ℕ) : Type 0 where
@@ -82,10 +69,7 @@ leading radix (suc most) (byte ∷ text) = elim (digit_cases radix byte) [
 
 -- a number is read of its digits
 pub number_found : (radix most : ℕ) (text digits rest : List ℕ) → leading_digits radix most text ≡ digits → text ≡ digits ++ rest → 0 < length digits → number_at radix most text ≡ Ok (digits_value radix digits, rest)
-number_found radix most text [] rest e whole some = absurd (omega (arith, some))
-number_found radix most text (digit ∷ digits) rest e whole some =
-    ap (λ (ds : List ℕ). number_of_digits radix ds text) e ∙ ap (λ (u : List ℕ). Ok (digits_value radix (digit ∷ digits), drop (length (digit ∷ digits)) u)) whole
-    ∙ ap (λ (u : List ℕ). Ok (digits_value radix (digit ∷ digits), u)) (drop-append_seam (digit ∷ digits) rest)
+number_found radix most text digits rest e whole some = grind (arith, drop-append_seam)
 
 -- a number is not read where there are no digits
 pub number_stops : (radix most : ℕ) (text : List ℕ) → leading_digits radix most text ≡ [] → number_at radix most text ≡ Err (length text)
@@ -124,17 +108,7 @@ none_again radix most text none = number_stops radix most text (leading_again ra
 
 -- where there is no number, no digit stands
 pub none_there : (radix most : ℕ) → 0 < most → (text : List ℕ) (left : ℕ) → number_at radix most text ≡ Err left → (left ≡ length text) × NoDigit radix text
-none_there radix most room text left e =
-    let l = leading radix most text in
-    elim (cases_lt 0 (length l.digits)) [
-      | inl h ↦ absurd (no_ok (sym e ∙ number_found radix most text l.digits l.rest l.are l.whole h))
-      | inr h ↦
-          let empty : l.digits ≡ [] = nil_from_length l.digits (omega (arith, h)) in
-          let here : text ≡ l.rest = l.whole ∙ ap (λ u. u ++ l.rest) empty in (
-            err_same left (length text) (sym e ∙ number_stops radix most text (l.are ∙ empty)),
-            no_digit_same radix l.rest text (ap next here) (l.none (omega (arith, h, room))),
-          )
-    ]
+none_there radix most room text left e = grind arith
 
 number_wrong_at : (radix most : ℕ) → 0 < radix → 0 < most → (text : List ℕ) (left : ℕ) → number_at radix most text ≡ Err left → Wrong (IsNumber radix most) (number_at radix most) text left
 number_wrong_at radix most some room text left e =

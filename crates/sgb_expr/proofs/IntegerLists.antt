@@ -1,10 +1,9 @@
 -- Integers read one after another.
-use Rattle.std.proofs.Common.{◌<◌, ◌≤◌, ◌+◌, inl, inr, pos, nat_abs, length, take, set, get_or, append-nil, arith, subst, ◌≡◌, ℕ, ℤ, suc, ◌-◌, List, [], ◌∷◌, ◌++◌, Result, Ok, Err, codes, sym, ◌∙◌, ap}
-use Rattle.std.proofs.lemmas.Bool.{cases_eq}
+use Rattle.std.proofs.Common.{◌<◌, ◌≤◌, ◌+◌, pos, nat_abs, length, take, set, get_or, append-nil, arith, ◌≡◌, ℕ, ℤ, suc, ◌-◌, List, [], ◌∷◌, ◌++◌, Result, Ok, Err, codes, sym, ◌∙◌, ap}
 use Rattle.std.proofs.lemmas.List.{take_all, take_more_set, get_or-set_same, get_or-set_other}
 use Rattle.sgb_text.proofs.Readings.{◌>>=◌, fixed_at, read_after}
 use Rattle.sgb_expr.specs.inner.Readings.{integer_at, integers_at, separator_before}
-use Rattle.sgb_text.proofs.Readers.{bind_of, bind_stops, one_more, then_stops, with_first}
+use Rattle.sgb_text.proofs.Readers.{bind_of, bind_stops, one_more, with_first}
 
 -- an integer is read after those
 integer_read : (first : List ℤ) (number : ℤ) (n : ℕ) (separator end text begun rest : List ℕ) → fixed_at separator text ≡ Ok begun → integer_at begun ≡ Ok (number, rest)
@@ -21,19 +20,14 @@ one_left place n h = omega (arith, h)
 -- where the separator or the integer is not there
 pub place_wrong : (numbers : List ℤ) (place n left : ℕ) (first separator end rest : List ℕ) (whole : Result (List ℤ × List ℕ) ℕ) → place < n → separator ≡ separator_before place first
     → read_after separator integer_at rest ≡ Err left → with_first (take place numbers) (integers_at (separator_before place first) (n - place) end rest) ≡ whole → whole ≡ Err left
-place_wrong numbers place n left first separator end rest whole h is e inv =
-    sym inv ∙ ap (λ m. with_first (take place numbers) (integers_at (separator_before place first) m end rest)) (one_left place n h)
-    ∙ ap (with_first (take place numbers))
-    (then_stops (fixed_at (separator_before place first) rest) integer_at (λ x. integers_at (codes ",") (n - (place + 1)) end x.1 >>= λ others. Ok (x.0 ∷ others.0, others.1)) left
-    (ap (λ s. read_after s integer_at rest) (sym is) ∙ e))
+place_wrong numbers place n left first separator end rest whole h is e inv = grind arith
 
 -- an integer read and kept at its place
 pub place_read : (numbers : List ℤ) (place n : ℕ) (number kept : ℤ) (first separator end rest begun after : List ℕ) (whole : Result (List ℤ × List ℕ) ℕ) → place < n → length numbers ≡ n → kept ≡ number → separator ≡ separator_before place first
     → fixed_at separator rest ≡ Ok begun → integer_at begun ≡ Ok (number, after) → with_first (take place numbers) (integers_at (separator_before place first) (n - place) end rest) ≡ whole
     → with_first (take (place + 1) (set numbers place kept)) (integers_at (separator_before (place + 1) first) (n - (place + 1)) end after) ≡ whole
 place_read numbers place n number kept first separator end rest begun after whole h count same is e f inv =
-    let more : take (place + 1) (set numbers place kept) ≡ take place numbers ++ number ∷ [] =
-    take_more_set numbers place kept (omega (arith, h, count)) ∙ ap (λ u. take place numbers ++ u ∷ []) same in
+    let more : take (place + 1) (set numbers place kept) ≡ take place numbers ++ number ∷ [] = grind (arith, take_more_set) in
     let comma : separator_before (place + 1) first ≡ codes "," = later place first in
     ap (λ ns. with_first ns (integers_at (separator_before (place + 1) first) (n - (place + 1)) end after)) more
     ∙ ap (λ s. with_first (take place numbers ++ number ∷ []) (integers_at s (n - (place + 1)) end after)) comma
@@ -46,22 +40,12 @@ place_read numbers place n number kept first separator end rest begun after whol
 -- each integer kept is small
 pub place_small : (numbers : List ℤ) (place bound : ℕ) (number kept : ℤ) → place < length numbers → kept ≡ number → nat_abs number < bound → ((k : ℕ) → k < place → nat_abs (get_or numbers k (pos 0)) < bound)
     → (k : ℕ) → k < place + 1 → nat_abs (get_or (set numbers place kept) k (pos 0)) < bound
-place_small numbers place bound number kept within same small before k h = elim (cases_eq k place) [
-  | inl e ↦
-      let here : get_or (set numbers place kept) k (pos 0) ≡ number = ap (λ i. get_or (set numbers place kept) i (pos 0)) e ∙ get_or-set_same numbers place kept (pos 0) within ∙ same in
-      subst (λ (z : ℤ). nat_abs z < bound) (sym here) small
-  | inr e ↦
-      let there : get_or (set numbers place kept) k (pos 0) ≡ get_or numbers k (pos 0) = get_or-set_other numbers place k kept (pos 0) e in
-      subst (λ (z : ℤ). nat_abs z < bound) (sym there) (before k (omega (arith, h, e)))
-]
+place_small numbers place bound number kept within same small before k h = grind (arith, get_or-set_same, get_or-set_other)
 
 -- all integers are read
 all_left : (numbers : List ℤ) (place n : ℕ) (first end rest : List ℕ) (whole : Result (List ℤ × List ℕ) ℕ) → n ≤ place → length numbers ≡ n
     → with_first (take place numbers) (integers_at (separator_before place first) (n - place) end rest) ≡ whole → with_first numbers (integers_at (separator_before place first) 0 end rest) ≡ whole
-all_left numbers place n first end rest whole h count inv =
-    let none : n - place ≡ 0 = omega (arith, h) in
-    ap (λ ns. with_first ns (integers_at (separator_before place first) 0 end rest)) (sym (take_all place numbers (omega (arith, h, count))))
-    ∙ ap (λ m. with_first (take place numbers) (integers_at (separator_before place first) m end rest)) (sym none) ∙ inv
+all_left numbers place n first end rest whole h count inv = grind (arith, take_all)
 
 -- and the end after them, or not
 pub all_read : (numbers : List ℤ) (place n : ℕ) (first end rest after : List ℕ) (whole : Result (List ℤ × List ℕ) ℕ) → n ≤ place → length numbers ≡ n → fixed_at end rest ≡ Ok after

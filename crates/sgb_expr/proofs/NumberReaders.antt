@@ -37,16 +37,12 @@ Unsigned = As pos Decimal
 -- the first byte of digits, whatever follows, is a digit
 first_digit : (radix : ℕ) (digits tail rest : List ℕ) (byte : ℕ) → IsNumeral radix digits → digits ++ tail ≡ byte ∷ rest → digit_value byte < radix
 first_digit radix [] tail rest byte numeral e = absurd (omega (arith, numeral.0))
-first_digit radix (c ∷ digits) tail rest byte numeral e =
-    let same : c ≡ byte = cc in
-    subst (λ (b : ℕ). digit_value b < radix) same numeral.1.0
+first_digit radix (c ∷ digits) tail rest byte numeral e = grind (arith)
 
 -- a sign does not stand where a number begins
 no_sign : (word tail : List ℕ) (value : ℤ) → Unsigned word value → (left : ℕ) × (signed_at (word ++ tail) ≡ Err left)
 no_sign word tail value w = elim (fixed_cases (codes "-") (word ++ tail)) [
-  | inl r ↦
-      let digit : digit_value 45 < 10 = first_digit 10 word tail r.0 45 w.1.numeral r.2 in
-      absurd (omega (arith, digit))
+  | inl r ↦ grind (arith, first_digit)
   | inr p ↦ (p.0, bind_stops (fixed_at (codes "-") (word ++ tail)) (λ rest. number_at 10 most_digits rest >>= λ x. Ok (neg_ℤ (pos x.0), x.1)) p.0 p.1)
 ]
 
@@ -60,10 +56,7 @@ no_prefix [] tail rest numeral clear e = omega (arith, numeral.0)
 no_prefix (c ∷ []) tail rest numeral clear e =
     let comes : next tail ≡ Some 120 = ap next (ap (drop 1) e) in
     clear 120 comes (lit< tt)
-no_prefix (c ∷ d ∷ word) tail rest numeral clear e =
-    let same : d ≡ 120 = cc in
-    let digit : digit_value 120 < 10 = subst (λ (b : ℕ). digit_value b < 10) same numeral.1.1.0 in
-    omega (arith, digit)
+no_prefix (c ∷ d ∷ word) tail rest numeral clear e = grind (arith)
 
 -- what stands after bits counts by its first byte alone: `0x` is read or not
 prefix_same : (word rest other : List ℕ) (left : ℕ) → 0 < length word → Parts (codes "0x") (word ++ rest) left → next other ≡ next rest → (n : ℕ) × (fixed_at (codes "0x") (word ++ other) ≡ Err n)
