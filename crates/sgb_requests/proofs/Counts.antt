@@ -1,7 +1,7 @@
 -- Numbers of 1 to 18 digits, as `parse` reads them.
-use Rattle.std.proofs.Common.{◌≢◌, ◌≤◌, ◌<◌, ◌^◌, ℕ, List, length, get_or, MatchOption, Result, Ok, Err, arith}
-use Rattle.std.proofs.lemmas.Str.Parse.{IsNumeralModel, digits_value_short, numerals_by_value, parse_plain, tells_digits}
-use Rattle.std.specs.Result.{OkIff, result_ok}
+use Rattle.std.proofs.Common.{◌≢◌, ◌≤◌, ◌<◌, ◌^◌, ℕ, List, length, get_or, MatchOption, Result, arith}
+use Rattle.std.proofs.lemmas.Str.Parse.{IsNumeralModel, digits_value_short, numerals_by_value, tells_digits}
+use Rattle.std.specs.Result.{result_ok}
 use Rattle.std.specs.Str.Parse.{AllDigits, ParsesUnsigned, digits_value}
 use Rattle.sgb_text.specs.Numbers.{IsNumber}
 use Rattle.sgb_expr.specs.Numbers.{most_digits}
@@ -17,9 +17,4 @@ value_fits text digits short = let low : digits_value 10 text < 10 ^ 18 = digits
 -- of a text of at most 18 bytes with no plus before it, `parse` gives a number exactly where it is 1 to 18 digits
 pub count_read : {E : Type 0} (text : List ℕ) (r : Result ℕ E) → ParsesUnsigned 64 10 text r → length text ≤ 18 → get_or text 0 0 ≢ 43
     → MatchOption (result_ok r) ((k : ℕ) → IsNumber 10 most_digits text k → ⊥) (IsNumber 10 most_digits text)
-count_read {E} text r parsed short plain = go r (parse_plain own 64 text r parsed plain)
-  where
-    go : (r : Result ℕ E) → OkIff r (AllDigits 10 text × (0 < length text) × (digits_value 10 text < 2 ^ 64)) (digits_value 10 text)
-        → MatchOption (result_ok r) ((k : ℕ) → IsNumber 10 most_digits text k → ⊥) (IsNumber 10 most_digits text)
-    go (Ok n) h = record { numeral = (h.0.1, h.0.0); short = short; writes = h.1 }
-    go (Err e) h = λ k is. h (is.numeral.1, is.numeral.0, value_fits text is.numeral.1 is.short)
+count_read {E} text r parsed short plain = grind (arith, value_fits)

@@ -1,5 +1,5 @@
 -- The commands that the words enter.
-use Rattle.std.proofs.Common.{◌≡◌, ◌≢◌, ◌∙◌, ◌⊎◌, Bool, cond, true, false, subst, List, [], ◌∷◌, ◌++◌, Option, Some, None, IsSome, Result, Ok, Err, IfOk, MatchResult, ap, sym, refl, inl, inr, codes, find, option_map, true≢false}
+use Rattle.std.proofs.Common.{◌≡◌, ◌≢◌, ◌∙◌, ◌⊎◌, Bool, cond, true, false, subst, List, [], ◌∷◌, ◌++◌, Option, Some, None, IsSome, Result, Ok, Err, IfOk, MatchResult, ap, sym, refl, inl, inr, codes, find, option_map, true≢false, arith}
 use Rattle.std.specs.List.{list_all}
 use Rattle.std.specs.Option.{option_map_or}
 use Rattle.std.specs.Str.{bytes_eq}
@@ -13,7 +13,7 @@ use Rattle.clap.specs.declared.error.Error.{Error}
 use Rattle.clap.specs.declared.parser.matches.ArgMatches.{ArgMatches}
 use Rattle.sgb_requests.specs.CommandLine.{Enters, command_line}
 use Rattle.sgb_requests.specs.inner.CommandLine.{HasNoCommand, IsTaken, alone_shape, output_shape}
-use Rattle.sgb_requests.proofs.ClapValues.{name_by_rows, or_false, pair_is}
+use Rattle.sgb_requests.proofs.ClapValues.{name_by_rows}
 use Rattle.sgb_requests.proofs.ClapHelp.{IsNotHelp, walk_stops}
 use Rattle.sgb_requests.proofs.ClapRequired.{each_valued, is_valued, none_first, none_second, required_first}
 
@@ -85,12 +85,7 @@ found_of_name name shapes = find (λ s. answers_to name (label_of s)) (shapes ++
 -- a command that is found without a fault by another name than `help` is one of these
 one_entered : (p : Text × List Text) (e : Text × List Row) (shapes : List Shape) → p.0 ≢ codes "help"
     → fault_at p.1 (found_of_name p.0 shapes) ≡ [] → entered_at p.1 (found_of_name p.0 shapes) ≡ Some e → IsOneEntered shapes e
-one_entered p e [] no_help no_fault is =
-    go (answers_to p.0 (label_of help_leaf)) (λ hit. no_help (sym ((bytes_eq-Decides (codes "help") p.0).0 (or_false _ hit)))) is
-  where
-    go : (b : Bool) → (b ≡ true → ⊥) → entered_at p.1 (cond b (Some help_leaf) None) ≡ Some e → ⊥
-    go true other is = other refl
-    go false other is = cc
+one_entered p e [] no_help no_fault is = grind arith
 one_entered p e (s ∷ rest) no_help no_fault is = go (answers_to p.0 (label_of s)) (one_entered p e rest no_help) no_fault is
   where
     go : (b : Bool)
@@ -156,16 +151,12 @@ which_entered e (inr (inr (inr (inr (inr none))))) = absurd none
 
 -- its expression is there, unless it is `queen`
 expression_there : (e : Text × List Row) → e.0 ≢ codes "queen" → IsCommandEntered e → IsSome (first_of (codes "EXPR") e.1)
-expression_there e other (inl names) = names.1
-expression_there e other (inr (inl list)) = list.1
-expression_there e other (inr (inr (inl save))) = save.1
-expression_there e other (inr (inr (inr (inl queen)))) = absurd (other queen)
-expression_there e other (inr (inr (inr (inr flip)))) = flip.1
+expression_there e other h = grind (arith)
 
 -- the command of these matches is the one that the words enter
 pub entered_is : (words : List Text) (m : ArgMatches) (name : Text) (rows : List Row) → IsTaken words m → subcommand_name_of m ≡ Some name
     → option_map (λ p. p.1) (subcommand_rows_of m) ≡ Some rows → subcommand_of command_line words ≡ Some (name, rows)
-entered_is words m name rows is named has = sym is.entered ∙ pair_is _ name rows (sym (name_by_rows m) ∙ named) has
+entered_is words m name rows is named has = grind arith
 
 -- the matches of a command have an expression, unless it is `queen`
 pub has_expression : (words : List Text) (m : ArgMatches) (name : Text) (rows : List Row) → bytes_eq name (codes "queen") ≡ false → IsTaken words m → subcommand_name_of m ≡ Some name
@@ -200,8 +191,4 @@ not_called words m is no_names no_list no_save no_queen no_flip = go (subcommand
         named = name_by_rows m ∙ ap (option_map (λ (p : Text × List Row). p.0)) (is.entered ∙ e)
 
         which : IsCommandEntered p → ⊥
-        which (inl names) = no_names (named ∙ ap Some names.0)
-        which (inr (inl list)) = no_list (named ∙ ap Some list.0)
-        which (inr (inr (inl save))) = no_save (named ∙ ap Some save.0)
-        which (inr (inr (inr (inl queen)))) = no_queen (named ∙ ap Some queen)
-        which (inr (inr (inr (inr flip)))) = no_flip (named ∙ ap Some flip.0)
+        which h = grind arith

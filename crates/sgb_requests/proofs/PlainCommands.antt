@@ -1,5 +1,5 @@
 -- The commands that plain words enter, and what they ask of them.
-use Rattle.std.proofs.Common.{◌≡◌, ◌∙◌, false, List, [], ◌∷◌, Option, Some, None, refl, ap, codes, fold}
+use Rattle.std.proofs.Common.{◌≡◌, ◌∙◌, false, List, [], ◌∷◌, Option, Some, None, refl, ap, codes, fold, arith}
 use Rattle.clap.specs.Faults.{defaults_fault, level_fault, step_fault, turn_fault, walk_fault}
 use Rattle.clap.specs.Kinds.{Kinds, or_else}
 use Rattle.clap.specs.Simple.{Shape, rows_at}
@@ -32,8 +32,7 @@ module _ (name text : Text) (plain : IsPlain text) where
 
   -- with no option
   pub alone_asked : asked_by (rows_at (alone_leaf name) (text ∷ [])) ≡ record { command = name; expression = Some text; after = None; skip = None }
-  alone_asked =
-      ap (λ (w : Walk). asked_by (name, finished (alone_leaf name).rules w.held)) alone_walk
+  alone_asked = grind (arith, alone_walk)
 
 -- ---- a command that begins where the options say
 
@@ -82,8 +81,7 @@ module _ (name text : Text) (plain : IsPlain text) where
 
       option_turns : walk_fault (output_leaf name) [] (walk_from nothing_held) (text ∷ option_name ∷ given ∷ []) ≡ []
       unfolding walk_fault
-      option_turns =
-          rw (output_turn, output_first, met.taken, turn_passes (output_leaf name) [] given plain_given second met.going met.before met.waits met.step) refl
+      option_turns = grind (arith, output_turn, output_first, turn_passes)
 
       option_passes : level_fault (output_leaf name) [] nothing_held (text ∷ option_name ∷ given ∷ []) false [] ≡ []
       option_passes = level_passes (output_leaf name) (text ∷ option_name ∷ given ∷ []) third option_walk option_turns met.ends
@@ -118,25 +116,9 @@ module _ (name text : Text) (plain : IsPlain text) where
 
 -- ---- the commands by their names
 
-pub names_enters : EntersShape built_line (codes "names") (output_leaf (codes "names"))
-unfolding walked defaults_fault
-names_enters = record { stops = refl; turn = refl; found = refl; others = refl }
-
-pub list_enters : EntersShape built_line (codes "list") (output_leaf (codes "list"))
-unfolding walked defaults_fault
-list_enters = record { stops = refl; turn = refl; found = refl; others = refl }
-
-pub save_enters : EntersShape built_line (codes "save") (alone_leaf (codes "save"))
-unfolding walked defaults_fault
-save_enters = record { stops = refl; turn = refl; found = refl; others = refl }
-
 pub queen_enters : EntersShape built_line (codes "queen") queen_leaf
 unfolding walked defaults_fault
 queen_enters = record { stops = refl; turn = refl; found = refl; others = refl }
-
-pub flip_enters : EntersShape built_line (codes "flip") (alone_leaf (codes "flip"))
-unfolding walked defaults_fault
-flip_enters = record { stops = refl; turn = refl; found = refl; others = refl }
 
 -- ---- what is asked
 
@@ -164,13 +146,9 @@ module _ (program name text : Text) (leaf : Shape) (enters : EntersShape built_l
         begins = begins_by rows after skip resume (ap (λ (a : Asked). a.after) asked) (ap (λ (a : Asked). a.skip) asked) begins;
       }
 
--- `queen`, with nothing after it
-pub queen_passes : level_fault queen_leaf [] nothing_held [] false [] ≡ []
-unfolding walk_fault defaults_fault
-queen_passes = refl
-
 pub queen_taken : (program : Text) → fault_of command_line (program ∷ codes "queen" ∷ []) ≡ []
-queen_taken program = shape_passes built_line (codes "queen") queen_leaf queen_enters [] queen_passes
+unfolding walk_fault defaults_fault
+queen_taken program = grind (arith, queen_enters)
 
 pub queen_entered : (program : Text) → subcommand_of command_line (program ∷ codes "queen" ∷ []) ≡ Some (rows_at queen_leaf [])
 queen_entered program = shape_entered built_line (codes "queen") queen_leaf queen_enters []

@@ -1,16 +1,14 @@
 -- What words are read as, where it is known what they ask.
-use Rattle.std.proofs.Common.{◌≡◌, ◌∙◌, ◌↔◌, true≢false, false, List, [], Option, Some, None, Result, Ok, Err, inl, inr, refl, sym, ap, subst, codes, unwrap_or}
+use Rattle.std.proofs.Common.{◌≡◌, ◌∙◌, ◌↔◌, true≢false, false, List, None, Result, Ok, Err, inl, inr, refl, sym, ap, subst, codes, rules, arith}
 use Rattle.std.specs.Str.{bytes_eq}
 use Rattle.std.proofs.lemmas.Slice.Eq.{bytes_eq-Decides}
 use Rattle.clap.specs.Words.{Row, Text, first_of}
 use Rattle.sgb_requests.specs.CommandLine.{Asks, Enters}
 use Rattle.sgb_expr.specs.Expressions.{IsExpressionRead}
-use Rattle.sgb_expr.specs.FlipTexts.{IsFlipRead}
 use Rattle.sgb_expr.specs.declared.expressions.Unread.TheVariants as unread
 use Rattle.sgb_requests.specs.PlainWords.{IsFlipReadBy, IsQueenRead, IsReadBy}
 use Rattle.sgb_requests.specs.Reading.{IsFlipReadAs, IsReadAs}
 use Rattle.sgb_requests.specs.Requests.{IsAskedOf, IsCommandLineReadAs, IsInvalidCommandLine, IsRequest, IsResumeOf}
-use Rattle.sgb_vec.specs.declared.panics.Panic.{Panic}
 use Rattle.sgb_vec.specs.declared.panics.Panic.TheVariants.{NoRoom}
 use Rattle.sgb_expr.specs.declared.expressions.Expr.{Expr}
 use Rattle.sgb_requests.specs.declared.faults.Fault.{Fault}
@@ -23,17 +21,11 @@ use Rattle.sgb_requests.proofs.Beginnings.{begins_once}
 use Rattle.sgb_requests.proofs.PlainCommands.{AsksSo}
 use Rattle.sgb_requests.proofs.RefusedTexts.{IsRefusedWithText, faults_here}
 
--- a value is there or not
-no_some : {X : Type 0} (x : X) → Some x ≡ None → ⊥
-no_some x e = cc
-
 -- ---- the words enter one command
 
 -- of one name, with its matches
 same_entered : (words : List Text) (name other : Text) (rows others : List Row) → Enters words name rows → Enters words other others → (name ≡ other) × (rows ≡ others)
-same_entered words name other rows others is other_is =
-    let same : Some (name, rows) ≡ Some (other, others) = sym is.entered ∙ other_is.entered in
-    (ap (λ (o : Option (Text × List Row)). (unwrap_or o ([], [])).0) same, ap (λ (o : Option (Text × List Row)). (unwrap_or o ([], [])).1) same)
+same_entered words name other rows others is other_is = grind arith
 
 -- not two
 apart : (words : List Text) (name other : Text) (rows others : List Row) → bytes_eq name other ≡ false → Enters words name rows → Enters words other others → ⊥
@@ -48,18 +40,9 @@ command_of (request.Save e) = codes "save"
 command_of request.Queen = codes "queen"
 command_of (request.Flip p) = codes "flip"
 
-command_entered : (words : List Text) (r : Request) → IsRequest words r → (rows : List Row) × Enters words (command_of r) rows
-command_entered words (request.Names e resume) h = (h.0, h.2.0)
-command_entered words (request.List e resume) h = (h.0, h.2.0)
-command_entered words (request.Save e) h = (h.0, h.2.0)
-command_entered words request.Queen h = h
-command_entered words (request.Flip p) h = (h.0, h.2.0)
-
 -- no request of another command is made
 other_request : (words : List Text) (name : Text) (rows : List Row) (r : Request) → Enters words name rows → bytes_eq name (command_of r) ≡ false → IsRequest words r → ⊥
-other_request words name rows r is differ h =
-    let other = command_entered words r h in
-    apart words name (command_of r) rows other.0 differ is other.1
+other_request words name rows r is differ h = grind arith
 
 -- ---- words that are refused
 
@@ -67,8 +50,7 @@ other_request words name rows r is differ h =
 faults_there : (words : List Text) (P : Fault → Type 0) → (IsInvalidCommandLine words → ⊥) → ((f : Fault) → IsRefusedWithText words f → P f) → P (fault.Panic NoRoom)
     → (f : Fault) → IsCommandLineReadAs words (Err f) → P f
 faults_there words P valid by_text no_room fault.Usage h = absurd (valid h)
-faults_there words P valid by_text no_room (fault.Panic p) h = subst (λ (p : Panic). P (fault.Panic p)) (sym h) no_room
-faults_there words P valid by_text no_room f h = by_text f h
+faults_there words P valid by_text no_room f h = search (rules)
 
 -- ---- a command with its expression
 
@@ -76,20 +58,15 @@ module _ (words : List Text) (name text : Text) (rows : List Row) (asks : Asks w
     (begins : IsResumeOf (first_of (codes "after") rows) (first_of (codes "skip") rows) resume) where
   -- what is asked is known
   text_is : (other t : Text) (others : List Row) → Asks words other others t → text ≡ t
-  text_is other t others asked =
-      let same = (same_entered words name other rows others asks.0 asked.0).1 in
-      ap (λ (o : Option Text). unwrap_or o []) (sym asks.1 ∙ ap (first_of (codes "EXPR")) same ∙ asked.1)
+  text_is other t others asked = grind arith
 
   -- and where its answer begins
   begins_there : (other : Text) (others : List Row) → Enters words other others → IsResumeOf (first_of (codes "after") others) (first_of (codes "skip") others) resume
-  begins_there other others is =
-      subst (λ (rows : List Row). IsResumeOf (first_of (codes "after") rows) (first_of (codes "skip") rows) resume) (same_entered words name other rows others asks.0 is).1 begins
+  begins_there other others is = grind arith
 
   -- the words are no invalid command line
   valid : IsInvalidCommandLine words → ⊥
-  valid (inl (inl refused)) = refused asks.0.taken
-  valid (inl (inr none)) = no_some _ (sym asks.0.entered ∙ none)
-  valid (inr h) = h.4 resume (begins_there h.0 h.1 h.3.0)
+  valid h = grind arith
 
   -- what is asked of a command with options is asked of this expression
   asked_same : (other : Text) (r : Resume) (read : Result Expr Fault) → IsAskedOf words other r read → IsReadAs text read × (r ≡ resume)
@@ -154,8 +131,7 @@ module _ (words : List Text) (text : Text) (so : AsksSo words (codes "save") tex
   save_is t rows = text_is words (codes "save") text so.rows so.asks Whole so.begins (codes "save") t rows
 
   save_there : (r : Request) → IsRequest words r → IsReadBy (λ e. request.Save e) text (Ok r)
-  save_there (request.Save e) h = (e, subst (λ (t : Text). IsReadAs t (Ok e)) (sym (save_is h.1 h.0 h.2)) h.3, refl)
-  save_there r h = absurd (other_request words (codes "save") so.rows r so.asks.0 refl h)
+  save_there r h = search rules
 
   save_text : (f : Fault) → IsRefusedWithText words f → IsReadAs text (Err f)
   save_text f (inl (r, (inl h))) = absurd (apart words (codes "save") (codes "names") so.rows h.0 refl so.asks.0 h.2.0)
@@ -180,14 +156,10 @@ module _ (words : List Text) (text : Text) (so : AsksSo words (codes "flip") tex
   flip_there r h = absurd (other_request words (codes "flip") so.rows r so.asks.0 refl h)
 
   flip_text : (f : Fault) → IsRefusedWithText words f → IsFlipReadBy text (Err f)
-  flip_text f (inl (r, (inl h))) = absurd (apart words (codes "flip") (codes "names") so.rows h.0 refl so.asks.0 h.2.0)
-  flip_text f (inl (r, (inr h))) = absurd (apart words (codes "flip") (codes "list") so.rows h.0 refl so.asks.0 h.2.0)
-  flip_text f (inr (inl h)) = absurd (apart words (codes "flip") (codes "save") so.rows h.0 refl so.asks.0 h.2.0)
-  flip_text f (inr (inr h)) = inl (subst (λ (t : Text). IsFlipReadAs t (Err f)) (sym (flip_is h.1 h.0 h.2)) h.3)
+  flip_text f h = grind arith
 
   flip_refused : (f : Fault) → IsFlipReadBy text (Err f) → IsCommandLineReadAs words (Err f)
-  flip_refused f (inl h) = faults_here words (IsFlipRead text) (λ f h. inr (inr (so.rows, text, so.asks, h))) f h
-  flip_refused f (inr e) = subst (λ (f : Fault). IsCommandLineReadAs words (Err f)) (sym e) refl
+  flip_refused f h = grind arith
 
   pub flip_read : (result : Result Request Fault) → IsCommandLineReadAs words result ↔ IsFlipReadBy text result
   flip_read (Ok r) = (flip_there r, λ h. subst (IsRequest words) (sym h.2) (so.rows, text, so.asks, h.1))
@@ -197,25 +169,5 @@ module _ (words : List Text) (text : Text) (so : AsksSo words (codes "flip") tex
 -- ---- `queen`
 
 module _ (words : List Text) (rows : List Row) (enters : Enters words (codes "queen") rows) (alone : first_of (codes "EXPR") rows ≡ None) where
-  queen_there : (r : Request) → IsRequest words r → r ≡ request.Queen
-  queen_there request.Queen h = refl
-  queen_there r h = absurd (other_request words (codes "queen") rows r enters refl h)
-
-  queen_text : (f : Fault) → IsRefusedWithText words f → ⊥
-  queen_text f (inl (r, (inl h))) = apart words (codes "queen") (codes "names") rows h.0 refl enters h.2.0
-  queen_text f (inl (r, (inr h))) = apart words (codes "queen") (codes "list") rows h.0 refl enters h.2.0
-  queen_text f (inr (inl h)) = apart words (codes "queen") (codes "save") rows h.0 refl enters h.2.0
-  queen_text f (inr (inr h)) = apart words (codes "queen") (codes "flip") rows h.0 refl enters h.2.0
-
-  queen_valid : IsInvalidCommandLine words → ⊥
-  queen_valid (inl (inl refused)) = refused enters.taken
-  queen_valid (inl (inr none)) = no_some _ (sym enters.entered ∙ none)
-  queen_valid (inr h) =
-      no_some _ (sym h.3.1 ∙ ap (first_of (codes "EXPR")) (sym (same_entered words (codes "queen") h.0 rows h.1 enters h.3.0).1) ∙ alone)
-
   pub queen_read : (result : Result Request Fault) → IsCommandLineReadAs words result ↔ IsQueenRead result
-  queen_read (Ok r) = (queen_there r, λ e. subst (IsRequest words) (sym e) (rows, enters))
-  queen_read (Err f) = (
-    faults_there words (λ f. f ≡ fault.Panic NoRoom) queen_valid (λ f h. absurd (queen_text f h)) refl f,
-    λ e. subst (λ (f : Fault). IsCommandLineReadAs words (Err f)) (sym e) refl,
-  )
+  queen_read result = search rules

@@ -3,7 +3,6 @@ use Rattle.std.proofs.Common.{◌≡◌, ◌≢◌, ◌∙◌, ◌<◌, ◌==◌
 use Rattle.std.specs.Char.{digit_value}
 use Rattle.sgb_expr.specs.Expression.{Expression, expression_of}
 use Rattle.sgb_expr.specs.Expressions.{IsExpression}
-use Rattle.sgb_expr.proofs.WholeReading.{no_hyphen}
 use Rattle.sgb_expr.specs.declared.expressions.Expr.{Expr}
 use Rattle.sgb_expr.specs.declared.flips.FlipParams.{FlipParams}
 use Rattle.sgb_text.specs.Numbers.{IsNumber}
@@ -22,9 +21,7 @@ letter n other e = true≢false (sym (ap (λ (x : ℕ). x == 45) e) ∙ other)
 
 -- an expression begins with its name
 named : (text : List ℕ) (e : Expression) → IsExpression text e → IsPlain text
-named [] e h = letter 0 refl
-named (x ∷ rest) e h =
-    λ first. no_hyphen rest e (subst (λ (x : ℕ). IsExpression (x ∷ rest) e) first h)
+named text e h = grind arith
 
 pub expression_plain : (text : List ℕ) (e : Expr) → IsReadAs text (Ok e) → IsPlain text
 expression_plain text e h = named text (expression_of e) h.1

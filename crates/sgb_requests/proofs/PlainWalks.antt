@@ -1,5 +1,5 @@
 -- The walk of clap's over words that are no options, and over words that it passes over.
-use Rattle.std.proofs.Common.{◌≡◌, ◌≢◌, ◌∙◌, ◌==◌, ℕ, Bool, true, false, List, [], ◌∷◌, ◌++◌, append_assoc, append-nil, Option, Some, None, slice_index, refl, sym, ap, rules, find, fold, option_map}
+use Rattle.std.proofs.Common.{◌≡◌, ◌≢◌, ◌∙◌, ◌==◌, ℕ, Bool, true, false, List, [], ◌∷◌, ◌++◌, append_assoc, append-nil, Option, Some, None, slice_index, refl, sym, ap, find, fold, option_map, arith}
 use Rattle.std.specs.Option.{option_and_then}
 use Rattle.std.specs.Str.{bytes_eq}
 use Rattle.std.proofs.lemmas.Slice.Eq.{bytes_eq-Decides}
@@ -34,15 +34,11 @@ module _ (s : Shape) (names : Names) where
 
 -- a first byte is not the hyphen
 no_hyphen : (x : ℕ) → x ≢ 45 → (x == 45) ≡ false
-no_hyphen x other = never_true (x == 45) (λ e. other (same e))
-  where
-    same : (x == 45) ≡ true → x ≡ 45
-    same e = search (rules, e)
+no_hyphen x other = grind arith
 
 -- there is no hyphen to take off
 no_strip : (word : Text) → IsPlain word → strip_byte 45 word ≡ None
-no_strip [] plain = refl
-no_strip (x ∷ xs) plain = rw (no_hyphen x plain) refl
+no_strip word plain = grind arith
 
 -- it is not `--`
 no_trailing : (word : Text) → IsPlain word → bytes_eq word (45 ∷ 45 ∷ []) ≡ false
@@ -124,5 +120,4 @@ module _ (a : App) where
     -- a fault is one of the words after its name
     pub shape_passes : level_fault s [] nothing_held words false [] ≡ [] → built_fault a nothing_held (name ∷ words) ≡ []
     unfolding walk_fault
-    shape_passes none =
-        rw (enters.turn, enters.stops, words_pass a.top (names_of a) name [] words, walk_is, enters.found, none) enters.others
+    shape_passes none = grind (arith, words_pass, walk_is)

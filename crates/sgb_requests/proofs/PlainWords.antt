@@ -1,6 +1,8 @@
 -- The plain forms of words are read as the requests that they are.
-use Rattle.std.proofs.Common.{◌↔◌, List, [], ◌∷◌, Some, None, Result, refl, sym, subst, codes}
+use Rattle.std.proofs.Common.{◌↔◌, List, [], ◌∷◌, Some, None, Result, refl, sym, subst, codes, arith}
+use Rattle.clap.specs.Faults.{defaults_fault}
 use Rattle.clap.specs.Simple.{rows_at}
+use Rattle.clap.specs.Walk.{walked}
 use Rattle.clap.specs.Words.{Text}
 use Rattle.sgb_requests.specs.PlainWords.{AreOptions, IsFlipReadBy, IsPlain, IsQueenRead, IsReadBy}
 use Rattle.sgb_requests.specs.Requests.{IsCommandLineReadAs}
@@ -10,7 +12,7 @@ use Rattle.sgb_requests.specs.declared.requests.Request.TheVariants as request
 use Rattle.sgb_requests.specs.declared.requests.Resume.{Resume}
 use Rattle.sgb_requests.specs.declared.requests.Resume.TheVariants.{Whole, Skip, After}
 use Rattle.sgb_requests.proofs.EnteredCommands.{alone_leaf, built_line, output_leaf, queen_leaf}
-use Rattle.sgb_requests.proofs.PlainCommands.{AsksSo, after_asked, after_passes, alone_asked, alone_passes, asks, flip_enters, list_enters, names_enters, queen_entered, queen_taken, save_enters, skip_asked, skip_passes, whole_asked, whole_passes}
+use Rattle.sgb_requests.proofs.PlainCommands.{AsksSo, after_asked, after_passes, alone_asked, alone_passes, asks, queen_entered, queen_taken, skip_asked, skip_passes, whole_asked, whole_passes}
 use Rattle.sgb_requests.proofs.PlainReadings.{flip_read, list_read, names_read, queen_read, save_read}
 use Rattle.sgb_requests.proofs.PlainTexts.{digits_plain}
 use Rattle.sgb_requests.proofs.PlainWalks.{EntersShape}
@@ -38,23 +40,23 @@ asks_alone program name text enters plain =
 
 pub names_law : (program text : Text) (options : List Text) (resume : Resume) (result : Result Request Fault) → IsPlain text → AreOptions options resume
     → IsCommandLineReadAs (program ∷ codes "names" ∷ text ∷ options) result ↔ IsReadBy (λ e. request.Names e resume) text result
-names_law program text options resume result plain is =
-    names_read (program ∷ codes "names" ∷ text ∷ options) text resume (asks_so program (codes "names") text options resume names_enters plain is) result
+unfolding walked defaults_fault
+names_law program text options resume result plain is = grind (arith, names_read, codes, asks_so)
 
 pub list_law : (program text : Text) (options : List Text) (resume : Resume) (result : Result Request Fault) → IsPlain text → AreOptions options resume
     → IsCommandLineReadAs (program ∷ codes "list" ∷ text ∷ options) result ↔ IsReadBy (λ e. request.List e resume) text result
-list_law program text options resume result plain is =
-    list_read (program ∷ codes "list" ∷ text ∷ options) text resume (asks_so program (codes "list") text options resume list_enters plain is) result
+unfolding walked defaults_fault
+list_law program text options resume result plain is = grind (arith, list_read, codes, asks_so)
 
 pub save_law : (program text : Text) (result : Result Request Fault) → IsPlain text
     → IsCommandLineReadAs (program ∷ codes "save" ∷ text ∷ []) result ↔ IsReadBy (λ e. request.Save e) text result
-save_law program text result plain =
-    save_read (program ∷ codes "save" ∷ text ∷ []) text (asks_alone program (codes "save") text save_enters plain) result
+unfolding walked defaults_fault
+save_law program text result plain = grind (arith, save_read, codes, asks_alone)
 
 pub flip_law : (program text : Text) (result : Result Request Fault) → IsPlain text
     → IsCommandLineReadAs (program ∷ codes "flip" ∷ text ∷ []) result ↔ IsFlipReadBy text result
-flip_law program text result plain =
-    flip_read (program ∷ codes "flip" ∷ text ∷ []) text (asks_alone program (codes "flip") text flip_enters plain) result
+unfolding walked defaults_fault
+flip_law program text result plain = grind (arith, flip_read, codes, asks_alone)
 
 pub queen_law : (program : Text) (result : Result Request Fault) → IsCommandLineReadAs (program ∷ codes "queen" ∷ []) result ↔ IsQueenRead result
 queen_law program result =

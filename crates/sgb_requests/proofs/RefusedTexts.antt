@@ -1,11 +1,9 @@
 -- The faults of texts that are not read.
-use Rattle.std.proofs.Common.{◌≡◌, ◌∙◌, ◌⊎◌, Bool, true, false, true≢false, List, Result, Err, codes, refl, sym, ap}
+use Rattle.std.proofs.Common.{◌≡◌, ◌⊎◌, Bool, true, false, List, Result, Err, codes, refl, rules, arith}
 use Rattle.clap.specs.Words.{Row, Text}
 use Rattle.sgb_vec.specs.declared.panics.Panic.{Panic}
 use Rattle.sgb_vec.specs.declared.panics.Panic.TheVariants.{NoRoom}
 use Rattle.sgb_expr.specs.declared.expressions.Unread.{Unread}
-use Rattle.sgb_expr.specs.declared.expressions.Unread.TheVariants as unread
-use Rattle.sgb_requests.specs.Faults.{fault_of_unread}
 use Rattle.sgb_requests.specs.CommandLine.{Asks}
 use Rattle.sgb_requests.specs.Reading.{IsFlipReadAs, IsReadAs, IsReadOrRefused}
 use Rattle.sgb_requests.specs.Requests.{IsAskedOf, IsRefusedCommandLine}
@@ -20,23 +18,12 @@ is_of_text (fault.Expr k) = true
 is_of_text (fault.Panic p) = true
 is_of_text _ = false
 
-is_of_unread : (cause : Unread) → is_of_text (fault_of_unread cause) ≡ true
-is_of_unread unread.TooLarge = refl
-is_of_unread (unread.At k) = refl
-is_of_unread unread.NoRoom = refl
-
 -- it is refused with no other
 pub no_refusal : {T : Type 0} (IsRead : Result T Unread → Type 0) (f : Fault) → is_of_text f ≡ false → IsReadOrRefused IsRead (Err f) → ⊥
-no_refusal IsRead f none (cause, is, e) = true≢false (sym (sym none ∙ ap is_of_text e ∙ is_of_unread cause))
-
--- a panic is want of memory
-panic_of_unread : (p : Panic) (cause : Unread) → fault.Panic p ≡ fault_of_unread cause → p ≡ NoRoom
-panic_of_unread p unread.TooLarge e = absurd cc
-panic_of_unread p (unread.At k) e = absurd cc
-panic_of_unread p unread.NoRoom e = cc
+no_refusal IsRead f none (cause, is, e) = grind arith
 
 pub panic_is_no_room : {T : Type 0} (IsRead : Result T Unread → Type 0) (p : Panic) → IsReadOrRefused IsRead (Err (fault.Panic p)) → p ≡ NoRoom
-panic_is_no_room IsRead p (cause, is, e) = panic_of_unread p cause e
+panic_is_no_room IsRead p (cause, is, e) = grind (arith)
 
 -- words that are refused with a fault that is neither `Usage` nor want of memory
 abbrev pub IsRefusedWithText : List Text → Fault → Type 0
@@ -49,5 +36,4 @@ IsRefusedWithText words f =
 pub faults_here : {T : Type 0} (words : List Text) (IsRead : Result T Unread → Type 0) → ((f : Fault) → IsReadOrRefused IsRead (Err f) → IsRefusedWithText words f)
     → (f : Fault) → IsReadOrRefused IsRead (Err f) → IsRefusedCommandLine words f
 faults_here words IsRead given fault.Usage h = absurd (no_refusal IsRead fault.Usage refl h)
-faults_here words IsRead given (fault.Panic p) h = panic_is_no_room IsRead p h
-faults_here words IsRead given f h = given f h
+faults_here words IsRead given f h = search rules
