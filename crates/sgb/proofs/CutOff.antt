@@ -57,7 +57,4 @@ exit_uncut same text a b r f exit left = search (rules, err_from_is_err_and)
 pub begun_by : {T : Type 0} (same : Type 0) (a b c : Option (List ℕ)) (failed : Bool) (xs ys : List ℕ) (r : Result T Fault) → Appends a b xs
     → IsWritten ys (record { before = b; after = c; failed = failed }) r
     → IfErr r (λ f. f ≢ fault.Write → IsLeftOrBegun same xs a c)
-begun_by same a b c failed xs ys (Ok x) p q = tt
-begun_by same a b c failed xs ys (Err f) p q =
-    let (done, rest, split, appended) = q.output in
-    λ other. inr (done, Appends-trans a b c xs done p appended)
+begun_by same a b c failed xs ys r p q = grind (arith, Appends-trans)

@@ -1,5 +1,5 @@
 -- The numbers that a flip draws, one after another.
-use Rattle.std.proofs.Common.{◌≡◌, ◌++◌, ◌+◌, ◌%◌, ◌≤◌, ◌∙◌, [], ◌∷◌, ℕ, zero, suc, ap, sym, refl, arith}
+use Rattle.std.proofs.Common.{◌≡◌, ◌++◌, ◌+◌, ◌%◌, ◌≤◌, ◌∙◌, [], ◌∷◌, ℕ, zero, suc, ap, sym, arith}
 use Rattle.sgb_graph.specs.Draws.{IsUniformDraw, draw, modulus, plain_draws, uniform_draws}
 use Rattle.sgb_graph.proofs.UniformDraws.{uniform_draw_only}
 use Rattle.sgb.specs.FlipAnswers.{drawn_from, number_lines}
@@ -21,17 +21,10 @@ uniform_first seed (suc m) k number last count some small is =
     ap (λ (t : ℕ). draw seed t % suc m ∷ uniform_draws seed (suc m) (t + 1) count) (sym only.0)
     ∙ ap (λ (n : ℕ). n ∷ uniform_draws seed (suc m) (last + 1) count) (sym only.1)
 
--- no number is drawn
-pub none_drawn : (seed m k : ℕ) → drawn_from seed m k 0 ≡ []
-unfolding plain_draws uniform_draws
-none_drawn seed zero k = refl
-none_drawn seed (suc m) k = refl
-
 -- their lines, where these are what is left
 pub lines_none : (seed m k left : ℕ) → left ≡ 0 → number_lines (drawn_from seed m k left) ≡ []
-unfolding number_lines
-lines_none seed m k left none =
-    ap (λ (n : ℕ). number_lines (drawn_from seed m k n)) none ∙ ap number_lines (none_drawn seed m k)
+unfolding number_lines plain_draws uniform_draws
+lines_none seed m k left none = grind (arith)
 
 pub lines_first : (seed m k next number left rest : ℕ) → left ≡ suc rest
     → ((count : ℕ) → drawn_from seed m k (suc count) ≡ number ∷ drawn_from seed m next count)

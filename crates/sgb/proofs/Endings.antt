@@ -1,9 +1,8 @@
 -- What a run leaves, from what answering the request left.
-use Rattle.std.proofs.Common.{arith, rules, ◌≡◌, ◌⊎◌, ℕ, Bool, true, false, List, [], Option, Result, Ok, Err, IfErr, is_err, refl, inl, inr, ap, sym, subst}
-use Rattle.std.specs.Io.KnownBytes.{Appends, Keeps}
-use Rattle.std.proofs.KnownBytes.{Appends-nil, Appends-kept}
+use Rattle.std.proofs.Common.{arith, rules, ◌≡◌, ◌⊎◌, ℕ, Bool, false, List, [], Option, Result, Ok, Err, IfErr, is_err, ap, sym, subst}
+use Rattle.std.specs.Io.KnownBytes.{Keeps}
+use Rattle.std.proofs.KnownBytes.{Appends-nil}
 use Rattle.std.specs.Result.{IsErrAnd, result_map_both}
-use Rattle.std.proofs.lemmas.Bool.{both_ways}
 use Rattle.std.proofs.lemmas.Result.{err_from_is_err_and}
 use Rattle.sgb_vec.specs.declared.panics.Panic.TheVariants.{NoRoom}
 use Rattle.sgb_vec.specs.declared.panics.Panic.{Panic}
@@ -16,7 +15,7 @@ use Rattle.sgb.specs.Runs.{IsRunOf}
 use Rattle.sgb.specs.Writing.{IsCutOff, IsEnded, IsWhole, IsWritten}
 use Rattle.sgb_requests.specs.declared.faults.Fault.{Fault}
 use Rattle.sgb_requests.specs.declared.faults.Fault.TheVariants as fault
-use Rattle.sgb_file.proofs.WrittenPrefixes.{prefix_all, prefix_none}
+use Rattle.sgb_file.proofs.WrittenPrefixes.{prefix_all}
 
 -- the bytes that a sink tells, before and after, and whether it has failed
 abbrev pub change_of : Option (List ℕ) → Option (List ℕ) → Bool → Change
@@ -24,71 +23,20 @@ change_of before after failed = record { before = before; after = after; failed 
 
 -- an empty line is nothing
 pub no_line : (failed : Bool) (a : Option (List ℕ)) → AppendsUnlessFailed (change_of a a failed) []
-no_line true a = prefix_none a []
-no_line false a = Appends-nil a
-
--- the request was answered in full
-pub answers_ok : {T : Type 0} (a : Result (List ℕ) Fault) (same : Type 0) (x : T) (w v e : Option (List ℕ)) (wf ef : Bool)
-    → IsEnded a same (change_of w v wf) (Ok x) → IsRunOf (outcome_of a) (change_of w v wf) (change_of e e ef) 0 × IfErr a (λ f. same)
-answers_ok (Ok text) same x w v e true ef p = absurd (both_ways true p.sound refl)
-answers_ok (Ok text) same x w v e false ef p = (inl (record { output = p.output; line = no_line ef e; exit = refl }), tt)
-answers_ok (Err g) same x w v e wf ef p = absurd p
+no_line failed a = grind (arith, Appends-nil)
 
 -- a fault that is known has its line and its status
 pub fault_told : (f g : Fault) (err : Change) → f ≡ g → AppendsUnlessFailed err (fault_line f) → AppendsUnlessFailed err (fault_line g) × (status_of f ≡ status_of g)
 fault_told f g err is line = (subst (λ (h : Fault). AppendsUnlessFailed err (fault_line h)) is line, ap status_of is)
 
--- the request was cut off, by the sink or out of memory
-cut_answers : (text : List ℕ) (f : Fault) (w v e d : Option (List ℕ)) (wf ef : Bool) → IsCutOff text (change_of w v wf) f
-    → AppendsUnlessFailed (change_of e d ef) (fault_line f) → IsRunOf (outcome_of (Ok text)) (change_of w v wf) (change_of e d ef) (status_of f)
-cut_answers text f w v e d true ef p line = elim p.cause [
-  | inl h ↦ let told = fault_told f _ (change_of e d ef) h.1 line in record { output = p.output; line = told.0; exit = told.1 }
-  | inr h ↦ absurd (both_ways true h.0 refl)
-]
-cut_answers text f w v e d false ef p line = elim p.cause [
-  | inl h ↦ absurd (both_ways false refl h.0)
-  | inr h ↦ let told = fault_told f _ (change_of e d ef) h.1 line in inr (record { output = p.output; line = told.0; exit = told.1 })
-]
-
--- the request was refused, or memory was, with nothing written
-refused_answers : (g f : Fault) (w v e d : Option (List ℕ)) (wf ef : Bool) → (f ≡ g) ⊎ (f ≡ fault.Panic NoRoom) → IsWhole [] (change_of w v wf)
-    → AppendsUnlessFailed (change_of e d ef) (fault_line f) → IsRunOf (outcome_of (Err g)) (change_of w v wf) (change_of e d ef) (status_of f)
-refused_answers g f w v e d true ef by p line = absurd (both_ways true p.sound refl)
-refused_answers g f w v e d false ef (inl same) p line =
-    let told = fault_told f g (change_of e d ef) same line in
-    inl (record { output = p.output; line = told.0; exit = told.1 })
-refused_answers g f w v e d false ef (inr memory) p line =
-    let told = fault_told f _ (change_of e d ef) memory line in
-    inr (record { output = prefix_all w v [] p.output; line = told.0; exit = told.1 })
-
--- the request ended with a fault, and its line was written
-pub answers_err : (T : Type 0) (a : Result (List ℕ) Fault) (same : Type 0) (f : Fault) (w v e d : Option (List ℕ)) (wf ef : Bool)
-    → IsEnded {T = T} a same (change_of w v wf) (Err f) → AppendsUnlessFailed (change_of e d ef) (fault_line f)
-    → IsRunOf (outcome_of a) (change_of w v wf) (change_of e d ef) (status_of f) × IfErr a (λ g. same)
-answers_err T (Ok text) same f w v e d wf ef p line = (cut_answers text f w v e d wf ef p line, tt)
-answers_err T (Err g) same f w v e d wf ef p line = (refused_answers g f w v e d wf ef p.0 p.1 line, p.2)
-
 -- no fault has the status of an answer
 pub fault_status : (f : Fault) → status_of f ≡ 0 → ⊥
-fault_status fault.Usage e = cc
-fault_status fault.TooLarge e = cc
-fault_status (fault.Expr k) e = cc
-fault_status (fault.Panic p) e = cc
-fault_status fault.NoVertex e = cc
-fault_status fault.Read e = cc
-fault_status fault.Write e = cc
-
--- the flush after a text failed
-flush_cut : (text : List ℕ) (a b c : Option (List ℕ)) (failed : Bool) (f : Fault) → Appends a b text → Keeps b c → failed ≡ true → f ≡ fault.Write
-    → IsCutOff text (change_of a c failed) f
-flush_cut text a b c failed f p q h e = record { output = prefix_all a c text (Appends-kept a b c text p q); cause = inl (h, e) }
+fault_status f e = grind (arith)
 
 -- an answer that was written, once what the sink held back was passed on, or that failed
 pub flush_ended : {T S : Type 0} (a : Result (List ℕ) Fault) (same later : Type 0) (x : T) (w v u : Option (List ℕ)) (before after : Bool) (r : Result S Fault)
     → IsEnded a same (change_of w v before) (Ok x) → Keeps v u → after ≡ is_err r → IfErr r (λ f. f ≡ fault.Write) → IsEnded a later (change_of w u after) r
-flush_ended (Ok text) same later x w v u before after (Ok y) p kept sound fault = record { output = Appends-kept w v u text p.output kept; sound = sound }
-flush_ended (Ok text) same later x w v u before after (Err f) p kept failed fault = flush_cut text w v u after f p.output kept failed fault
-flush_ended (Err g) same later x w v u before after r p kept failed fault = absurd p
+flush_ended a same later x w v u before after r p kept sound fault = grind (arith, prefix_all)
 
 -- a refusal before anything was written
 pub refused_at_once : (T : Type 0) (a : Result (List ℕ) Fault) (same : Type 0) (f : Fault) (w : Option (List ℕ)) (failed : Bool) → a ≡ Err f → failed ≡ false → same
@@ -98,8 +46,7 @@ refused_at_once T a same f w failed e h left = search (rules, Appends-nil)
 -- out of memory before anything was written
 pub memory_at_once : (T : Type 0) (a : Result (List ℕ) Fault) (same : Type 0) (w : Option (List ℕ)) (failed : Bool) → failed ≡ false → same
     → IsEnded {T = T} a same (change_of w w failed) (Err (fault.Panic NoRoom))
-memory_at_once T (Ok text) same w failed h left = record { output = prefix_none w text; cause = inr (h, refl) }
-memory_at_once T (Err g) same w failed h left = (inr refl, record { output = Appends-nil w; sound = h }, left)
+memory_at_once T a same w failed h left = grind (arith, Appends-nil)
 
 -- the exit of a `?` with the fault that ends the request
 pub exit_ended : {T : Type 0} (a : Result (List ℕ) Fault) (same : Type 0) (out : Change) (r : Result T Fault) (f : Fault) → IsErrAnd r (λ g. g ≡ f)
@@ -123,8 +70,7 @@ pub refused_value : {T : Type 0} (v : Result GraphData Panic) (answer : GraphDat
 refused_value {T = T} v answer same p r w failed exit is sound left = exit_ended (answer_from v answer) same (change_of w w failed) r (fault.Panic p) exit (by is)
   where
     by : IsValue v (Err p) → IsEnded {T = T} (answer_from v answer) same (change_of w w failed) (Err (fault.Panic p))
-    by (inl e) = refused_at_once T (answer_from v answer) same (fault.Panic p) w failed (ap (λ (u : Result GraphData Panic). answer_from u answer) e) sound left
-    by (inr e) = subst (λ q. IsEnded {T = T} (answer_from v answer) same (change_of w w failed) (Err (fault.Panic q))) (sym e) (memory_at_once T (answer_from v answer) same w failed sound left)
+    by h = grind (arith, refused_at_once, memory_at_once)
 
 -- an answer that is made of the graph of an expression
 pub ended_value : {T : Type 0} (v : Result GraphData Panic) (g : GraphData) (answer : GraphData → Result (List ℕ) Fault) (same : Type 0) (out : Change) (r : Result T Fault)

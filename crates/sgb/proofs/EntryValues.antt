@@ -1,5 +1,5 @@
 -- The values of entries, one after another.
-use Rattle.std.proofs.Common.{◌≡◌, ◌||◌, ◌+◌, ◌++◌, Bool, Box, Global, List, [], ◌∷◌, length, Result, Ok, Err, inl, inr, refl, ap, ◌∙◌, append_assoc, arith}
+use Rattle.std.proofs.Common.{◌≡◌, ◌||◌, ◌+◌, ◌++◌, Bool, Box, Global, List, [], ◌∷◌, length, Result, Ok, Err, refl, ap, ◌∙◌, append_assoc, arith}
 use Rattle.sgb_vec.specs.Results.{and_then, IsValue}
 use Rattle.sgb_vec.specs.declared.panics.Panic.{Panic}
 use Rattle.sgb_graph.specs.Graphs.{GraphData}
@@ -23,8 +23,7 @@ and_values done rest = and_then rest (λ others. Ok (done ++ others))
 -- one more of them
 pub one_more : {T : Type 0} (done : List T) (value : T) (first : Result T Panic) (others : Result (List T) Panic) → first ≡ Ok value
     → and_values (done ++ value ∷ []) others ≡ and_values done (and_then (both first others) (λ p. Ok (p.0 ∷ p.1)))
-one_more done value first (Ok os) e = rw e (ap Ok (append_assoc done (value ∷ []) os))
-one_more done value first (Err p) e = rw e refl
+one_more done value first others e = grind (arith, append_assoc)
 
 -- a list of no length
 pub length_zero : {T : Type 0} (list : List T) → length list ≡ 0 → list ≡ []
@@ -57,8 +56,7 @@ induced_reads e graph entries self_loops multi directed is =
 -- a refusal of the entries
 pub entries_refused : (graph : Result GraphData Panic) (entries : Result (List Entry) Panic) (g : GraphData) (self_loops multi directed : Bool) (p : Panic)
     → graph ≡ Ok g → IsValue entries (Err p) → IsValue (induced_from graph entries self_loops multi directed) (Err p)
-entries_refused graph entries g self_loops multi directed p e (inl f) = inl (rw (e, f) refl)
-entries_refused graph entries g self_loops multi directed p e (inr f) = inr f
+entries_refused graph entries g self_loops multi directed p e h = grind (arith)
 
 -- what is made of entries
 pub entries_made : (graph : Result GraphData Panic) (entries : Result (List Entry) Panic) (g : GraphData) (values : List Entry) (self_loops multi directed : Bool) (r : Result GraphData Panic)

@@ -46,9 +46,7 @@ back-short v k within small =
 
 -- where an entry ends in the name
 pub kept-end : (v ends text : List ℕ) (k : ℕ) → 0 < k → k ≤ length v → IsKeptName v ends text → get_or ends (k - 1) 0 ≡ length (name_of_vector (take k v))
-kept-end v ends text k some within kept =
-    let place : (k - 1) + 1 ≡ k = omega arith in
-    kept.places (k - 1) (omega arith) ∙ ap (λ i. length (name_of_vector (take i v))) place
+kept-end v ends text k some within kept = grind (arith)
 
 -- the first entries alone
 pub kept-front : (v ends text : List ℕ) (k end : ℕ) → k ≤ length v → end ≡ length (name_of_vector (take k v)) → IsKeptName v ends text

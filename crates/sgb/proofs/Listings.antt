@@ -1,8 +1,7 @@
 -- Parts of a listing, one after the other.
-use Rattle.std.proofs.Common.{◌≡◌, ◌∙◌, ◌+◌, ◌<◌, ◌≤◌, ℕ, min, List, [], ◌∷◌, ◌++◌, length, Some, drop, add-one, drop-cons, sym, ap, ap₂, append_assoc, inl, inr, arith, codes}
+use Rattle.std.proofs.Common.{◌≡◌, ◌∙◌, ◌+◌, ◌<◌, ◌≤◌, ℕ, min, List, [], ◌∷◌, ◌++◌, length, Some, drop, add-one, drop-cons, sym, ap, ap₂, append_assoc, arith, codes}
 use Rattle.std.specs.Fmt.{signed_decimal}
 use Rattle.std.specs.List.{flat_map, slice_get, slice_index_or}
-use Rattle.std.proofs.lemmas.Bool.{cases_lt}
 use Rattle.std.proofs.lemmas.List.{drop_all}
 use Rattle.std.proofs.lemmas.Option.{get_or_from_slice_get}
 use Rattle.sgb_vec.proofs.Lists.{range-first, range-none}
@@ -13,14 +12,7 @@ use Rattle.sgb.specs.Texts.{name_line, name_lines, arc_line, block, blocks}
 
 -- a text from a place on, of which nothing is left from n on: from n on as from any place behind it
 min-none : (f : ℕ → List ℕ) (n k : ℕ) → ((v : ℕ) → n ≤ v → f v ≡ []) → f (min k n) ≡ f k
-min-none f n k none = elim (cases_lt k n) [
-  | inl low ↦
-      let e : min k n ≡ k = omega (arith, low) in
-      ap f e
-  | inr high ↦
-      let e : min k n ≡ n = omega (arith, high) in
-      ap f e ∙ none n (omega arith) ∙ sym (none k high)
-]
+min-none f n k none = grind arith
 
 -- the block of a vertex stands before those after it
 pub blocks-first : (g : GraphData) (v : ℕ) → v < length (names_of g) → blocks g v ≡ block g v ++ blocks g (v + 1)

@@ -1,7 +1,6 @@
 -- The lists of a graph of vectors, by the arcs of its vectors.
-use Rattle.std.proofs.Common.{◌≡◌, ◌∙◌, ◌<◌, ℕ, suc, Bool, true, false, min, max, List, [], ◌∷◌, length, map, get_or, Some, refl, sym, ap, ap₂, subst, arith}
+use Rattle.std.proofs.Common.{◌≡◌, ◌∙◌, ◌<◌, ℕ, suc, Bool, List, [], ◌∷◌, length, map, get_or, Some, refl, sym, ap, ap₂, subst, arith}
 use Rattle.std.specs.List.{All, Contains, slice_get}
-use Rattle.std.proofs.lemmas.List.Elements.{All-cons, All-nil}
 use Rattle.std.proofs.lemmas.Option.{get_or_from_slice_get, slice_get-get_or, slice_get_within}
 use Rattle.sgb_vec.specs.Lexicographic.{IsRising}
 use Rattle.sgb_vec.proofs.Lists.{All-flat_map}
@@ -17,15 +16,7 @@ use Rattle.sgb.proofs.LocalListings.{events_within, lists_of_graph}
 
 -- the arcs of events between vertices lead to vertices
 tips_of_event : (n : ℕ) (directed : Bool) (e : Event) → HasEndsBelow n e → All (λ r. r.tip < n) (records_of directed e)
-tips_of_event n true e within = All-cons (λ (r : Record). r.tip < n) (record { start = e.from; tip = e.to; len = e.len }) [] within.1 (All-nil (λ (r : Record). r.tip < n))
-tips_of_event n false e within =
-    let from = within.0 in
-    let to = within.1 in
-    let smaller : min e.from e.to < n = omega arith in
-    let greater : max e.from e.to < n = omega arith in
-    let lower : Record = record { start = min e.from e.to; tip = max e.from e.to; len = e.len } in
-    let higher : Record = record { start = max e.from e.to; tip = min e.from e.to; len = e.len } in
-    All-cons (λ (r : Record). r.tip < n) lower (higher ∷ []) greater (All-cons (λ (r : Record). r.tip < n) higher [] smaller (All-nil (λ (r : Record). r.tip < n)))
+tips_of_event n directed e within = grind arith
 
 tips_of_events : (n : ℕ) (directed : Bool) (events : List Event) → All (HasEndsBelow n) events → All (λ r. r.tip < n) (all_records directed events)
 tips_of_events n directed events within =
@@ -69,17 +60,13 @@ module _ (directed : Bool) (vectors : List (List ℕ)) (moves : List Move) (rise
       let events = map (event_among vectors) moves in
       let within : v < length vectors = slice_get_within vectors v x there in
       let chain : chain_of g v ≡ list_of directed events v = lists v within in
-      let own : list_at directed vectors moves x ≡ map (local_arc vectors) (list_of directed events v) =
-      ap (λ u. map (local_arc vectors) (list_of directed events u)) (vertex_in_rising vectors v x rise there) in
+      let own : list_at directed vectors moves x ≡ map (local_arc vectors) (list_of directed events v) = grind (arith, vertex_in_rising) in
       record {
         tips =
             ap (map (λ (a : LocalArc). vertex_among vectors a.tip)) own
             ∙ numbers_of_tips vectors (list_of directed events v) rise (λ l has. tip_of_link (length vectors) directed events v l (events_within vectors moves rise ends) has)
             ∙ ap (map (λ (l : Link). l.tip)) (sym chain);
-        lengths =
-            ap (map (λ (a : LocalArc). a.len)) own
-            ∙ lengths_kept vectors (list_of directed events v)
-            ∙ ap (map (λ (l : Link). l.len)) (sym chain);
+        lengths = grind (arith, lengths_kept);
       }
 
 pub chain_said : (g : VectorGraph) → IsRising g.vectors → All (HasEnds g.vectors) g.moves → (v : ℕ) (x : List ℕ) → slice_get g.vectors v ≡ Some x

@@ -14,7 +14,7 @@ use Rattle.sgb_graph.specs.Events.{HasEndsBelow, list_of}
 use Rattle.sgb_graph.specs.Graphs.{GraphData, chain_of}
 use Rattle.sgb_graph.specs.Made.{graph_described}
 use Rattle.sgb_graph.proofs.Described.{described_is, described_names}
-use Rattle.sgb_gen.specs.LocalLists.{LocalArc, list_at, list_in, local_arc}
+use Rattle.sgb_gen.specs.LocalLists.{LocalArc, list_at, local_arc}
 use Rattle.sgb_gen.proofs.FamilyWalks.{first_in_drop}
 use Rattle.sgb_gen.specs.VectorGraphs.{HasEnds, Move, VectorGraph, described_by, event_among, family_graph, fields_of_vector, vertex_among}
 use Rattle.sgb_gen.proofs.RisingVectors.{vertex_in_rising}
@@ -45,25 +45,17 @@ contains_in_drop k members x first =
     let there : slice_get members k ≡ Some x = sym (first_in_drop k members) ∙ first in
     (k, slice_get_within members k x there, get_or_from_slice_get members k x x there)
 
--- the line of an arc is that of its vector
-line_of_arc : (vectors : List (List ℕ)) (link : Link) → arc_line (map name_of_vector vectors) link ≡ local_line (local_arc vectors link)
-unfolding arc_line local_line
-line_of_arc vectors link = ap (λ name. codes "  -> " ++ name ++ codes ", length " ++ signed_decimal link.len ++ codes "\n") (name_there vectors link.tip)
-
 lines_of_arcs : (vectors : List (List ℕ)) (links : List Link) → flat_map (arc_line (map name_of_vector vectors)) links ≡ flat_map local_line (map (local_arc vectors) links)
+unfolding arc_line local_line
 lines_of_arcs vectors [] = refl
-lines_of_arcs vectors (link ∷ links) = ap₂ (λ line lines. line ++ lines) (line_of_arc vectors link) (lines_of_arcs vectors links)
+lines_of_arcs vectors (link ∷ links) = grind (arith, name_there, lines_of_arcs vectors links)
 
 -- the block of a vertex is that of its vector
 module _ (directed : Bool) (vectors : List (List ℕ)) (moves : List Move) (rise : IsRising vectors) (g : GraphData) (named : names_of g ≡ map name_of_vector vectors)
     (lists : (v : ℕ) → v < length vectors → chain_of g v ≡ list_of directed (map (event_among vectors) moves) v) where
   arcs_there : (v : ℕ) (x : List ℕ) → slice_get vectors v ≡ Some x → flat_map (arc_line (names_of g)) (chain_of g v) ≡ flat_map local_line (list_at directed vectors moves x)
   unfolding list_at
-  arcs_there v x there =
-      let events = map (event_among vectors) moves in
-      let own : chain_of g v ≡ list_of directed events (vertex_among vectors x) =
-      lists v (slice_get_within vectors v x there) ∙ ap (list_of directed events) (sym (vertex_in_rising vectors v x rise there)) in
-      ap₂ (λ names links. flat_map (arc_line names) links) named own ∙ lines_of_arcs vectors (list_of directed events (vertex_among vectors x))
+  arcs_there v x there = grind (arith, slice_get_within, vertex_in_rising, lines_of_arcs)
 
   name_of_there : (v : ℕ) (x : List ℕ) → slice_get vectors v ≡ Some x → slice_index_or (names_of g) v [] ≡ name_of_vector x
   name_of_there v x there = ap (λ names. slice_index_or names v []) named ∙ name_there vectors v ∙ ap name_of_vector (get_or_from_slice_get vectors v x [] there)
@@ -78,9 +70,7 @@ line-parts tip len = five (codes "  -> ") (name_of_vector tip) (codes ", length 
 
 -- the first of the members that are left is a member
 pub first_of_rest : (members rest : List (List ℕ)) (x : List ℕ) → IsRest members rest → slice_get rest 0 ≡ Some x → Contains members x
-first_of_rest members rest x (k, from) first =
-    let here : slice_get (drop k members) 0 ≡ Some x = ap (λ xs. slice_get xs 0) (sym from) ∙ first in
-    contains_in_drop k members x here
+first_of_rest members rest x (k, from) first = grind (arith, contains_in_drop)
 
 -- without the first, members are left
 pub rest_of_rest : (members rest after : List (List ℕ)) → IsRest members rest → after ≡ drop 1 rest → IsRest members after
@@ -88,9 +78,7 @@ rest_of_rest members rest after (k, from) one = (k + 1, one ∙ ap (drop 1) from
 
 -- a vector that is there has its vertex among theirs
 pub vertex_within : (vectors : List (List ℕ)) (a : List ℕ) → IsRising vectors → Contains vectors a → vertex_among vectors a < length vectors
-vertex_within vectors a rise (k, within, there) =
-    let here : slice_get vectors k ≡ Some a = slice_get_read vectors (length vectors) k a refl within (sym there) in
-    subst (λ i. i < length vectors) (sym (vertex_in_rising vectors k a rise here)) within
+vertex_within vectors a rise (k, within, there) = grind (arith, slice_get_read, vertex_in_rising)
 
 -- moves between vectors are events between their vertices
 pub events_within : (vectors : List (List ℕ)) (moves : List Move) → IsRising vectors → All (HasEnds vectors) moves → All (HasEndsBelow (length vectors)) (map (event_among vectors) moves)
@@ -110,16 +98,9 @@ lists_of_graph g rise ends v within =
     let d = described_by g in
     let events = map (event_among g.vectors) g.moves in
     let names : length (map name_of_vector g.vectors) ≡ length g.vectors = length-map g.vectors name_of_vector in
-    let inside : All (HasEndsBelow (length (map name_of_vector g.vectors))) events =
-    subst (λ n. All (HasEndsBelow n) events) (sym names) (events_within g.vectors g.moves rise ends) in
+    let inside : All (HasEndsBelow (length (map name_of_vector g.vectors))) events = grind (arith, events_within) in
     let is : IsGraphOf d (graph_described d) = described_is d inside (named_vectors g.vectors) in
-    let count : length (graph_described d).vertices ≡ length g.vectors = sym (length-map (graph_described d).vertices (λ x. x.name)) ∙ ap length is.names ∙ names in
-    is.arcs.lists v (subst (λ n. v < n) (sym count) within)
-
--- a block in parts
-pub local_block-parts : (g : VectorGraph) (x : List ℕ) (arcs : List LocalArc) → arcs ≡ list_in g x → local_block g x ≡ name_line (name_of_vector x) ++ flat_map local_line arcs
-unfolding local_block
-local_block-parts g x arcs same = ap (λ links. name_line (name_of_vector x) ++ flat_map local_line links) (sym same)
+    grind (arith, length-map)
 
 -- how many entries the vector has where the arc at a place leads
 pub tip_width : (n : ℕ) (arcs : List LocalArc) (i : ℕ) (arc : LocalArc) → All (λ (a : LocalArc). length a.tip ≡ n) arcs → slice_get arcs i ≡ Some arc → length arc.tip ≡ n
@@ -152,22 +133,15 @@ named_local {T = T} v l members resume same out r e vectors p =
     subst (λ (u : Result Description Panic). IsEnded {T = T} (answer_from (made u) (λ d. names_answer (names_of d) resume)) same out r) (sym e)
     (subst (λ (ns : List (List ℕ)). IsEnded {T = T} (names_answer ns resume) same out r) (sym (named_by_members (vector_graph_of l) members vectors)) p)
 
--- the head of the graph
-id_told : (g : VectorGraph) → (described_by g).id ≡ g.id
-unfolding family_graph
-id_told g = refl
-
 pub head_of_graph : (g : VectorGraph) (n m : ℕ) → n ≡ length g.vectors → m ≡ (graph_described (described_by g)).m → head (graph_described (described_by g)) ≡ head_text g.id n m
-head_of_graph g n m size arcs =
-    ap₂ (λ i j. head_text (described_by g).id i j) (names_count g ∙ sym size) (sym arcs)
-    ∙ ap (λ id. head_text id n m) (id_told g)
+unfolding family_graph
+head_of_graph g n m size arcs = grind (arith, names_count)
 
 module _ (g : VectorGraph) (rise : IsRising g.vectors) (ends : All (HasEnds g.vectors) g.moves) where
   -- the block of a vertex is that of its vector
   block_of_vector : (v : ℕ) (x : List ℕ) → slice_get g.vectors v ≡ Some x → block (graph_described (described_by g)) v ≡ local_block g x
   unfolding local_block
-  block_of_vector v x there =
-      block_there g.directed g.vectors g.moves rise (graph_described (described_by g)) (named_by_vectors g) (lists_of_graph g rise ends) v x there
+  block_of_vector v x there = grind (arith, block_there, named_by_vectors, lists_of_graph)
 
   -- the blocks from a vertex on are those of the vectors that are left
   pub blocks_of_rest : (k : ℕ) (rest : List (List ℕ)) → rest ≡ drop k g.vectors → blocks (graph_described (described_by g)) k ≡ flat_map (local_block g) rest
@@ -175,6 +149,5 @@ module _ (g : VectorGraph) (rise : IsRising g.vectors) (ends : All (HasEnds g.ve
       blocks-none (graph_described (described_by g)) k (omega (arith, names_count g, ap length left, length-drop k g.vectors))
   blocks_of_rest k (x ∷ rest) left =
       let there : slice_get g.vectors k ≡ Some x = sym (first_in_drop k g.vectors) ∙ ap (λ xs. slice_get xs 0) (sym left) in
-      let within : k < length (names_of (graph_described (described_by g))) = omega (arith, slice_get_within g.vectors k x there, names_count g) in
       let after : rest ≡ drop (k + 1) g.vectors = ap (drop 1) left ∙ drop-drop 1 k g.vectors in
-      blocks-first (graph_described (described_by g)) k within ∙ ap₂ (λ text texts. text ++ texts) (block_of_vector k x there) (blocks_of_rest (k + 1) rest after)
+      grind (arith, slice_get_within, names_count, blocks-first, block_of_vector, blocks_of_rest (k + 1) rest after)

@@ -49,9 +49,7 @@ name-between v name from to start end is order within starts ends =
     let c = entries_text (nat_lt 0 to) (drop to v) in
     let whole : name ≡ a ++ (b ++ c) = is ∙ name-parts v from (omega (arith, order, within)) ∙ ap (λ text. a ++ text) (entries-parts v from to order within) in
     let size : length b ≡ end - start = omega (arith, starts, ends, ap length (name-through v from to order within), length-append a b) in
-    ap (λ text. take (end - start) (drop start text)) whole
-    ∙ ap (take (end - start)) (drop_at a (b ++ c) start (sym starts))
-    ∙ take_at b c (end - start) size
+    grind (arith, drop_at, take_at)
 
 -- how long it may be
 pub between-size : (v : List ℕ) (from to start end : ℕ) → from ≤ to → to ≤ length v
@@ -87,9 +85,7 @@ moved-none put v parts page moved empty = (v, refl, refl, refl, rising (length v
 -- the next coordinate does not stand before this place
 pub moved-order : (put : List (ℕ × ℤ) → List ℕ → List ℕ) (w v : List ℕ) (p : ℕ × ℤ) (left rest : List (ℕ × ℤ)) (place : ℕ) (old page : List ℕ)
     → left ≡ p ∷ rest → IsMovedSoFar put w v left place old page → (place ≤ p.0) × (p.0 < length v)
-moved-order put w v p left rest place old page first (u, whole, size, same, rise, text) =
-    let risen : AreRising (length v) place (p ∷ rest) = subst (AreRising (length v) place) first rise in
-    (risen.0, risen.1)
+moved-order put w v p left rest place old page first (u, whole, size, same, rise, text) = grind arith
 
 -- an entry more
 pub moved-more : (put : List (ℕ × ℤ) → List ℕ → List ℕ) (w v : List ℕ) (p : ℕ × ℤ) (left rest : List (ℕ × ℤ)) (place k entry : ℕ) (old page after : List ℕ)

@@ -23,9 +23,7 @@ positive : (n : ℕ) → 0 < n → nat_lt 0 n ≡ true
 positive n more = (Decides-ltb 0 n).1 more
 
 dots : (from count to : ℕ) → from + count ≡ to → (nat_lt 0 from || nat_lt 0 count) ≡ nat_lt 0 to
-dots zero count to e =
-    let same : count ≡ to = omega (arith, e) in
-    ap (nat_lt 0) same
+dots zero count to e = grind arith
 dots (suc from) count to e = ap (λ b. b || nat_lt 0 count) (positive (suc from) (omega arith)) ∙ sym (positive to (omega (arith, e)))
 
 -- entries before others
@@ -33,9 +31,7 @@ entries-append : (dotted : Bool) (a b : List ℕ) → entries_text dotted (a ++ 
 entries-append true [] b = refl
 entries-append false [] b = refl
 entries-append true (x ∷ a) b = ap (λ text. entry_text true x ++ text) (entries-append true a b) ∙ sym (append_assoc (entry_text true x) (entries_text true a) (entries_text true b))
-entries-append false (x ∷ a) b =
-    ap (λ text. entry_text false x ++ text) (entries-append true a b) ∙ sym (append_assoc (entry_text false x) (entries_text true a) (entries_text true b))
-    ∙ ap (λ dotted. (entry_text false x ++ entries_text true a) ++ entries_text dotted b) (sym (positive (suc (length a)) (omega arith)))
+entries-append false (x ∷ a) b = grind (arith, append_assoc, entries-append true a b)
 
 -- entries from a place on, before and after a later place
 pub entries-parts : (v : List ℕ) (from to : ℕ) → from ≤ to → to ≤ length v → entries_text (nat_lt 0 from) (drop from v) ≡ entries_text (nat_lt 0 from) (take (to - from) (drop from v)) ++ entries_text (nat_lt 0 to) (drop to v)
@@ -83,10 +79,4 @@ length-entry false entry small = omega (arith, length-decimal-le 10 entry (omega
 -- and that of entries
 pub length-entries : (dotted : Bool) (v : List ℕ) → All (λ n. n < 2 ^ 32) v → length (entries_text dotted v) ≤ 11 * length v
 length-entries dotted [] small = omega arith
-length-entries dotted (entry ∷ v) small =
-    omega (
-      arith,
-      length-append (entry_text dotted entry) (entries_text true v),
-      length-entry dotted entry (All-head (λ n. n < 2 ^ 32) entry v small),
-      length-entries true v (All-tail (λ n. n < 2 ^ 32) entry v small),
-    )
+length-entries dotted (entry ∷ v) small = grind (arith, length-append, length-entry, All-head, length-entries true v (All-tail (λ n. n < 2 ^ 32) entry v small))

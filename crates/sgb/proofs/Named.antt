@@ -1,8 +1,7 @@
 -- The first vertex of a name.
-use Rattle.std.proofs.Common.{◌≡◌, ◌∙◌, ◌+◌, ◌<◌, ℕ, Bool, true, false, nat_lt, nat_eq, List, [], length, Some, None, refl, ap, arith}
+use Rattle.std.proofs.Common.{◌≡◌, ◌∙◌, ◌+◌, ◌<◌, ℕ, Bool, true, false, nat_eq, List, [], length, Some, None, ap, arith}
 use Rattle.std.specs.List.{position_or_len, slice_get, slice_index_or}
 use Rattle.std.specs.Cmp.Lexicographic.{pointwise}
-use Rattle.std.proofs.lemmas.Bool.Decides.{nat_tests}
 use Rattle.std.proofs.lemmas.List.Sums.{position_or_len_is}
 use Rattle.std.proofs.lemmas.Option.{slice_get_within, get_or_from_slice_get}
 use Rattle.std.proofs.lemmas.Bool.{cases_lt}
@@ -28,13 +27,11 @@ named_here names name other i at same none =
     let within : i < length names = slice_get_within names i other at in
     let first : position_or_len (has_name name) names ≡ i =
     position_or_len_is (has_name name) names i [] (omega (arith, within)) none (λ h. ap (has_name name) (get_or_from_slice_get names i other [] at) ∙ same) in
-    let inside : nat_lt i (length names) ≡ true = grind (arith, nat_tests) in
-    rw (first, inside) refl
+    grind arith
 
 -- a name that no vertex has
 pub named_nowhere : (names : List (List ℕ)) (name : List ℕ) (n : ℕ) → n ≡ length names → NoneBefore names name n → vertex_named name names ≡ None
 named_nowhere names name n size none =
     let first : position_or_len (has_name name) names ≡ n =
     position_or_len_is (has_name name) names n [] (omega (arith, size)) none (λ h. absurd (omega (arith, size, h))) in
-    let outside : nat_lt n (length names) ≡ false = grind (arith, nat_tests) in
-    rw (first, outside) refl
+    grind arith

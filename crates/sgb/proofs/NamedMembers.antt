@@ -1,5 +1,5 @@
 -- The members of a family by their names: no two have the same one.
-use Rattle.std.proofs.Common.{◌≡◌, ◌≢◌, ◌∙◌, ℕ, suc, ◌<◌, true, List, [], ◌∷◌, ◌++◌, length, drop, get_or, map, Option, Some, None, option_map, refl, sym, ap, subst, inl, inr, arith}
+use Rattle.std.proofs.Common.{◌≡◌, ◌≢◌, ◌∙◌, ℕ, suc, ◌<◌, true, List, [], ◌∷◌, ◌++◌, length, drop, get_or, map, Option, Some, None, option_map, refl, sym, ap, subst, inl, inr, arith, rules}
 use Rattle.std.specs.List.{Contains, flat_map, slice_get}
 use Rattle.std.specs.Option.{IfSome}
 use Rattle.std.specs.Cmp.Lexicographic.{bytes_decides}
@@ -40,16 +40,7 @@ module _ (members : List (List ℕ)) (vectors : (v : List ℕ) → Contains memb
 
   -- a name that no member has
   none_named : (name : List ℕ) → ((y : List ℕ) → Contains members y → name_of_vector y ≢ name) → vertex_named name (map name_of_vector members) ≡ None
-  none_named name none = named_nowhere (map name_of_vector members) name (length (map name_of_vector members)) refl other
-    where
-      other : NoneBefore (map name_of_vector members) name (length (map name_of_vector members))
-      other k h = elim (cases_Bool (has_name name (get_or (map name_of_vector members) k []))) [
-        | inl same ↦
-            let within : k < length members = omega (arith, length-map members name_of_vector) in
-            let equal : get_or (map name_of_vector members) k [] ≡ name = (bytes_decides (get_or (map name_of_vector members) k []) name).0 same in
-            absurd (none (get_or members k []) (member_at k within) (sym (name_at k within) ∙ equal))
-        | inr differs ↦ differs
-      ]
+  none_named name none = search (rules, named_nowhere, length-map, name_at)
 
   -- where no vector at all has the name, no member has it
   pub no_vector_named : (name : List ℕ) → ((v : List ℕ) → IsVector v → name_of_vector v ≢ name) → vertex_named name (map name_of_vector members) ≡ None

@@ -19,11 +19,6 @@ use Rattle.sgb_requests.specs.declared.faults.Fault.TheVariants as fault
 abbrev pub PagedSoFar : (all left held holds : List ℕ) → Option (List ℕ) → Option (List ℕ) → Type 0
 PagedSoFar all left held holds before after = (done : List ℕ) × (done ++ left ≡ all) × SoFar (held ++ done) holds before after
 
--- a page holds a text more
-pub held_more : (all now part after : List ℕ) (a b : Option (List ℕ)) → after ≡ now ++ part → SoFar all now a b → SoFar (all ++ part) after a b
-held_more all now part after a b e p =
-    (p.0, ap (λ (text : List ℕ). p.0 ++ text) e ∙ sym (append_assoc p.0 now part) ∙ ap (λ (text : List ℕ). text ++ part) p.1, p.2)
-
 -- a page took a text after others
 pub held_then : (all now part after : List ℕ) (a b c : Option (List ℕ)) → SoFar all now a b → SoFar (now ++ part) after b c → SoFar (all ++ part) after a c
 held_then all now part after a b c p q = search (rules, append_assoc, Appends-trans)
@@ -61,7 +56,7 @@ exit_untaken held text holds out r f exit cut =
 
 -- after room was made, a text was put on the page
 pub held_line : (held now text after : List ℕ) (a b : Option (List ℕ)) → SoFar (held ++ []) now a b → after ≡ now ++ text → SoFar (held ++ text) after a b
-held_line held now text after a b p e = subst (λ (xs : List ℕ). SoFar (xs ++ text) after a b) (append-nil held) (held_more (held ++ []) now text after a b e p)
+held_line held now text after a b p e = grind (arith, append_assoc)
 
 -- the exit of a `?` out of memory, where nothing was put
 pub exit_unput : {T : Type 0} (held text holds : List ℕ) (a : Option (List ℕ)) (failed : Bool) (r : Result T Fault) (p : Panic) → IsErrAnd r (λ f. f ≡ fault.Panic p) → p ≡ NoRoom → failed ≡ false

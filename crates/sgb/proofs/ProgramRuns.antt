@@ -1,5 +1,5 @@
 -- What a call of the program leaves, by what its words are read as.
-use Rattle.std.proofs.Common.{◌≡◌, ℕ, List, MatchResult, Result, Ok, Err, inl, inr, subst}
+use Rattle.std.proofs.Common.{◌≡◌, ℕ, List, MatchResult, Result, Ok, Err, arith}
 use Rattle.std.specs.declared.io.ErrorKind.{ErrorKind}
 use Rattle.sgb_file.specs.Devices.{Change}
 use Rattle.sgb.specs.Certain.{IsCertain}
@@ -14,15 +14,11 @@ pub program_ran : {W E : Type 0} (words : Result W E) (texts : W → List (List 
     → MatchResult words (λ w. IsCommandLineReadAs (texts w) (Ok r)) (λ e. ◌≡◌ {A = Result Request Fault} (Ok r) (Err (unread_fault (kind e))))
     → IsRunOn r source same out err status → IsCertain r out err status
     → MatchResult words (λ w. IsProgramRun (texts w) source same out err status) (λ e. IsReported (unread_fault (kind e)) same out err status)
-program_ran (Ok w) texts kind r source same out err status is run certain = inl (r, is, run, certain)
-program_ran (Err e) texts kind r source same out err status is run certain = absurd cc
+program_ran words texts kind r source same out err status is run certain = grind (arith)
 
 -- they are refused, and that was reported
 pub program_refused : {W E : Type 0} (words : Result W E) (texts : W → List (List ℕ)) (kind : E → ErrorKind) (f : Fault) (source : Input) (same : Type 0) (out err : Change) (status : ℕ)
     → MatchResult words (λ w. IsCommandLineReadAs (texts w) (Err f)) (λ e. ◌≡◌ {A = Result Request Fault} (Err f) (Err (unread_fault (kind e))))
     → IsReported f same out err status
     → MatchResult words (λ w. IsProgramRun (texts w) source same out err status) (λ e. IsReported (unread_fault (kind e)) same out err status)
-program_refused (Ok w) texts kind f source same out err status is reported = inr (f, is, reported)
-program_refused (Err e) texts kind f source same out err status is reported =
-    let alike : f ≡ unread_fault (kind e) = cc in
-    subst (λ (g : Fault). IsReported g same out err status) alike reported
+program_refused words texts kind f source same out err status is reported = grind (arith)

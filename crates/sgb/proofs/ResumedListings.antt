@@ -58,8 +58,7 @@ pub blocks_after : (g : VectorGraph) (k : ℕ) (start after : Option (List ℕ))
 blocks_after g k start after alike is =
     let from = start_after g.vectors start in
     let left : length g.vectors - k ≡ length g.vectors - from = omega (arith, ap length alike, length-drop k g.vectors, length-drop from g.vectors) in
-    blocks_alike (graph_described (described_by g)) (length g.vectors) k from (names_count g) left
-    ∙ ap (λ o. blocks (graph_described (described_by g)) (start_after g.vectors o)) (sym is)
+    grind (arith, blocks_alike, names_count)
 
 -- the last of the first so many members, by its place, where there is such a place
 pub skipped_last : (members : List (List ℕ)) (count n skipped place : ℕ) (found : Bool) (v : List ℕ) → n ≡ length members → skipped ≡ min count n → 0 < skipped → place + 1 ≡ skipped
@@ -70,8 +69,6 @@ skipped_last members count n skipped place true v size least some next there non
       | inl fewer ↦
           let same : count ≡ suc place = omega (arith, least, next, fewer) in
           (place, there, ap (λ k. drop k members) same)
-      | inr more ↦
-          let all : n ≡ suc place = omega (arith, least, next, more) in
-          (place, there, all_skipped members count n size more ∙ ap (λ k. drop k members) all)
+      | inr more ↦ grind (arith, all_skipped)
     ]
 skipped_last members count n skipped place false v size least some next there none = absurd (omega (arith, none, size, least, next))

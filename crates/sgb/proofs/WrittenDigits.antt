@@ -15,8 +15,7 @@ dot false = []
 
 -- the text of an entry by its digits
 shown : (dotted : Bool) (e : ℕ) (digits : List ℕ) → decimal e ≡ digits → entry_text dotted e ≡ dot dotted ++ digits
-shown true e digits is = ap (λ t. 46 ∷ t) is
-shown false e digits is = is
+shown dotted e digits is = grind (arith)
 
 -- a name up to the digits of an entry
 abbrev pub front : List ℕ → List ℕ
@@ -55,9 +54,7 @@ over-one old a tail x y place at =
 over-two : (old a tail : List ℕ) (x z y w place : ℕ) → place ≡ length old + length a → set (set (old ++ (a ++ x ∷ z ∷ tail)) place y) (place + 1) w ≡ old ++ (a ++ y ∷ w ∷ tail)
 over-two old a tail x z y w place at =
     let more : (u : ℕ) → old ++ (a ++ y ∷ u ∷ tail) ≡ old ++ ((a ++ y ∷ []) ++ u ∷ tail) = λ u. ap (λ t. old ++ t) (sym (append_assoc a (y ∷ []) (u ∷ tail))) in
-    ap (λ t. set t (place + 1) w) (over-one old a (z ∷ tail) x y place at ∙ more z)
-    ∙ over-one old (a ++ y ∷ []) tail z w (place + 1) (omega (arith, at, length-append a (y ∷ [])))
-    ∙ sym (more w)
+    grind (arith, over-one, length-append)
 
 -- two digits
 two-digits : (n : ℕ) → 10 ≤ n → n < 100 → decimal n ≡ (48 + n / 10) ∷ (48 + n % 10) ∷ []
