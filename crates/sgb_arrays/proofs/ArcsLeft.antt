@@ -47,6 +47,4 @@ length-starts_from at (size ∷ sizes) = omega (arith, length-starts_from (at + 
 
 pub length-starts_of : (g : GraphData) → length (starts_of g) ≡ length g.vertices + 1
 unfolding starts_of
-length-starts_of g =
-    let sizes = map (λ u. length (chain_of g u)) (range_with_len 0 (length g.vertices)) in
-    omega (arith, length-starts_from 0 sizes, length-map (range_with_len 0 (length g.vertices)) (λ u. length (chain_of g u)), length-range_with_len 0 (length g.vertices))
+length-starts_of g = simp (length-starts_from, length-map, length-range_with_len)

@@ -1,5 +1,5 @@
 -- Draws, one after another.
-use Rattle.std.proofs.Common.{◌≡◌, ℕ, zero, suc, ◌+◌, ◌-◌, ◌%◌, ◌<◌, ◌≤◌, List, ◌∷◌, length, set, refl, sym, ap, ◌∙◌, arith}
+use Rattle.std.proofs.Common.{◌≡◌, ℕ, zero, suc, ◌+◌, ◌-◌, ◌%◌, ◌<◌, ◌≤◌, List, ◌∷◌, length, set, refl, sym, ap, ◌∙◌, arith, rules}
 use Rattle.sgb_graph.specs.Draws.{IsUniformDraw, draw, modulus, plain_draws, uniform_draws, used_draw}
 use Rattle.sgb_graph.proofs.UniformDraws.{uniform_draw_only}
 use Rattle.sgb_arrays.specs.inner.Puts.{put_from}
@@ -26,37 +26,26 @@ uniform_first : (seed m k number last left rest : ℕ) → left ≡ suc rest →
 unfolding uniform_draws
 uniform_first seed m k number last left rest more some small is =
     let only = uniform_draw_only seed m k number last some small is in
-    ap (uniform_draws seed m k) more
-    ∙ ap (λ (t : ℕ). draw seed t % m ∷ uniform_draws seed m (t + 1) rest) (sym only.0)
-    ∙ ap (λ (n : ℕ). n ∷ uniform_draws seed m (last + 1) rest) (sym only.1)
+    search (rules, uniform_draws, draw, only)
 
 -- it is put
 pub draw_put : (seed k next number place size : ℕ) (now all : List ℕ) → next ≡ k + 1 → place < size → number ≡ draw seed k
     → put_from place (plain_draws seed k (size - place)) now ≡ all
     → put_from (place + 1) (plain_draws seed next (size - (place + 1))) (set now place number) ≡ all
-draw_put seed k next number place size now all step within is whole =
-    let more : size - place ≡ suc (size - (place + 1)) = omega (arith, within) in
-    ap (λ (j : ℕ). put_from (place + 1) (plain_draws seed j (size - (place + 1))) (set now place number)) step
-    ∙ ap (λ xs. put_from place xs now) (sym (plain_first seed k number (size - place) (size - (place + 1)) more is)) ∙ whole
+draw_put seed k next number place size now all step within is whole = grind (arith, set, plain_first)
 
 pub uniform_put : (seed m k number last place size : ℕ) (now all : List ℕ) → place < size → 1 ≤ m → m ≤ modulus → IsUniformDraw seed m k number last
     → put_from place (uniform_draws seed m k (size - place)) now ≡ all
     → put_from (place + 1) (uniform_draws seed m (last + 1) (size - (place + 1))) (set now place number) ≡ all
-uniform_put seed m k number last place size now all within some small is whole =
-    let more : size - place ≡ suc (size - (place + 1)) = omega (arith, within) in
-    ap (λ xs. put_from place xs now) (sym (uniform_first seed m k number last (size - place) (size - (place + 1)) more some small is)) ∙ whole
+uniform_put seed m k number last place size now all within some small is whole = grind (arith, uniform_first)
 
 -- none is left, so all are put
 pub draws_put : (seed k skip place size : ℕ) (now old : List ℕ) → size ≤ place → length old ≡ size
     → put_from place (plain_draws seed k (size - place)) now ≡ put_from 0 (plain_draws seed skip size) old → now ≡ plain_draws seed skip size
 unfolding plain_draws
-draws_put seed k skip place size now old past is whole =
-    let none : 0 ≡ size - place = omega (arith, past) in
-    ap (λ (n : ℕ). put_from place (plain_draws seed k n) now) none ∙ whole ∙ put_from-all (plain_draws seed skip size) old (omega (arith, is, length-plain_draws seed skip size))
+draws_put seed k skip place size now old past is whole = grind (arith, put_from-all, length-plain_draws)
 
 pub uniform_draws_put : (seed m k skip place size : ℕ) (now old : List ℕ) → size ≤ place → length old ≡ size
     → put_from place (uniform_draws seed m k (size - place)) now ≡ put_from 0 (uniform_draws seed m skip size) old → now ≡ uniform_draws seed m skip size
 unfolding uniform_draws
-uniform_draws_put seed m k skip place size now old past is whole =
-    let none : 0 ≡ size - place = omega (arith, past) in
-    ap (λ (n : ℕ). put_from place (uniform_draws seed m k n) now) none ∙ whole ∙ put_from-all (uniform_draws seed m skip size) old (omega (arith, is, length-uniform_draws seed m skip size))
+uniform_draws_put seed m k skip place size now old past is whole = grind (arith, put_from-all, length-uniform_draws)

@@ -37,10 +37,7 @@ kind_holds false all kinds field d same below within is = tt
 pub kind_other : (b : Bool) (all kinds : List Kind) (field : ℕ) (d : Kind) → kinds ≡ all → field < 6 → field < length kinds → b ≡ is_int_kind (get_or kinds field d)
     → OnFalse b (slice_get (take 6 all) field ≡ Some I → ⊥)
 kind_other true all kinds field d same below within is = tt
-kind_other false all kinds field d same below within is = λ holds.
-    let there : Some (get_or kinds field d) ≡ Some I = sym (seen 6 kinds field d below within) ∙ ap (λ ks. slice_get (take 6 ks) field) same ∙ holds in
-    let one : get_or kinds field d ≡ I = cc in
-    absurd (let no : false ≡ true = is ∙ ap is_int_kind one in cc)
+kind_other false all kinds field d same below within is = grind (arith, seen)
 
 -- the integer of the next vertex is put
 pub int_put : (g : GraphData) (field v : ℕ) (x : Vertex) (i : ℤ) (now all : List ℤ) → v < length g.vertices → slice_get g.vertices v ≡ Some x → i ≡ int_at field x
@@ -48,17 +45,13 @@ pub int_put : (g : GraphData) (field v : ℕ) (x : Vertex) (i : ℤ) (now all : 
 int_put g field v x i now all within at is whole =
     let there = get_or_from_slice_get g.vertices v x x at in
     let first = at_drop_more (λ xs. map (int_at field) xs) g.vertices v x within in
-    ap (λ (k : ℤ). put_from (v + 1) (map (int_at field) (drop (v + 1) g.vertices)) (set now v k)) (is ∙ ap (int_at field) (sym there))
-    ∙ ap (λ xs. put_from v xs now) (sym first)
-    ∙ whole
+    grind (arith, set, there, first)
 
 -- none is left, so all are put
 pub ints_put : (g : GraphData) (field v : ℕ) (now old : List ℤ) → length g.vertices ≤ v → length old ≡ length g.vertices
     → put_from v (map (int_at field) (drop v g.vertices)) now ≡ put_from 0 (ints_of g field) old → now ≡ ints_of g field
 unfolding ints_of
-ints_put g field v now old past size whole =
-    ap (λ xs. put_from v (map (int_at field) xs) now) (sym (drop_all v g.vertices past)) ∙ whole
-    ∙ put_from-all (map (int_at field) g.vertices) old (omega (arith, size, length-map g.vertices (int_at field)))
+ints_put g field v now old past size whole = grind (arith, drop_all, put_from-all, length-map)
 
 -- all of them are left
 pub ints_begun : (g : GraphData) (field : ℕ) (now : List ℤ) → put_from 0 (map (int_at field) (drop 0 g.vertices)) now ≡ put_from 0 (ints_of g field) now

@@ -6,17 +6,12 @@ use Rattle.sgb_file.specs.Devices.{IsPut}
 
 -- a text of the slice's length was put as a whole
 whole_put : (text after : List ℕ) (at : ℕ) → take at after ≡ text → length after ≡ length text → at ≤ length after → after ≡ text
-whole_put text after at put size within =
-    let all : length after ≤ at = omega (arith, size, sym (length-take-le at after within), ap length put) in
-    sym (take_all at after all) ∙ put
+whole_put text after at put size within = grind (arith, length-take-le, take_all)
 
 -- a prefix of it that fills the slice is all of it
 prefix_put : (text done rest after : List ℕ) (at : ℕ) → text ≡ done ++ rest → take at after ≡ done → length after ≡ length text
     → at ≡ length after → after ≡ text
-prefix_put text done rest after at parts put size full =
-    let all : take at after ≡ after = take_all at after (omega (arith, full)) in
-    let none : length rest ≡ 0 = omega (arith, size, ap length parts, length-append done rest, ap length put, ap length all) in
-    sym all ∙ put ∙ sym (append-nil done) ∙ ap (λ bytes. done ++ bytes) (sym (nil_from_length rest none)) ∙ sym parts
+prefix_put text done rest after at parts put size full = grind (arith, take_all, length-append, append-nil, nil_from_length)
 
 -- it is the same slice still
 pub slice_kept : {T E : Type 0} (r : Result T E) (text before after : List ℕ) (old new : ℕ) (failed : Bool)

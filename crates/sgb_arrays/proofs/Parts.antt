@@ -33,9 +33,7 @@ each_part : {A X : Type 0} (parts : A → List X) (vs : List A) (v at : ℕ) (d 
     → part_by_starts (before ++ flat_map parts vs) (starts_from at (map (λ u. length (parts u)) vs)) v ≡ parts (get_or vs v d)
 each_part parts [] v at d before size within = absurd (omega arith)
 each_part parts (u ∷ us) zero at d before size within = first_part before (parts u) (flat_map parts us) at (map (λ w. length (parts w)) us) size
-each_part parts (u ∷ us) (suc v) at d before size within =
-    ap (λ xs. part_by_starts xs (starts_from (at + length (parts u)) (map (λ w. length (parts w)) us)) v) (sym (append_assoc before (parts u) (flat_map parts us)))
-    ∙ each_part parts us v (at + length (parts u)) d (before ++ parts u) (omega (arith, size, length-append before (parts u))) (omega (arith, within))
+each_part parts (u ∷ us) (suc v) at d before size within = grind (arith, append_assoc, length-append, each_part parts us v (at + length (parts u)) d (before ++ parts u) (omega (arith, size, length-append before (parts u))) (omega (arith, within)))
 
 -- of the arcs of all lists the list of a vertex
 arc_row : (g : GraphData) (v : ℕ) → v < length g.vertices → part_by_starts (arcs_of g) (starts_of g) v ≡ chain_of g v
@@ -46,10 +44,7 @@ arc_row g v within =
     each_part (chain_of g) (range_with_len 0 n) v 0 0 [] refl (omega (arith, within, length-range_with_len 0 n)) ∙ ap (chain_of g) place
 
 mapped_part : {X Y : Type 0} (f : X → Y) (xs : List X) (starts : List ℕ) (v : ℕ) → part_by_starts (map f xs) starts v ≡ map f (part_by_starts xs starts v)
-mapped_part f xs starts v =
-    let from = slice_index starts v in
-    let many = slice_index starts (suc v) - from in
-    ap (take many) (drop-map f from xs) ∙ take-map f many (drop from xs)
+mapped_part f xs starts v = simp (drop-map, take-map)
 
 pub tip_row : (g : GraphData) (v : ℕ) → v < length g.vertices → part_by_starts (tips_of g) (starts_of g) v ≡ map (λ l. l.tip) (chain_of g v)
 tip_row g v within = mapped_part (λ (l : Link). l.tip) (arcs_of g) (starts_of g) v ∙ ap (map (λ l. l.tip)) (arc_row g v within)

@@ -10,20 +10,13 @@ length-put_from at (x ∷ xs) old = length-put_from (at + 1) xs (set old at x) �
 
 -- values, and then others
 pub put_from-append : {X : Type 0} (at : ℕ) (xs ys old : List X) → put_from at (xs ++ ys) old ≡ put_from (at + length xs) ys (put_from at xs old)
-put_from-append at [] ys old =
-    let same : at ≡ at + 0 = omega arith in
-    ap (λ (k : ℕ). put_from k ys old) same
-put_from-append at (x ∷ xs) ys old =
-    let same : (at + 1) + length xs ≡ at + length (x ∷ xs) = omega arith in
-    put_from-append (at + 1) xs ys (set old at x) ∙ ap (λ (k : ℕ). put_from k ys (put_from (at + 1) xs (set old at x))) same
+put_from-append at [] ys old = grind (arith)
+put_from-append at (x ∷ xs) ys old = grind (arith, set, put_from-append (at + 1) xs ys (set old at x))
 
 -- values up to the end
 pub put_from-rest : {X : Type 0} (at : ℕ) (xs old : List X) → at + length xs ≡ length old → put_from at xs old ≡ take at old ++ xs
 put_from-rest at [] old size = sym (append-nil (take at old) ∙ take_all at old (omega (arith, size)))
-put_from-rest at (x ∷ xs) old size =
-    put_from-rest (at + 1) xs (set old at x) (omega (arith, size, length-set old at x))
-    ∙ ap (λ ys. ys ++ xs) (take_more_set old at x (omega (arith, size)))
-    ∙ append_assoc (take at old) (x ∷ []) xs
+put_from-rest at (x ∷ xs) old size = grind (arith, set, length-set, take_more_set, append_assoc, put_from-rest (at + 1) xs (set old at x) (omega (arith, size, length-set old at x)))
 
 -- all values are others
 pub put_from-all : {X : Type 0} (xs old : List X) → length old ≡ length xs → put_from 0 xs old ≡ xs
@@ -44,9 +37,7 @@ part_counted count size all left part rest is same whole = omega (arith, same, w
 -- the first values of what is left are put
 pub part_put : {X Y : Type 0} (f : X → Y) (at next : ℕ) (left part rest : List X) (now new all : List Y) → left ≡ part ++ rest
     → next ≡ at + length part → new ≡ put_from at (map f part) now → put_from at (map f left) now ≡ all → put_from next (map f rest) new ≡ all
-part_put f at next left part rest now new all is there done whole =
-    let end : next ≡ at + length (map f part) = omega (arith, there, length-map part f) in
-    rw (end, done, ← put_from-append at (map f part) (map f rest) now, ← map-append f part rest, ← is) whole
+part_put f at next left part rest now new all is there done whole = grind (arith, length-map, put_from-append, map-append)
 
 -- none is left, so all are put
 pub all_put : {X Y : Type 0} (f : X → Y) (at : ℕ) (left : List X) (now old all : List Y) → left ≡ [] → length old ≡ length all

@@ -1,5 +1,5 @@
 -- Lists that are put into arrays one behind the other.
-use Rattle.std.proofs.Common.{◌≡◌, ℕ, ℤ, ◌+◌, ◌<◌, ◌≤◌, List, [], ◌∷◌, ◌++◌, length, map, sym, ap, append_assoc, ◌∙◌}
+use Rattle.std.proofs.Common.{◌≡◌, ℕ, ℤ, ◌+◌, ◌<◌, ◌≤◌, List, [], ◌∷◌, ◌++◌, length, map, sym, ap, append_assoc, ◌∙◌, arith}
 use Rattle.std.proofs.lemmas.List.{append-nil, length-map, map-append}
 use Rattle.sgb_graph.specs.Graphs.{GraphData, chain_of}
 use Rattle.sgb_graph.specs.declared.fields.Link.{Link}
@@ -10,12 +10,7 @@ use Rattle.sgb_arrays.proofs.ArcsLeft.{arcs_left-first, arcs_left-none, length-s
 -- where the list of vertex v starts is put
 pub start_more : (g : GraphData) (v at next : ℕ) (starts now all : List ℕ) → v < length g.vertices → next ≡ at + length (chain_of g v)
     → now ≡ starts ++ at ∷ [] → starts ++ starts_left g v at ≡ all → now ++ starts_left g (v + 1) next ≡ all
-start_more g v at next starts now all within there is whole =
-    ap (λ xs. xs ++ starts_left g (v + 1) next) is
-    ∙ append_assoc starts (at ∷ []) (starts_left g (v + 1) next)
-    ∙ ap (λ (k : ℕ). starts ++ at ∷ starts_left g (v + 1) k) there
-    ∙ ap (λ xs. starts ++ xs) (sym (starts_left-first g v at within))
-    ∙ whole
+start_more g v at next starts now all within there is whole = grind (arith, append_assoc, starts_left-first)
 
 -- and so is where the last list ends: all are there
 pub starts_whole : (g : GraphData) (v at : ℕ) (starts now all : List ℕ) → length g.vertices ≤ v → now ≡ starts ++ at ∷ []
@@ -25,12 +20,7 @@ starts_whole g v at starts now all past is whole = is ∙ ap (λ xs. starts ++ x
 -- the values of a list are put
 pub list_more : {X : Type 0} (f : Link → X) (g : GraphData) (v : ℕ) (old now all : List X) → v < length g.vertices
     → now ≡ old ++ map f (chain_of g v) → old ++ map f (arcs_left g v) ≡ all → now ++ map f (arcs_left g (v + 1)) ≡ all
-list_more f g v old now all within is whole =
-    ap (λ xs. xs ++ map f (arcs_left g (v + 1))) is
-    ∙ append_assoc old (map f (chain_of g v)) (map f (arcs_left g (v + 1)))
-    ∙ ap (λ xs. old ++ xs) (sym (map-append f (chain_of g v) (arcs_left g (v + 1))))
-    ∙ ap (λ ls. old ++ map f ls) (sym (arcs_left-first g v within))
-    ∙ whole
+list_more f g v old now all within is whole = grind (arith, append_assoc, map-append, arcs_left-first)
 
 -- no list is left: all are there
 pub lists_whole : {X : Type 0} (f : Link → X) (g : GraphData) (v : ℕ) (old now all : List X) → length g.vertices ≤ v
