@@ -1,7 +1,6 @@
 -- What needs no memory is never out of memory.
-use Rattle.std.proofs.Common.{rules, ◌≡◌, ◌≢◌, ◌⊎◌, ◌&&◌, ◌∙◌, ℕ, List, [], Bool, false, Option, Result, Ok, Err, IfErr, inl, inr, refl, sym, ap, subst}
+use Rattle.std.proofs.Common.{arith, rules, ◌≡◌, ◌≢◌, ◌⊎◌, ◌&&◌, ◌∙◌, ℕ, List, [], Bool, false, Option, Result, Ok, Err, IfErr, inl, inr, ap}
 use Rattle.std.specs.Result.{IsErrAnd}
-use Rattle.std.proofs.lemmas.Bool.{both_ways}
 use Rattle.std.proofs.lemmas.Result.{err_from_is_err_and}
 use Rattle.sgb_vec.specs.declared.panics.Panic.{Panic}
 use Rattle.sgb_vec.specs.declared.panics.Panic.TheVariants.{NoRoom}
@@ -11,7 +10,6 @@ use Rattle.sgb_graph.specs.Vertices.{names_of}
 use Rattle.sgb_file.specs.Devices.{AppendsUnlessFailed, Change}
 use Rattle.sgb_gen.specs.declared.params.BoardParams.{BoardParams}
 use Rattle.sgb_expr.specs.Expression.{expression_of}
-use Rattle.sgb_expr.specs.StdinUses.{has_stdin}
 use Rattle.sgb_expr.specs.declared.expressions.Expr.{Expr}
 use Rattle.sgb_expr.specs.declared.expressions.Expr.TheVariants as expr
 use Rattle.sgb_expr.specs.declared.expressions.Generator.{Generator}
@@ -20,7 +18,6 @@ use Rattle.sgb_requests.specs.Faults.{fault_line, status_of}
 use Rattle.sgb_requests.specs.declared.faults.Fault.{Fault}
 use Rattle.sgb_requests.specs.declared.faults.Fault.TheVariants as fault
 use Rattle.sgb_requests.specs.declared.requests.Request.{Request}
-use Rattle.sgb_requests.specs.declared.requests.Request.TheVariants as request
 use Rattle.sgb_requests.specs.declared.requests.Resume.{Resume}
 use Rattle.sgb.specs.Certain.{BeginsNowhere, IsBoard, IsCertain, IsGeneratorRefused, IsRefusedAtOnce, IsRefusedFirst, NeedsNoMemory}
 use Rattle.sgb.specs.Outcomes.{answer_of, left_out, outcome_of, reads_input}
@@ -29,8 +26,8 @@ use Rattle.sgb.specs.Locals.{IsLocalOf}
 use Rattle.sgb.specs.Values.{described, generator_value, made}
 use Rattle.sgb.specs.declared.locals.Local.{Local}
 use Rattle.sgb.specs.inner.Certain.{HasListingAtOnce, HasNamesAtOnce}
-use Rattle.sgb.specs.Writing.{IsEnded, IsEndedFrom}
-use Rattle.sgb.proofs.Endings.{fault_told, change_of, no_line}
+use Rattle.sgb.specs.Writing.{IsEndedFrom}
+use Rattle.sgb.proofs.Endings.{change_of, no_line}
 use Rattle.sgb.proofs.FirstRefusals.{first_other, generator_other}
 use Rattle.sgb.proofs.Refusals.{left_out_own}
 use Rattle.sgb.proofs.StdinValues.{answer_unread}
@@ -41,18 +38,13 @@ use Rattle.sgb.proofs.StdinValues.{answer_unread}
 pub exit_certain : {T : Type 0} (r : Result T Fault) (f : Fault) → IsErrAnd r (λ g. g ≡ f) → f ≢ fault.Panic NoRoom → IfErr r (λ g. g ≢ fault.Panic NoRoom)
 exit_certain r f exit other = search (rules, err_from_is_err_and)
 
--- a code that is another
-other_panic : (p : Panic) → p ≢ NoRoom → fault.Panic p ≢ fault.Panic NoRoom
-other_panic p other e = search rules
-
 -- the exit of a `?` with a refusal
 pub exit_panic : {T : Type 0} (r : Result T Fault) (p : Panic) → IsErrAnd r (λ g. g ≡ fault.Panic p) → p ≢ NoRoom → IfErr r (λ g. g ≢ fault.Panic NoRoom)
-exit_panic r p exit other = exit_certain r (fault.Panic p) exit (other_panic p other)
+exit_panic r p exit other = search (rules, err_from_is_err_and)
 
 -- what a write alone can fail
 pub write_certain : {T : Type 0} (r : Result T Fault) → IfErr r (λ f. f ≡ fault.Write) → IfErr r (λ f. f ≢ fault.Panic NoRoom)
-write_certain (Ok x) h = tt
-write_certain (Err f) h = λ e. cc
+write_certain r h = grind (arith)
 
 -- where an answer begins
 pub place_other : (names : List (List ℕ)) (resume : Resume) (f : Fault) → left_out names resume ≡ Err f → f ≢ fault.Panic NoRoom
@@ -71,58 +63,43 @@ not_nowhere from k is nowhere = absurd cc
 -- a generator that is not accepted, where its names need no memory
 pub names_refused : (f : Generator) (p : Panic) → ((code : Panic) → IsGeneratorRefused f code → ◌≡◌ {A = Result Local Panic} (Err p) (Err code))
     → ((params : BoardParams) → f ≡ generator.Board params → p ≢ NoRoom) → HasNamesAtOnce f → p ≢ NoRoom
-names_refused f p refused board (inl h) = board h.0 h.1
-names_refused f p refused board (inr h) = λ e.
-    let other = generator_other f h.0 h.1 in
-    let same = refused h.0 h.1 in
-    let code : h.0 ≡ NoRoom = cc in
-    other code
+names_refused f p refused board h = grind (arith, generator_other)
 
 -- where its listing needs none
 pub listing_refused : (f : Generator) (resume : Resume) (p : Panic) → ((code : Panic) → IsGeneratorRefused f code → ◌≡◌ {A = Result Local Panic} (Err p) (Err code))
     → ((params : BoardParams) → f ≡ generator.Board params → p ≢ NoRoom) → HasListingAtOnce f resume → p ≢ NoRoom
-listing_refused f resume p refused board (inl (params, same, from)) =
-    let alike : f ≡ generator.Board params = cc in
-    board params alike
-listing_refused f resume p refused board (inr h) = names_refused f p refused board (inr h)
+listing_refused f resume p refused board h = grind (arith, generator_other)
 
 -- its listing begins nowhere
 pub listing_begun : {T : Type 0} (f : Generator) (resume : Resume) (l : Local) (r : Result T Fault) → IsLocalOf (generator_value f) (Ok l)
     → ((code : Panic) → IsGeneratorRefused f code → Ok l ≡ Err code)
     → (left_out (names_of (graph_described (described l))) resume ≡ Err fault.NoVertex → r ≡ Err fault.NoVertex)
     → HasListingAtOnce f resume → IfErr r (λ g. g ≢ fault.Panic NoRoom)
-listing_begun {T = T} f resume l r is refused nowhere (inl (p, same, from)) =
-    let alike : generator.Board p ≡ f = cc in
-    let value : made (generator_value (generator.Board p)) ≡ Ok (graph_described (described l)) = ap made (ap generator_value alike ∙ is) in
-    let ended = nowhere (from (graph_described (described l)) value) in
-    subst (λ (x : Result T Fault). IfErr x (λ g. g ≢ fault.Panic NoRoom)) (sym ended) (λ e. cc)
+listing_begun f resume l r is refused nowhere (inl (p, same, from)) =
+    let ended = nowhere (from (graph_described (described l)) (grind (arith))) in
+    rw ended (λ e. cc)
 listing_begun f resume l r is refused nowhere (inr h) =
     let none = refused h.0 h.1 in
     absurd cc
 
 -- of an expression that is a generator
 pub names_of_generator : (e : Expr) (f : Generator) → e ≡ expr.Generator f → IsBoard e ⊎ IsRefusedAtOnce (expression_of e) → HasNamesAtOnce f
-names_of_generator e f is (inl h) =
-    let same = h.1 in
-    let board : f ≡ generator.Board h.0 = cc in
-    inl (h.0, board)
-names_of_generator e f is (inr h) = inr (h.code, subst (λ (x : Expr). IsRefusedFirst [] (expression_of x) h.code) is (h.refused []))
+names_of_generator e f is (inl h) = grind (arith)
+names_of_generator e f is (inr h) = inr (h.code, rw is at (h.refused []))
 
 pub listing_of_generator : (e : Expr) (f : Generator) (resume : Resume) → e ≡ expr.Generator f → BeginsNowhere e resume ⊎ IsRefusedAtOnce (expression_of e) → HasListingAtOnce f resume
-listing_of_generator e f resume is (inl h) = inl (subst (λ (x : Expr). BeginsNowhere x resume) is h)
-listing_of_generator e f resume is (inr h) = inr (h.code, subst (λ (x : Expr). IsRefusedFirst [] (expression_of x) h.code) is (h.refused []))
+listing_of_generator e f resume is (inl h) = inl (rw is at h)
+listing_of_generator e f resume is (inr h) = inr (h.code, rw is at (h.refused []))
 
 -- ---- graphs
 
 -- an expression that is no generator, where its names need no memory
 pub names_of_graph : (e : Expr) → ((f : Generator) → e ≢ expr.Generator f) → IsBoard e ⊎ IsRefusedAtOnce (expression_of e) → IsRefusedAtOnce (expression_of e)
-names_of_graph e other (inl h) = absurd (other (generator.Board h.0) h.1)
-names_of_graph e other (inr h) = h
+names_of_graph e other h = grind (arith)
 
 -- where its listing needs none
 pub listing_of_graph : (e : Expr) (resume : Resume) → ((f : Generator) → e ≢ expr.Generator f) → BeginsNowhere e resume ⊎ IsRefusedAtOnce (expression_of e) → IsRefusedAtOnce (expression_of e)
-listing_of_graph e resume other (inl h) = absurd (other (generator.Board h.0) h.1)
-listing_of_graph e resume other (inr h) = h
+listing_of_graph e resume other h = grind (arith)
 
 -- the refusal of an expression that is refused at once
 pub at_once_other : (input : List ℕ) (e : Expr) (p : Panic) → ((code : Panic) → IsRefusedFirst input (expression_of e) code → ◌≡◌ {A = Result GraphData Panic} (Err p) (Err code))
@@ -138,49 +115,19 @@ at_once_unmade input e g r made h = search rules
 
 -- a request whose answer takes no memory reads no input
 pub certain_unread : (r : Request) → NeedsNoMemory r → reads_input r ≡ false
-certain_unread (request.Names e resume) (inl h) = ap (λ (x : Expr). has_stdin (expression_of x)) h.1
-certain_unread (request.Names e resume) (inr h) = h.unread
-certain_unread (request.List e resume) (inl h) = ap (λ (x : Expr). has_stdin (expression_of x)) h.1
-certain_unread (request.List e resume) (inr h) = h.unread
-certain_unread (request.Save e) h = h.unread
-certain_unread request.Queen h = absurd h
-certain_unread (request.Flip p) h = refl
+certain_unread r needs = grind (arith)
 
--- an end that is not that of reading
-ended_from : {T : Type 0} (failed : Bool) (a : Result (List ℕ) Fault) (same : Type 0) (out : Change) (r : Result T Fault) → failed ≡ false → IsEndedFrom failed a same out r → IsEnded a same out r
-ended_from {T = T} failed a same out r e p = subst (λ b. IsEndedFrom {T = T} b a same out r) e p
-
--- the request was answered
-given_ok : {T : Type 0} (a : Result (List ℕ) Fault) (same : Type 0) (x : T) (w v e : Option (List ℕ)) (wf ef : Bool)
-    → IsEnded a same (change_of w v wf) (Ok x) → IsGiven (outcome_of a) (change_of w v wf) (change_of e e ef) 0
-given_ok (Ok text) same x w v e wf ef p = record { output = p.output; line = no_line ef e; exit = refl }
-given_ok (Err g) same x w v e wf ef p = absurd p
-
--- it was refused, and not cut off by the sink
-given_err : (T : Type 0) (a : Result (List ℕ) Fault) (same : Type 0) (f : Fault) (w v e d : Option (List ℕ)) (wf ef : Bool)
-    → IsEnded {T = T} a same (change_of w v wf) (Err f) → f ≢ fault.Panic NoRoom → wf ≡ false → AppendsUnlessFailed (change_of e d ef) (fault_line f)
-    → IsGiven (outcome_of a) (change_of w v wf) (change_of e d ef) (status_of f)
-given_err T (Ok text) same f w v e d wf ef p other sound line = elim p.cause [ inl h ↦ absurd (both_ways wf sound h.0) | inr h ↦ absurd (other h.1) ]
-given_err T (Err g) same f w v e d wf ef p other sound line = elim p.0 [
-  | inl alike ↦ let told = fault_told f g (change_of e d ef) alike line in record { output = p.1.output; line = told.0; exit = told.1 }
-  | inr memory ↦ absurd (other memory)
-]
-
--- so it is in a run that reads no input
+-- so the answer is told in a run that reads no input
 pub certain_ok : {T : Type 0} (reads failed : Bool) (a : Result (List ℕ) Fault) (same : Type 0) (x : T) (w v e : Option (List ℕ)) (wf ef : Bool)
     → IsEndedFrom (reads && failed) a same (change_of w v wf) (Ok x) → reads ≡ false → IsGiven (outcome_of a) (change_of w v wf) (change_of e e ef) 0
-certain_ok reads failed a same x w v e wf ef ended unread =
-    given_ok a same x w v e wf ef (ended_from _ a same _ (Ok x) (ap (λ b. b && failed) unread) ended)
+certain_ok reads failed a same x w v e wf ef ended unread = grind (arith, no_line)
 
 pub certain_err : (T : Type 0) (reads failed : Bool) (a : Result (List ℕ) Fault) (same : Type 0) (f : Fault) (w v e d : Option (List ℕ)) (wf ef : Bool)
     → IsEndedFrom {T = T} (reads && failed) a same (change_of w v wf) (Err f) → f ≢ fault.Panic NoRoom → AppendsUnlessFailed (change_of e d ef) (fault_line f)
     → reads ≡ false → wf ≡ false → IsGiven (outcome_of a) (change_of w v wf) (change_of e d ef) (status_of f)
-certain_err T reads failed a same f w v e d wf ef ended other line unread sound =
-    given_err T a same f w v e d wf ef (ended_from {T = T} _ a same _ (Err f) (ap (λ b. b && failed) unread) ended) other sound line
+certain_err T reads failed a same f w v e d wf ef ended other line unread sound = grind (arith)
 
 -- a request whose answer takes no memory was answered so on each input
 pub certain_run : (r : Request) (stdin : Result GraphData Panic) (out err : Change) (status : ℕ)
     → (reads_input r ≡ false → NeedsNoMemory r → out.failed ≡ false → IsGiven (outcome_of (answer_of r stdin)) out err status) → IsCertain r out err status
-certain_run r stdin out err status given needs sound other =
-    let unread = certain_unread r needs in
-    subst (λ a. IsGiven (outcome_of a) out err status) (answer_unread r stdin other unread) (given unread needs sound)
+certain_run r stdin out err status given needs sound other = rw (answer_unread r other stdin (certain_unread r needs)) (given (certain_unread r needs) needs sound)

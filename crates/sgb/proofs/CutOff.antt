@@ -1,5 +1,5 @@
 -- Texts written part by part, until a part is cut off.
-use Rattle.std.proofs.Common.{arith, rules, ◌≡◌, ◌≢◌, ◌++◌, Bool, ℕ, List, Option, Result, Ok, Err, IfErr, false, inr, ap}
+use Rattle.std.proofs.Common.{arith, rules, ◌≡◌, ◌≢◌, ◌++◌, Bool, ℕ, List, Option, Result, Ok, Err, IfErr, false}
 use Rattle.std.specs.Result.{IsErrAnd}
 use Rattle.std.proofs.lemmas.Result.{err_from_is_err_and}
 use Rattle.std.specs.Io.KnownBytes.{Appends}
@@ -41,8 +41,7 @@ so_far-cut all part left rest a b c failed f e p q =
 -- the exit of a `?` out of memory, before anything was written
 pub exit_unwritten : {T : Type 0} (text : List ℕ) (a : Option (List ℕ)) (failed : Bool) (r : Result T Fault) (p : Panic) → IsErrAnd r (λ f. f ≡ fault.Panic p) → p ≡ NoRoom → failed ≡ false
     → IsWritten text (record { before = a; after = a; failed = failed }) r
-exit_unwritten text a failed r p exit memory sound =
-    exit_cut text (record { before = a; after = a; failed = failed }) r (fault.Panic p) exit (record { output = prefix_none a text; cause = inr (sound, ap fault.Panic memory) })
+exit_unwritten text a failed r p exit memory sound = grind (arith, err_from_is_err_and, prefix_none)
 
 -- the exit of a `?` with the fault of a write
 pub exit_write : {T : Type 0} (r : Result T Fault) (f : Fault) → IsErrAnd r (λ g. g ≡ f) → f ≡ fault.Write → IfErr r (λ g. g ≡ fault.Write)

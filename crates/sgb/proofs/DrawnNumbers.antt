@@ -8,8 +8,7 @@ use Rattle.sgb.specs.inner.Texts.{number_line}
 -- where m is 0, the next draw comes first
 pub plain_first : (seed m k number count : ℕ) → m ≡ 0 → number ≡ draw seed k → drawn_from seed m k (suc count) ≡ number ∷ drawn_from seed m (k + 1) count
 unfolding plain_draws
-plain_first seed zero k number count none e = ap (λ n. n ∷ plain_draws seed (k + 1) count) (sym e)
-plain_first seed (suc m) k number count none e = absurd (omega (arith, none))
+plain_first seed m k number count none e = grind (arith)
 
 -- where m is not 0, the uniform draw below it comes first
 pub uniform_first : (seed m k number last count : ℕ) → 1 ≤ m → m ≤ modulus → IsUniformDraw seed m k number last
@@ -30,5 +29,4 @@ pub lines_first : (seed m k next number left rest : ℕ) → left ≡ suc rest
     → ((count : ℕ) → drawn_from seed m k (suc count) ≡ number ∷ drawn_from seed m next count)
     → number_lines (drawn_from seed m k left) ≡ number_line number ++ number_lines (drawn_from seed m next rest)
 unfolding number_lines
-lines_first seed m k next number left rest more first =
-    ap (λ (n : ℕ). number_lines (drawn_from seed m k n)) more ∙ ap number_lines (first rest)
+lines_first seed m k next number left rest more first = grind (arith)

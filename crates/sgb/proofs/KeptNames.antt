@@ -1,5 +1,5 @@
 -- Names that are kept from one vector to the next.
-use Rattle.std.proofs.Common.{rules, ◌≡◌, ◌∙◌, ◌+◌, ◌-◌, ◌*◌, ◌^◌, ◌<◌, ◌≤◌, ℕ, Bool, List, [], ◌∷◌, ◌++◌, nat_lt, length, take, drop, get_or, refl, ap, ap₂, arith, append_assoc, length-append}
+use Rattle.std.proofs.Common.{rules, ◌≡◌, ◌+◌, ◌-◌, ◌*◌, ◌^◌, ◌<◌, ◌≤◌, ℕ, Bool, List, [], ◌∷◌, ◌++◌, nat_lt, length, take, drop, get_or, arith, append_assoc, length-append}
 use Rattle.std.specs.List.{All}
 use Rattle.std.proofs.lemmas.Bool.{cases_lt}
 use Rattle.std.proofs.lemmas.List.{drop_at, get_or-append_right, get_or-take, get_or_append_left, length-drop, length-take-le, take-append-le, take-take, take_all, take_at}
@@ -20,29 +20,19 @@ kept-none = grind (arith, name-entries, All-nil)
 
 -- what the first entries take is the first part of the name
 pub name-front : (v : List ℕ) (k : ℕ) → k ≤ length v → take (length (name_of_vector (take k v))) (name_of_vector v) ≡ name_of_vector (take k v)
-name-front v k within =
-    let a = name_of_vector (take k v) in
-    ap (take (length a)) (name-parts v k within) ∙ take_at a (entries_text (nat_lt 0 k) (drop k v)) (length a) refl
+name-front v k within = grind (arith, name-parts v k within, take_at)
 
 -- and what the others take is what comes after it
 pub name-back : (v : List ℕ) (k : ℕ) → k ≤ length v → drop (length (name_of_vector (take k v))) (name_of_vector v) ≡ entries_text (nat_lt 0 k) (drop k v)
-name-back v k within =
-    let a = name_of_vector (take k v) in
-    ap (drop (length a)) (name-parts v k within) ∙ drop_at a (entries_text (nat_lt 0 k) (drop k v)) (length a) refl
+name-back v k within = grind (arith, name-parts v k within, drop_at)
 
 -- a part of the name is not longer than it
 pub name-within : (v : List ℕ) (k : ℕ) → k ≤ length v → length (name_of_vector (take k v)) ≤ length (name_of_vector v)
-name-within v k within =
-    omega (arith, ap length (name-parts v k within), length-append (name_of_vector (take k v)) (entries_text (nat_lt 0 k) (drop k v)))
+name-within v k within = grind (arith, name-parts v k within, length-append)
 
 -- the first entries take at most eleven bytes each
 pub front-short : (v : List ℕ) (k : ℕ) → k ≤ length v → All IsSmall v → length (name_of_vector (take k v)) ≤ 11 * k
 front-short v k within small = omega (arith, length-name_of_vector-le (take k v) (All-take IsSmall k v small), length-take-le k v within)
-
--- and so do the others
-back-short : (v : List ℕ) (k : ℕ) → k ≤ length v → All IsSmall v → length (drop (length (name_of_vector (take k v))) (name_of_vector v)) ≤ 11 * (length v - k)
-back-short v k within small =
-    omega (arith, ap length (name-back v k within), length-entries (nat_lt 0 k) (drop k v) (All-drop IsSmall k v small), length-drop k v)
 
 -- where an entry ends in the name
 pub kept-end : (v ends text : List ℕ) (k : ℕ) → 0 < k → k ≤ length v → IsKeptName v ends text → get_or ends (k - 1) 0 ≡ length (name_of_vector (take k v))
@@ -59,24 +49,24 @@ pub kept-more : (v ends text after : List ℕ) (dotted : Bool) (entry end : ℕ)
 kept-more v ends text after dotted entry end small few kept dot put is =
     search (rules, name-more, length-append, All-push, cases_lt, get_or_append_left, take-append-le, get_or-append_right, take_all)
 
--- the name of another vector, of which the first entries and the last ones are the same
-pub name-other : (v w : List ℕ) (from to : ℕ) → from ≤ to → to ≤ length v → length w ≡ length v → take from v ≡ take from w → drop to v ≡ drop to w
-    → (name_of_vector (take from v) ++ entries_text (nat_lt 0 from) (take (to - from) (drop from w))) ++ entries_text (nat_lt 0 to) (drop to v) ≡ name_of_vector w
-name-other v w from to order within width first last = grind (arith, append_assoc, entries-parts, name-parts)
-
--- in a line after what it had
+-- the name of another vector, of which the first entries and the last ones are the same, in a line after what it had
 module _ (v w line name : List ℕ) (from to start end : ℕ) (is : name ≡ name_of_vector v) (order : from ≤ to) (within : to ≤ length v)
     (starts : start ≡ length (name_of_vector (take from v))) (ends : end ≡ length (name_of_vector (take to v))) where
-  -- what is put after the entries that are new
-  put-back : drop end name ≡ entries_text (nat_lt 0 to) (drop to v)
-  put-back = ap₂ drop ends is ∙ name-back v to within
-
   pub other-text : length w ≡ length v → take from v ≡ take from w → drop to v ≡ drop to w
       → ((line ++ take start name) ++ entries_text (nat_lt 0 from) (take (to - from) (drop from w))) ++ drop end name ≡ line ++ name_of_vector w
-  other-text width first last = grind (arith, name-front, put-back, append_assoc, name-other)
+  other-text width first last = grind (arith, name-front, name-back, append_assoc, entries-parts, name-parts)
 
-  pub back-bound : All IsSmall v → length (drop end name) ≤ 11 * (length v - to)
-  back-bound small = omega (arith, ap length (ap₂ drop ends is), back-short v to within small)
+-- what is after a place in a name is short
+back-short : (v : List ℕ) (k : ℕ) → k ≤ length v → All IsSmall v → length (drop (length (name_of_vector (take k v))) (name_of_vector v)) ≤ 11 * (length v - k)
+back-short v k within small = grind (arith, name-back, length-entries (nat_lt 0 k) (drop k v) (All-drop IsSmall k v small), length-drop)
 
-  pub front-bound : All IsSmall v → length (line ++ take start name) ≤ length line + 11 * from
-  front-bound small = grind (arith, name-front, length-append, front-short)
+-- what a kept name has after a place, of the vector that it is seen as
+pub kept-back : (w v ends text : List ℕ) (to end : ℕ) → IsKeptName w ends text → w ≡ v → to ≤ length v → end ≡ length (name_of_vector (take to v))
+    → (end ≤ length text) × (length text ≤ end + 11 * (length v - to))
+kept-back w v ends text to end kept same within is =
+    grind (arith, back-short v to within (rw same at kept.small), name-within, length-drop (length (name_of_vector (take to v))) (name_of_vector v))
+
+-- and before one, after a line
+pub kept-start : (w v ends text line : List ℕ) (from end : ℕ) → IsKeptName w ends text → w ≡ v → from ≤ length v → end ≡ length (name_of_vector (take from v))
+    → length (line ++ take end text) ≤ length line + 11 * from
+kept-start w v ends text line from end kept same within is = grind (arith, name-front, length-append, front-short)

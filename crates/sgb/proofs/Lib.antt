@@ -9,22 +9,12 @@ pub mod CutOff
 pub mod DrawnNumbers
 -- what a run leaves, by how the answer ended
 pub mod Endings
--- values of entries
-pub mod EntryValues
 -- answers on small graphs
 pub mod ExamplesAnswers
--- answers of flips
-pub mod ExamplesFlips
--- what a run leaves that reads standard input first
-pub mod InputEndings
 -- numbers of few digits
 pub mod FewDigits
--- what evaluations leave of standard input
-pub mod InputsLeft
 -- names of vectors that are kept
 pub mod KeptNames
--- what is kept of a source
-pub mod KeptInput
 -- bytes that are moved a word at once
 mod MovedWords
 -- parts of a listing
@@ -47,8 +37,6 @@ pub mod Named
 pub mod NamedMembers
 -- texts handed to a page of output, part by part
 pub mod Pages
--- what a call of the program leaves
-pub mod ProgramRuns
 -- refusals are never out of memory
 pub mod Refusals
 -- where a listing from vectors begins

@@ -1,8 +1,8 @@
 -- Parts of a listing, one after the other.
-use Rattle.std.proofs.Common.{◌≡◌, ◌∙◌, ◌+◌, ◌<◌, ◌≤◌, ℕ, min, List, [], ◌∷◌, ◌++◌, length, Some, drop, add-one, drop-cons, sym, ap, ap₂, append_assoc, arith, codes}
+use Rattle.std.proofs.Common.{◌≡◌, ◌+◌, ◌<◌, ◌≤◌, ℕ, min, List, [], ◌++◌, length, Some, add-one, drop-cons, ap, append_assoc, arith, codes}
 use Rattle.std.specs.Fmt.{signed_decimal}
 use Rattle.std.specs.List.{flat_map, slice_get, slice_index_or}
-use Rattle.std.proofs.lemmas.List.{drop_all}
+use Rattle.std.proofs.lemmas.List.{drop_all, length-map}
 use Rattle.std.proofs.lemmas.Option.{get_or_from_slice_get}
 use Rattle.sgb_vec.proofs.Lists.{range-first, range-none}
 use Rattle.sgb_graph.specs.declared.fields.Link.{Link}
@@ -10,14 +10,10 @@ use Rattle.sgb_graph.specs.Graphs.{GraphData, chain_of}
 use Rattle.sgb_graph.specs.Vertices.{names_of}
 use Rattle.sgb.specs.Texts.{name_line, name_lines, arc_line, block, blocks}
 
--- a text from a place on, of which nothing is left from n on: from n on as from any place behind it
-min-none : (f : ℕ → List ℕ) (n k : ℕ) → ((v : ℕ) → n ≤ v → f v ≡ []) → f (min k n) ≡ f k
-min-none f n k none = grind arith
-
 -- the block of a vertex stands before those after it
 pub blocks-first : (g : GraphData) (v : ℕ) → v < length (names_of g) → blocks g v ≡ block g v ++ blocks g (v + 1)
 unfolding blocks
-blocks-first g v h = ap (flat_map (block g)) (range-first v (length (names_of g)) h)
+blocks-first g v h = grind (arith, range-first)
 
 -- no block is left after the last vertex
 pub blocks-none : (g : GraphData) (v : ℕ) → length (names_of g) ≤ v → blocks g v ≡ []
@@ -26,7 +22,7 @@ blocks-none g v h = ap (flat_map (block g)) (range-none v (length (names_of g)) 
 
 -- none either from a vertex that is not there on
 pub blocks-min : (g : GraphData) (k : ℕ) → blocks g (min k (length (names_of g))) ≡ blocks g k
-blocks-min g k = min-none (blocks g) (length (names_of g)) k (blocks-none g)
+blocks-min g k = grind (arith, blocks-none)
 
 -- a block is the line of the vertex's name and those of its arcs
 pub block-parts : (g : GraphData) (v : ℕ) (links : List Link) → chain_of g v ≡ links
@@ -37,7 +33,7 @@ block-parts g v links listed = ap (λ ls. name_line (slice_index_or (names_of g)
 -- the line of the name of a vertex that is there stands before those after it
 pub name_lines-first : (names : List (List ℕ)) (v : ℕ) → v < length names → name_lines names v ≡ name_line (slice_index_or names v []) ++ name_lines names (v + 1)
 unfolding name_lines
-name_lines-first names v h = ap (flat_map name_line) (drop-cons names v [] h ∙ ap (λ k. slice_index_or names v [] ∷ drop k names) (sym (add-one v)))
+name_lines-first names v h = grind (arith, drop-cons, add-one)
 
 -- no line is left after the last vertex
 pub name_lines-none : (names : List (List ℕ)) (v : ℕ) → length names ≤ v → name_lines names v ≡ []
@@ -46,16 +42,17 @@ name_lines-none names v h = ap (flat_map name_line) (drop_all v names h)
 
 -- none either from a vertex that is not there on
 pub name_lines-min : (names : List (List ℕ)) (k : ℕ) → name_lines names (min k (length names)) ≡ name_lines names k
-name_lines-min names k = min-none (name_lines names) (length names) k (name_lines-none names)
-
--- five texts, one after the other
-pub five : (a b c d e : List ℕ) → a ++ b ++ c ++ d ++ e ≡ a ++ (b ++ (c ++ (d ++ e)))
-five a b c d e = append_assoc (a ++ b ++ c) d e ∙ append_assoc (a ++ b) c (d ++ e) ∙ append_assoc a b (c ++ (d ++ e))
+name_lines-min names k = grind (arith, name_lines-none)
 
 -- the line of an arc in parts
 pub arc_line-parts : (names : List (List ℕ)) (link : Link) (name len : List ℕ) → slice_get names link.tip ≡ Some name → len ≡ signed_decimal link.len
     → arc_line names link ≡ codes "  -> " ++ (name ++ (codes ", length " ++ (len ++ codes "\n")))
 unfolding arc_line
-arc_line-parts names link name len named digits =
-    ap₂ (λ text number. codes "  -> " ++ text ++ codes ", length " ++ number ++ codes "\n") (get_or_from_slice_get names link.tip name [] named) (sym digits)
-    ∙ five (codes "  -> ") name (codes ", length ") len (codes "\n")
+arc_line-parts names link name len named digits = grind (arith, append_assoc, get_or_from_slice_get)
+
+-- the same of a vertex among those that there are
+pub blocks-next : (g : GraphData) (v : ℕ) → v < length g.vertices → blocks g v ≡ block g v ++ blocks g (v + 1)
+blocks-next g v within = blocks-first g v (omega (arith, length-map g.vertices (λ x. x.name), within))
+
+pub name_lines-next : (g : GraphData) (v : ℕ) → v < length g.vertices → name_lines (names_of g) v ≡ name_line (slice_index_or (names_of g) v []) ++ name_lines (names_of g) (v + 1)
+name_lines-next g v within = name_lines-first (names_of g) v (omega (arith, length-map g.vertices (λ x. x.name), within))

@@ -1,5 +1,5 @@
 -- The lists of a graph of vectors, by the arcs of its vectors.
-use Rattle.std.proofs.Common.{◌≡◌, ◌∙◌, ◌<◌, ℕ, suc, Bool, List, [], ◌∷◌, length, map, get_or, Some, refl, sym, ap, ap₂, subst, arith}
+use Rattle.std.proofs.Common.{rules, ◌≡◌, ◌∙◌, ◌<◌, ℕ, suc, Bool, List, [], ◌∷◌, length, map, Some, refl, sym, ap, subst, arith}
 use Rattle.std.specs.List.{All, Contains, slice_get}
 use Rattle.std.proofs.lemmas.Option.{get_or_from_slice_get, slice_get-get_or, slice_get_within}
 use Rattle.sgb_vec.specs.Lexicographic.{IsRising}
@@ -19,16 +19,14 @@ tips_of_event : (n : ℕ) (directed : Bool) (e : Event) → HasEndsBelow n e →
 tips_of_event n directed e within = grind arith
 
 tips_of_events : (n : ℕ) (directed : Bool) (events : List Event) → All (HasEndsBelow n) events → All (λ r. r.tip < n) (all_records directed events)
-tips_of_events n directed events within =
-    All-flat_map (λ (r : Record). r.tip < n) (records_of directed) events (λ k e inside. tips_of_event n directed (get_or events k e) (within k e inside))
+tips_of_events n directed events within = search (rules, All-flat_map, tips_of_event)
 
 tip_of_link : (n : ℕ) (directed : Bool) (events : List Event) (v : ℕ) (l : Link) → All (HasEndsBelow n) events → Contains (list_of directed events v) l → l.tip < n
 tip_of_link n directed events v l within has =
-    let records = all_records directed events in
     let own : Record = record { start = v; tip = l.tip; len = l.len } in
-    let is : slice_get records l.number ≡ Some own = only_on_list directed events v l has in
-    let all = tips_of_events n directed events within in
-    subst (λ (r : Record). r.tip < n) (get_or_from_slice_get records l.number own own is) (all l.number own (slice_get_within records l.number own is))
+    let is = only_on_list directed events v l has in
+    subst (λ (r : Record). r.tip < n) (get_or_from_slice_get (all_records directed events) l.number own own is)
+    (tips_of_events n directed events within l.number own (slice_get_within (all_records directed events) l.number own is))
 
 -- the vertex of the vector where an arc leads is its tip
 numbers_of_tips : (vectors : List (List ℕ)) (links : List Link) → IsRising vectors → ((l : Link) → Contains links l → l.tip < length vectors)
@@ -36,12 +34,9 @@ numbers_of_tips : (vectors : List (List ℕ)) (links : List Link) → IsRising v
 numbers_of_tips vectors [] rise below = refl
 numbers_of_tips vectors (l ∷ links) rise below =
     let own : l.tip < length vectors = below l (0, omega arith, refl) in
-    let there : slice_get vectors l.tip ≡ Some (get_or vectors l.tip []) = slice_get-get_or vectors l.tip [] own in
-    ap₂ (λ (t : ℕ) ts. t ∷ ts) (vertex_in_rising vectors l.tip (get_or vectors l.tip []) rise there)
-    (numbers_of_tips vectors links rise (λ k has. below k (later k has)))
-  where
-    later : (k : Link) → Contains links k → Contains (l ∷ links) k
-    later k (i, within, at) = (suc i, omega arith, at)
+    let there = slice_get-get_or vectors l.tip [] own in
+    let more = numbers_of_tips vectors links rise (λ k (i, within, at). below k (suc i, omega arith, at)) in
+    grind (arith, vertex_in_rising)
 
 lengths_kept : (vectors : List (List ℕ)) (links : List Link) → map (λ (a : LocalArc). a.len) (map (local_arc vectors) links) ≡ map (λ (l : Link). l.len) links
 lengths_kept vectors [] = refl

@@ -1,5 +1,5 @@
 -- The listing of a graph of vectors, from its vectors.
-use Rattle.std.proofs.Common.{◌≡◌, ◌∙◌, ◌+◌, ◌<◌, ℕ, zero, suc, ℤ, Bool, List, [], ◌∷◌, ◌++◌, length, map, drop, drop-cons, add-one, get_or, Some, Result, Ok, refl, sym, ap, ap₂, subst, arith, codes}
+use Rattle.std.proofs.Common.{append_assoc, ◌≡◌, ◌∙◌, ◌+◌, ◌<◌, ℕ, zero, suc, ℤ, Bool, List, [], ◌∷◌, ◌++◌, length, map, drop, drop-cons, get_or, Some, Result, Ok, refl, sym, ap, arith, codes}
 use Rattle.std.specs.Fmt.{signed_decimal}
 use Rattle.std.specs.List.{All, Contains, flat_map, slice_get, slice_index_or}
 use Rattle.std.proofs.lemmas.List.{drop-drop, length-drop, length-map}
@@ -9,14 +9,14 @@ use Rattle.sgb_vec.specs.Lexicographic.{IsRising}
 use Rattle.sgb_vec.specs.Names.{name_of_vector}
 use Rattle.sgb_graph.specs.declared.fields.Link.{Link}
 use Rattle.sgb_vec.specs.declared.panics.Panic.{Panic}
-use Rattle.sgb_graph.specs.Descriptions.{Description, IsGraphOf}
+use Rattle.sgb_graph.specs.Descriptions.{Description}
 use Rattle.sgb_graph.specs.Events.{HasEndsBelow, list_of}
 use Rattle.sgb_graph.specs.Graphs.{GraphData, chain_of}
 use Rattle.sgb_graph.specs.Made.{graph_described}
 use Rattle.sgb_graph.proofs.Described.{described_is, described_names}
 use Rattle.sgb_gen.specs.LocalLists.{LocalArc, list_at, local_arc}
 use Rattle.sgb_gen.proofs.FamilyWalks.{first_in_drop}
-use Rattle.sgb_gen.specs.VectorGraphs.{HasEnds, Move, VectorGraph, described_by, event_among, family_graph, fields_of_vector, vertex_among}
+use Rattle.sgb_gen.specs.VectorGraphs.{HasEnds, Move, VectorGraph, described_by, event_among, family_graph, vertex_among}
 use Rattle.sgb_gen.proofs.RisingVectors.{vertex_in_rising}
 use Rattle.sgb_graph.specs.Vertices.{names_of}
 use Rattle.sgb.specs.inner.Locals.{local_block, local_line}
@@ -30,7 +30,7 @@ use Rattle.sgb_file.specs.Devices.{Change}
 use Rattle.sgb_requests.specs.declared.faults.Fault.{Fault}
 use Rattle.sgb_requests.specs.declared.requests.Resume.{Resume}
 use Rattle.sgb.specs.declared.locals.Local.{Local}
-use Rattle.sgb.proofs.Listings.{block-parts, blocks-first, blocks-none, five}
+use Rattle.sgb.proofs.Listings.{block-parts, blocks-first, blocks-none}
 
 -- the name at a place, or the empty one, is that of the vector there, or of the empty one
 name_there : (vectors : List (List ℕ)) (t : ℕ) → slice_index_or (map name_of_vector vectors) t [] ≡ name_of_vector (get_or vectors t [])
@@ -41,9 +41,7 @@ name_there (v ∷ vectors) (suc t) = name_there vectors t
 
 -- what stands first after others is among them all
 pub contains_in_drop : (k : ℕ) (members : List (List ℕ)) (x : List ℕ) → slice_get (drop k members) 0 ≡ Some x → Contains members x
-contains_in_drop k members x first =
-    let there : slice_get members k ≡ Some x = sym (first_in_drop k members) ∙ first in
-    (k, slice_get_within members k x there, get_or_from_slice_get members k x x there)
+contains_in_drop k members x first = (k, grind (arith, first_in_drop, slice_get_within), grind (arith, first_in_drop, get_or_from_slice_get))
 
 lines_of_arcs : (vectors : List (List ℕ)) (links : List Link) → flat_map (arc_line (map name_of_vector vectors)) links ≡ flat_map local_line (map (local_arc vectors) links)
 unfolding arc_line local_line
@@ -58,19 +56,15 @@ module _ (directed : Bool) (vectors : List (List ℕ)) (moves : List Move) (rise
   arcs_there v x there = grind (arith, slice_get_within, vertex_in_rising, lines_of_arcs)
 
   name_of_there : (v : ℕ) (x : List ℕ) → slice_get vectors v ≡ Some x → slice_index_or (names_of g) v [] ≡ name_of_vector x
-  name_of_there v x there = ap (λ names. slice_index_or names v []) named ∙ name_there vectors v ∙ ap name_of_vector (get_or_from_slice_get vectors v x [] there)
+  name_of_there v x there = grind (arith, name_there, get_or_from_slice_get)
 
   block_there : (v : ℕ) (x : List ℕ) → slice_get vectors v ≡ Some x → block g v ≡ name_line (name_of_vector x) ++ flat_map local_line (list_at directed vectors moves x)
-  block_there v x there = block-parts g v (chain_of g v) refl ∙ ap₂ (λ name lines. name_line name ++ lines) (name_of_there v x there) (arcs_there v x there)
+  block_there v x there = rw (block-parts g v (chain_of g v) refl, name_of_there v x there, arcs_there v x there) refl
 
 -- the line of an arc in parts
 pub line-parts : (tip : List ℕ) (len : ℤ) → local_line (record { tip = tip; len = len }) ≡ codes "  -> " ++ (name_of_vector tip ++ (codes ", length " ++ (signed_decimal len ++ codes "\n")))
 unfolding local_line
-line-parts tip len = five (codes "  -> ") (name_of_vector tip) (codes ", length ") (signed_decimal len) (codes "\n")
-
--- the first of the members that are left is a member
-pub first_of_rest : (members rest : List (List ℕ)) (x : List ℕ) → IsRest members rest → slice_get rest 0 ≡ Some x → Contains members x
-first_of_rest members rest x (k, from) first = grind (arith, contains_in_drop)
+line-parts tip len = grind (arith, append_assoc)
 
 -- without the first, members are left
 pub rest_of_rest : (members rest after : List (List ℕ)) → IsRest members rest → after ≡ drop 1 rest → IsRest members after
@@ -82,56 +76,45 @@ vertex_within vectors a rise (k, within, there) = grind (arith, slice_get_read, 
 
 -- moves between vectors are events between their vertices
 pub events_within : (vectors : List (List ℕ)) (moves : List Move) → IsRising vectors → All (HasEnds vectors) moves → All (HasEndsBelow (length vectors)) (map (event_among vectors) moves)
-events_within vectors moves rise ends =
-    All-map (HasEndsBelow (length vectors)) (event_among vectors) moves
-    (λ k d within. let e = ends k d within in (vertex_within vectors (get_or moves k d).from rise e.0, vertex_within vectors (get_or moves k d).to rise e.1))
-
--- a field for each name
-named_vectors : (vectors : List (List ℕ)) → length (map fields_of_vector vectors) ≡ length (map name_of_vector vectors)
-named_vectors vectors = length-map vectors fields_of_vector ∙ sym (length-map vectors name_of_vector)
+events_within vectors moves rise ends = All-map (HasEndsBelow (length vectors)) (event_among vectors) moves (λ k d within. grind (arith, vertex_within, ends k d))
 
 -- the lists of the graph
 pub lists_of_graph : (g : VectorGraph) → IsRising g.vectors → All (HasEnds g.vectors) g.moves
     → (v : ℕ) → v < length g.vectors → chain_of (graph_described (described_by g)) v ≡ list_of g.directed (map (event_among g.vectors) g.moves) v
 unfolding family_graph
 lists_of_graph g rise ends v within =
-    let d = described_by g in
-    let events = map (event_among g.vectors) g.moves in
-    let names : length (map name_of_vector g.vectors) ≡ length g.vectors = length-map g.vectors name_of_vector in
-    let inside : All (HasEndsBelow (length (map name_of_vector g.vectors))) events = grind (arith, events_within) in
-    let is : IsGraphOf d (graph_described d) = described_is d inside (named_vectors g.vectors) in
+    let names = length-map g.vectors name_of_vector in
+    let is = described_is (described_by g) (grind (arith, events_within)) (grind (arith, length-map)) in
     grind (arith, length-map)
 
 -- how many entries the vector has where the arc at a place leads
 pub tip_width : (n : ℕ) (arcs : List LocalArc) (i : ℕ) (arc : LocalArc) → All (λ (a : LocalArc). length a.tip ≡ n) arcs → slice_get arcs i ≡ Some arc → length arc.tip ≡ n
-tip_width n arcs i arc wide there =
-    subst (λ (a : LocalArc). length a.tip ≡ n) (get_or_from_slice_get arcs i arc arc there) (wide i arc (slice_get_within arcs i arc there))
+tip_width n arcs i arc wide there = grind (arith, get_or_from_slice_get, slice_get_within)
 
 -- the line of the arc at a place stands before those after it
 pub lines-first : (arcs : List LocalArc) (i : ℕ) (arc : LocalArc) → slice_get arcs i ≡ Some arc → flat_map local_line (drop i arcs) ≡ local_line arc ++ flat_map local_line (drop (i + 1) arcs)
 lines-first arcs i arc there =
-    ap (flat_map local_line) (drop-cons arcs i arc (slice_get_within arcs i arc there) ∙ ap₂ (λ first k. first ∷ drop k arcs) (get_or_from_slice_get arcs i arc arc there) (sym (add-one i)))
+    let first = drop-cons arcs i arc (slice_get_within arcs i arc there) in
+    grind (arith, get_or_from_slice_get)
 
 -- the vertices have the names of the vectors
 pub named_by_vectors : (g : VectorGraph) → names_of (graph_described (described_by g)) ≡ map name_of_vector g.vectors
 unfolding family_graph
-named_by_vectors g = described_names (described_by g) (named_vectors g.vectors)
+named_by_vectors g = grind (arith, described_names, length-map)
 
 -- or of the members of a family that has those vectors
 pub named_by_members : (g : VectorGraph) (members : List (List ℕ)) → members ≡ g.vectors → names_of (graph_described (described_by g)) ≡ map name_of_vector members
-named_by_members g members same = named_by_vectors g ∙ ap (map name_of_vector) (sym same)
+named_by_members g members same = grind (arith, named_by_vectors)
 
 -- there are as many
 pub names_count : (g : VectorGraph) → length (names_of (graph_described (described_by g))) ≡ length g.vectors
-names_count g = ap length (named_by_vectors g) ∙ length-map g.vectors name_of_vector
+names_count g = grind (arith, named_by_vectors, length-map)
 
 -- the names of a generator's vertices, from the members of its family
 pub named_local : {T : Type 0} (v : Result Description Panic) (l : Local) (members : List (List ℕ)) (resume : Resume) (same : Type 0) (out : Change) (r : Result T Fault)
     → v ≡ Ok (described l) → members ≡ vectors_of l → IsEnded (names_answer (map name_of_vector members) resume) same out r
     → IsEnded (answer_from (made v) (λ d. names_answer (names_of d) resume)) same out r
-named_local {T = T} v l members resume same out r e vectors p =
-    subst (λ (u : Result Description Panic). IsEnded {T = T} (answer_from (made u) (λ d. names_answer (names_of d) resume)) same out r) (sym e)
-    (subst (λ (ns : List (List ℕ)). IsEnded {T = T} (names_answer ns resume) same out r) (sym (named_by_members (vector_graph_of l) members vectors)) p)
+named_local v l members resume same out r e vectors p = rw (e, named_by_members (vector_graph_of l) members vectors) p
 
 pub head_of_graph : (g : VectorGraph) (n m : ℕ) → n ≡ length g.vectors → m ≡ (graph_described (described_by g)).m → head (graph_described (described_by g)) ≡ head_text g.id n m
 unfolding family_graph

@@ -1,5 +1,5 @@
 -- Bytes that are moved a word at once, of which a first part counts.
-use Rattle.std.proofs.Common.{◌≡◌, ◌≤◌, ◌+◌, ◌∙◌, ◌++◌, ℕ, List, length, take, sym, ap, arith}
+use Rattle.std.proofs.Common.{◌≡◌, ◌≤◌, ◌+◌, ◌++◌, ℕ, List, length, take, arith}
 use borrow.Rule.Slice.PartMut.{put_mid}
 use Rattle.std.proofs.Math.Seq.{take-append-add}
 use Rattle.std.proofs.lemmas.List.{length-take-le, take-take}
@@ -9,11 +9,10 @@ use Rattle.std.proofs.lemmas.Slice.{take-put_mid}
 pub word_put : (all word : List ℕ) (place span width count : ℕ) → length word ≡ width → count ≤ width → place ≤ length all
     → take (place + count) (put_mid place span all word) ≡ take place all ++ take count word
 word_put all word place span width count whole few within =
-    let before : length (take place all) ≡ place = length-take-le place all within in
-    sym (take-take (place + count) (place + width) (put_mid place span all word) (omega (arith, few)))
-    ∙ ap (take (place + count)) (take-put_mid place span all word (place + width) (omega (arith, whole)) within)
-    ∙ ap (λ n. take (n + count) (take place all ++ word)) (sym before)
-    ∙ take-append-add (take place all) word count
+    let put = take-put_mid place span all word (place + width) (omega (arith, whole)) within in
+    let front = take-take (place + count) (place + width) (put_mid place span all word) (omega (arith, few)) in
+    let parts = take-append-add (take place all) word count in
+    grind (arith, length-take-le)
 
 -- a first part of a word is one of what the word was taken from
 pub word_front : (bytes : List ℕ) (width count : ℕ) → count ≤ width → take count (take width bytes) ≡ take count bytes

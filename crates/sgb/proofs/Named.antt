@@ -1,6 +1,6 @@
 -- The first vertex of a name.
-use Rattle.std.proofs.Common.{◌≡◌, ◌∙◌, ◌+◌, ◌<◌, ℕ, Bool, true, false, nat_eq, List, [], length, Some, None, ap, arith}
-use Rattle.std.specs.List.{position_or_len, slice_get, slice_index_or}
+use Rattle.std.proofs.Common.{◌≡◌, ◌+◌, ◌<◌, ℕ, Bool, true, false, nat_eq, List, [], length, Some, None, arith}
+use Rattle.std.specs.List.{slice_get, slice_index_or}
 use Rattle.std.specs.Cmp.Lexicographic.{pointwise}
 use Rattle.std.proofs.lemmas.List.Sums.{position_or_len_is}
 use Rattle.std.proofs.lemmas.Option.{slice_get_within, get_or_from_slice_get}
@@ -24,14 +24,11 @@ none_before-more names name other i at differs none = grind (arith, cases_lt, ge
 pub named_here : (names : List (List ℕ)) (name other : List ℕ) (i : ℕ) → slice_get names i ≡ Some other → has_name name other ≡ true
     → NoneBefore names name i → vertex_named name names ≡ Some i
 named_here names name other i at same none =
-    let within : i < length names = slice_get_within names i other at in
-    let first : position_or_len (has_name name) names ≡ i =
-    position_or_len_is (has_name name) names i [] (omega (arith, within)) none (λ h. ap (has_name name) (get_or_from_slice_get names i other [] at) ∙ same) in
-    grind arith
+    let first = position_or_len_is (has_name name) names i [] (grind (arith, slice_get_within)) none (grind (arith, get_or_from_slice_get)) in
+    grind (arith, slice_get_within)
 
 -- a name that no vertex has
 pub named_nowhere : (names : List (List ℕ)) (name : List ℕ) (n : ℕ) → n ≡ length names → NoneBefore names name n → vertex_named name names ≡ None
 named_nowhere names name n size none =
-    let first : position_or_len (has_name name) names ≡ n =
-    position_or_len_is (has_name name) names n [] (omega (arith, size)) none (λ h. absurd (omega (arith, size, h))) in
+    let first = position_or_len_is (has_name name) names n [] (omega (arith, size)) none (λ h. absurd (omega arith)) in
     grind arith

@@ -1,5 +1,5 @@
 -- The members of a family by their names: no two have the same one.
-use Rattle.std.proofs.Common.{◌≡◌, ◌≢◌, ◌∙◌, ℕ, suc, ◌<◌, true, List, [], ◌∷◌, ◌++◌, length, drop, get_or, map, Option, Some, None, option_map, refl, sym, ap, subst, inl, inr, arith, rules}
+use Rattle.std.proofs.Common.{◌≡◌, ◌≢◌, ℕ, suc, ◌<◌, true, List, [], ◌∷◌, ◌++◌, length, drop, get_or, map, Option, Some, None, refl, sym, inl, inr, arith, rules}
 use Rattle.std.specs.List.{Contains, flat_map, slice_get}
 use Rattle.std.specs.Option.{IfSome}
 use Rattle.std.specs.Cmp.Lexicographic.{bytes_decides}
@@ -9,7 +9,7 @@ use Rattle.std.proofs.lemmas.Option.{slice_get-map, slice_get_read}
 use Rattle.sgb_vec.specs.Lexicographic.{IsBefore, IsRising}
 use Rattle.sgb_vec.specs.Ranges.{ComeAfter}
 use Rattle.sgb_vec.specs.Names.{name_of_vector}
-use Rattle.sgb_vec.specs.NamedVectors.{IsVector, vector_of}
+use Rattle.sgb_vec.specs.NamedVectors.{IsVector}
 use Rattle.sgb_vec.proofs.NameReading.{vector_of-name}
 use Rattle.sgb_vec.proofs.RisingLists.{place-once}
 use Rattle.sgb_vec.proofs.SumSuccessors.{IsBefore-asymmetric}
@@ -21,14 +21,12 @@ use Rattle.sgb.proofs.Named.{NoneBefore, has_name, named_here, named_nowhere}
 
 -- vectors of the same name are the same
 one_name : (x y : List ℕ) → IsVector x → IsVector y → name_of_vector x ≡ name_of_vector y → x ≡ y
-one_name x y is also same =
-    let both : ◌≡◌ {A = Option (List ℕ)} (Some x) (Some y) = sym (vector_of-name x is) ∙ (ap vector_of same ∙ vector_of-name y also) in
-    cc
+one_name x y is also same = grind (arith, vector_of-name x is, vector_of-name y also)
 
 -- the lines of the names from a place on are those of the vectors from there on
 pub lines_of_rest : (members rest : List (List ℕ)) (k : ℕ) → rest ≡ drop k members → name_lines (map name_of_vector members) k ≡ flat_map name_line (map name_of_vector rest)
 unfolding name_lines
-lines_of_rest members rest k same = ap (flat_map name_line) (drop-map name_of_vector k members ∙ ap (map name_of_vector) (sym same))
+lines_of_rest members rest k same = grind (arith, drop-map)
 
 module _ (members : List (List ℕ)) (vectors : (v : List ℕ) → Contains members v → IsVector v) where
   -- the name at a place
@@ -48,52 +46,37 @@ module _ (members : List (List ℕ)) (vectors : (v : List ℕ) → Contains memb
 
   -- the name of a vector that is no member is that of no member
   pub no_member_named : (x name : List ℕ) → IsVector x → name_of_vector x ≡ name → (Contains members x → ⊥) → vertex_named name (map name_of_vector members) ≡ None
-  no_member_named x name is named stranger =
-      none_named name (λ y there same. stranger (subst (Contains members) (one_name y x (vectors y there) is (same ∙ sym named)) there))
+  no_member_named x name is named stranger = none_named name (λ y there same. grind (arith, one_name y x))
 
   -- the name of a member is that of its vertex first
   pub member_named : IsRising members → (x name : List ℕ) → IsVector x → name_of_vector x ≡ name → Contains members x
       → vertex_named name (map name_of_vector members) ≡ Some (vertex_among members x)
   member_named rising x name is named (i, within, at) =
-      named_here (map name_of_vector members) name (name_of_vector x) i here own earlier ∙ ap Some (sym (vertex_in_rising members i x rising there))
-    where
-      there : slice_get members i ≡ Some x
-      there = slice_get_read members (length members) i x refl within (sym at)
-
-      here : slice_get (map name_of_vector members) i ≡ Some (name_of_vector x)
-      here = slice_get-map name_of_vector members i ∙ ap (option_map name_of_vector) there
-
-      own : has_name name (name_of_vector x) ≡ true
-      own = (bytes_decides (name_of_vector x) name).1 named
-
-      earlier : NoneBefore (map name_of_vector members) name i
-      earlier k h = elim (cases_Bool (has_name name (get_or (map name_of_vector members) k []))) [
+      let there : slice_get members i ≡ Some x = slice_get_read members (length members) i x refl within (sym at) in
+      let here : slice_get (map name_of_vector members) i ≡ Some (name_of_vector x) = grind (arith, slice_get-map) in
+      let own : has_name name (name_of_vector x) ≡ true = grind (arith, bytes_decides) in
+      let earlier : NoneBefore (map name_of_vector members) name i = λ k h. elim (cases_Bool (has_name name (get_or (map name_of_vector members) k []))) [
         | inl same ↦
-            let inside : k < length members = omega (arith, within) in
-            let equal : get_or (map name_of_vector members) k [] ≡ name = (bytes_decides (get_or (map name_of_vector members) k []) name).0 same in
-            let y = get_or members k [] in
-            let alike : y ≡ x = one_name y x (vectors y (member_at k inside)) is (sym (name_at k inside) ∙ (equal ∙ sym named)) in
-            let at_k : slice_get members k ≡ Some x = slice_get_read members (length members) k x refl inside (sym alike ∙ get_or_default members k [] x inside) in
+            let equal = (bytes_decides (get_or (map name_of_vector members) k []) name).0 same in
+            let alike = one_name (get_or members k []) x (vectors (get_or members k []) (member_at k (omega (arith, within, h)))) is (grind (arith, name_at)) in
+            let at_k = slice_get_read members (length members) k x refl (omega (arith, within, h)) (grind (arith, get_or_default)) in
             absurd (omega (arith, h, place-once IsBefore members x k i IsBefore-asymmetric rising at_k there))
         | inr differs ↦ differs
-      ]
+      ] in
+      grind (arith, named_here, vertex_in_rising)
 
 -- what comes after a vector of a list
 after_both : (x : List ℕ) (ys after : List (List ℕ)) → drop (suc (length ys)) (ys ++ x ∷ after) ≡ after
 after_both x [] after = refl
 after_both x (y ∷ ys) after = after_both x ys after
 
--- what comes after a member is the rest behind its vertex
-pub rest_after : (members : List (List ℕ)) → IsRising members → (x : List ℕ) (after : List (List ℕ)) → ComeAfter members x after → after ≡ drop (suc (vertex_among members x)) members
-rest_after members rising x after (before, whole) =
-    let i = length before in
-    let within : i < length members = omega (arith, ap length whole, length-append before (x ∷ after)) in
-    let there : slice_get members i ≡ Some x =
-    slice_get_read members (length members) i x refl within (sym (ap (λ ys. get_or ys i x) whole ∙ get_or_at before x after x i refl)) in
-    sym (ap (λ k. drop (suc k) members) (vertex_in_rising members i x rising there) ∙ ap (drop (suc i)) whole ∙ after_both x before after)
-
 -- what is left after the vector at which the listing begins
 pub rest_from : (members : List (List ℕ)) → IsRising members → (x : List ℕ) (r : Option (List (List ℕ))) (rest : List (List ℕ)) → r ≡ Some rest
     → IfSome r (λ after. ComeAfter members x after) → rest ≡ drop (suc (vertex_among members x)) members
-rest_from members rising x r rest same comes =
-    rest_after members rising x rest (subst (λ (o : Option (List (List ℕ))). IfSome o (λ after. ComeAfter members x after)) same comes)
+rest_from members rising x (Some after) rest same (before, whole) =
+    let i = length before in
+    let left : after ≡ rest = cc in
+    let at = get_or_at before x after x i refl in
+    let there : slice_get members i ≡ Some x = slice_get_read members (length members) i x refl (grind (arith, length-append)) (grind (arith)) in
+    rw (← left, vertex_in_rising members i x rising there, whole, after_both x before after) refl
+rest_from members rising x None rest same comes = absurd cc

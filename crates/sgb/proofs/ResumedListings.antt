@@ -1,10 +1,10 @@
 -- Where the answer to a request about a family begins.
-use Rattle.std.proofs.Common.{rules, ◌≡◌, ◌∙◌, ◌+◌, ◌-◌, ◌<◌, ◌≤◌, min, ℕ, suc, List, Bool, true, false, length, map, drop, Option, Some, None, option_map, Result, Err, inl, inr, refl, sym, ap, subst, arith}
+use Rattle.std.proofs.Common.{rules, ◌≡◌, ◌∙◌, ◌+◌, ◌-◌, ◌<◌, ◌≤◌, min, ℕ, suc, List, Bool, true, false, length, map, drop, Option, Some, None, option_map, Result, Err, refl, sym, ap, arith}
 use Rattle.std.specs.Bool.{OnTrue, OnFalse}
 use Rattle.std.specs.List.{slice_get}
 use Rattle.std.specs.Result.{MatchResult}
 use Rattle.std.proofs.lemmas.Bool.{cases_lt}
-use Rattle.std.proofs.lemmas.List.{drop_all, length-drop}
+use Rattle.std.proofs.lemmas.List.{drop_min, length-drop}
 use Rattle.sgb_vec.specs.Lexicographic.{IsRising}
 use Rattle.sgb_vec.specs.Names.{name_of_vector}
 use Rattle.sgb_graph.specs.Graphs.{GraphData}
@@ -23,11 +23,6 @@ use Rattle.sgb.proofs.Listings.{blocks-none}
 use Rattle.sgb_gen.proofs.FamilyWalks.{first_in_drop}
 use Rattle.sgb.proofs.LocalListings.{contains_in_drop, named_by_vectors, names_count}
 
--- nothing is left out of a list by a number that is its length at least
-pub all_skipped : (members : List (List ℕ)) (count n : ℕ) → n ≡ length members → n ≤ count → drop count members ≡ drop n members
-all_skipped members count n size most =
-    drop_all count members (omega (arith, size, most)) ∙ sym (drop_all n members (omega (arith, size)))
-
 -- the answer begins after the last of the first so many members
 pub skipped_begins : (members : List (List ℕ)) → IsRising members → (count : ℕ) (start : Option (List ℕ)) → IsLastSkipped members count start
     → BeginsAfter members (resume.Skip count) start
@@ -41,8 +36,7 @@ skipped_begins members rising count (Some x) (k, there, same) =
 pub begins_alike : {X : Type 0} (r : Result (Option X) Fault) (items : X → List ℕ) (resume : Resume) (members vectors : List (List ℕ)) → members ≡ vectors
     → MatchResult r (λ start. BeginsAfter members resume (option_map items start)) (λ fault. left_out (map name_of_vector members) resume ≡ Err fault)
     → MatchResult r (λ start. BeginsAfter vectors resume (option_map items start)) (λ fault. left_out (map name_of_vector vectors) resume ≡ Err fault)
-begins_alike r items resume members vectors same begins =
-    subst (λ vs. MatchResult r (λ start. BeginsAfter vs resume (option_map items start)) (λ fault. left_out (map name_of_vector vs) resume ≡ Err fault)) same begins
+begins_alike r items resume members vectors same begins = rw (← same) begins
 
 -- the blocks are the same where as many are left
 blocks_alike : (g : GraphData) (n j k : ℕ) → length (names_of g) ≡ n → n - j ≡ n - k → blocks g j ≡ blocks g k
@@ -56,19 +50,14 @@ left_out_of_graph g r a e = sym (ap (λ ns. left_out ns r) (named_by_vectors g) 
 pub blocks_after : (g : VectorGraph) (k : ℕ) (start after : Option (List ℕ)) → drop k g.vectors ≡ drop (start_after g.vectors start) g.vectors → after ≡ start
     → blocks (graph_described (described_by g)) k ≡ blocks (graph_described (described_by g)) (start_after g.vectors after)
 blocks_after g k start after alike is =
-    let from = start_after g.vectors start in
-    let left : length g.vectors - k ≡ length g.vectors - from = omega (arith, ap length alike, length-drop k g.vectors, length-drop from g.vectors) in
-    grind (arith, blocks_alike, names_count)
+    let count : length (drop k g.vectors) ≡ length (drop (start_after g.vectors after) g.vectors) = grind arith in
+    grind (arith, blocks_alike, names_count, length-drop)
 
 -- the last of the first so many members, by its place, where there is such a place
 pub skipped_last : (members : List (List ℕ)) (count n skipped place : ℕ) (found : Bool) (v : List ℕ) → n ≡ length members → skipped ≡ min count n → 0 < skipped → place + 1 ≡ skipped
     → OnTrue found (slice_get members place ≡ Some v) → OnFalse found (length members ≤ place)
     → (k : ℕ) × (slice_get members k ≡ Some v) × (drop count members ≡ drop (suc k) members)
 skipped_last members count n skipped place true v size least some next there none =
-    elim (cases_lt count n) [
-      | inl fewer ↦
-          let same : count ≡ suc place = omega (arith, least, next, fewer) in
-          (place, there, ap (λ k. drop k members) same)
-      | inr more ↦ grind (arith, all_skipped)
-    ]
+    let same : suc place ≡ min count (length members) = omega (arith, least, next, size) in
+    (place, there, sym (drop_min count members) ∙ ap (λ k. drop k members) (sym same))
 skipped_last members count n skipped place false v size least some next there none = absurd (omega (arith, none, size, least, next))

@@ -1,5 +1,5 @@
 -- Lines of the arcs of a list that is had run by run.
-use Rattle.std.proofs.Common.{◌≡◌, ◌∙◌, ◌+◌, ◌-◌, ◌<◌, ◌≤◌, ℕ, ℤ, List, [], ◌∷◌, ◌++◌, map, reverse, sym, ap, arith, append_assoc}
+use Rattle.std.proofs.Common.{◌≡◌, ◌+◌, ◌-◌, ◌<◌, ◌≤◌, ℕ, ℤ, List, [], ◌++◌, map, reverse, arith, append_assoc}
 use Rattle.std.specs.List.{flat_map, range_with_len}
 use Rattle.std.proofs.lemmas.Grind.{flat_map-append}
 use Rattle.std.proofs.lemmas.List.{reverse-append}
@@ -15,11 +15,8 @@ use Rattle.sgb.specs.inner.Locals.{local_block, local_line}
 pub longest-first : (f : ℕ → LocalArc) (n m : ℕ) → 0 < n → m ≡ n
     → flat_map local_line (reverse (map f (range_with_len 1 n))) ≡ local_line (f m) ++ flat_map local_line (reverse (map f (range_with_len 1 (n - 1))))
 longest-first f n m some same =
-    let k = n - 1 in
-    let next : k + 1 ≡ n = omega (arith, some) in
-    ap (flat_map local_line) (ap (λ (i : ℕ). reverse (map f (range_with_len 1 i))) (sym next)
-    ∙ ap reverse (map-range_with_len_more f 1 k m (omega (arith, next, same)))
-    ∙ reverse-append (map f (range_with_len 1 k)) (f m ∷ []))
+    let last = map-range_with_len_more f 1 (n - 1) m (omega arith) in
+    grind (arith, reverse-append)
 
 -- of those of the lengths after k up to n, the shortest first
 pub shortest-first : (f : ℕ → LocalArc) (n k : ℕ) → k < n

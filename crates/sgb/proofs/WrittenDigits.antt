@@ -1,10 +1,10 @@
 -- Names in which digits are written over.
-use Rattle.std.proofs.Common.{◌≡◌, ◌∙◌, ◌+◌, ◌-◌, ◌/◌, ◌%◌, ◌<◌, ◌≤◌, ℕ, Bool, true, false, List, [], ◌∷◌, ◌++◌, decimal, nat_lt, length, take, drop, get_or, set, refl, sym, ap, ap₂, arith, append-nil, append_assoc, length-append, length-set}
+use Rattle.std.proofs.Common.{◌≡◌, ◌+◌, ◌-◌, ◌/◌, ◌%◌, ◌<◌, ◌≤◌, ℕ, Bool, true, false, List, [], ◌∷◌, ◌++◌, decimal, nat_lt, length, take, drop, get_or, set, refl, sym, ap, arith, append_assoc, length-append, length-set}
 use Rattle.std.proofs.Math.Seq.{set-append_seam}
 use Rattle.std.proofs.lemmas.Fmt.{decimal_digit}
 use Rattle.std.proofs.lemmas.List.{at_drop_more, drop_at, length-take-le, set-append_right, take_at, take_more}
 use Rattle.sgb_vec.specs.Names.{name_of_vector}
-use Rattle.sgb.specs.inner.Texts.{entries_text, entry_text}
+use Rattle.sgb.specs.inner.Texts.{entries_text}
 use Rattle.sgb.proofs.FewDigits.{two_digits}
 use Rattle.sgb.proofs.NameEntries.{name-more, name-parts}
 
@@ -13,10 +13,6 @@ abbrev pub dot : Bool → List ℕ
 dot true = 46 ∷ []
 dot false = []
 
--- the text of an entry by its digits
-shown : (dotted : Bool) (e : ℕ) (digits : List ℕ) → decimal e ≡ digits → entry_text dotted e ≡ dot dotted ++ digits
-shown dotted e digits is = grind (arith)
-
 -- a name up to the digits of an entry
 abbrev pub front : List ℕ → List ℕ
 front a = name_of_vector a ++ dot (nat_lt 0 (length a))
@@ -24,31 +20,21 @@ front a = name_of_vector a ++ dot (nat_lt 0 (length a))
 -- these digits in a name
 name-digits : (a rest : List ℕ) (e : ℕ) (digits : List ℕ) → decimal e ≡ digits → name_of_vector (a ++ e ∷ rest) ≡ front a ++ (digits ++ entries_text true rest)
 name-digits a rest e digits is =
-    let d = nat_lt 0 (length a) in
-    let tail = entries_text true rest in
-    name-parts (a ++ e ∷ rest) (length a) (omega (arith, length-append a (e ∷ rest)))
-    ∙ ap₂ (λ p q. name_of_vector p ++ entries_text d q) (take_at a (e ∷ rest) (length a) refl) (drop_at a (e ∷ rest) (length a) refl)
-    ∙ ap (λ t. name_of_vector a ++ (t ++ tail)) (shown d e digits is)
-    ∙ ap (λ t. name_of_vector a ++ t) (append_assoc (dot d) digits tail)
-    ∙ sym (append_assoc (name_of_vector a) (dot d) (digits ++ tail))
+    let parts = name-parts (a ++ e ∷ rest) (length a) (omega (arith, length-append a (e ∷ rest))) in
+    grind (arith, take_at, drop_at, append_assoc)
 
 -- how long it is up to their end
 length-digits : (a : List ℕ) (e : ℕ) (digits : List ℕ) → decimal e ≡ digits → length (name_of_vector (a ++ e ∷ [])) ≡ length (front a) + length digits
-length-digits a e digits is =
-    ap length (name-digits a [] e digits is ∙ ap (λ t. front a ++ t) (append-nil digits)) ∙ length-append (front a) digits
-
-length-front : (a b : List ℕ) → length a ≡ length b → length (name_of_vector a) ≡ length (name_of_vector b) → length (front a) ≡ length (front b)
-length-front a b same names = grind (arith, length-append)
+length-digits a e digits is = grind (arith, name-more, length-append)
 
 -- ---- bytes written over
 
 -- one
 over-one : (old a tail : List ℕ) (x y place : ℕ) → place ≡ length old + length a → set (old ++ (a ++ x ∷ tail)) place y ≡ old ++ (a ++ y ∷ tail)
 over-one old a tail x y place at =
-    let here : place - length old ≡ length a = omega (arith, at) in
-    set-append_right old (a ++ x ∷ tail) (length old) place y refl (omega (arith, at))
-    ∙ ap (λ (n : ℕ). old ++ set (a ++ x ∷ tail) n y) here
-    ∙ ap (λ t. old ++ t) (set-append_seam a x tail y)
+    let right = set-append_right old (a ++ x ∷ tail) (length old) place y refl (omega (arith, at)) in
+    let seam = set-append_seam a x tail y in
+    grind (arith)
 
 -- two
 over-two : (old a tail : List ℕ) (x z y w place : ℕ) → place ≡ length old + length a → set (set (old ++ (a ++ x ∷ z ∷ tail)) place y) (place + 1) w ≡ old ++ (a ++ y ∷ w ∷ tail)
@@ -86,41 +72,26 @@ module _ (old v other : List ℕ) (k : ℕ) (page : List ℕ) (width : length ot
   first-more = take_more other k 0 (omega (arith, width, within))
 
   turned-next : take (k + 1) other ++ rest ≡ first ++ entry ∷ rest
-  turned-next = ap (λ l. l ++ rest) first-more ∙ append_assoc first (entry ∷ []) rest
+  turned-next = grind (arith, first-more, append_assoc)
 
   long : length first ≡ length (take k v)
-  long = length-take-le k other (omega (arith, width, within)) ∙ sym (length-take-le k v (omega (arith, within)))
+  long = grind (arith, length-take-le)
 
   -- an entry that is the same
   pub turned-same : entry ≡ before → IsTurnedTo old v other (k + 1) page
-  turned-same same = record {
-    text = so.text ∙ ap (λ w. old ++ name_of_vector w) (turned-now ∙ ap (λ (e : ℕ). first ++ e ∷ rest) (sym same) ∙ sym turned-next);
-    fronts = ap length (ap name_of_vector first-more ∙ name-more first entry)
-        ∙ length-append (name_of_vector first) (entry_text (nat_lt 0 (length first)) entry)
-        ∙ ap₂ (λ (m n : ℕ). m + length (entry_text (nat_lt 0 n) entry)) so.fronts long
-        ∙ ap (λ (e : ℕ). length (name_of_vector (take k v)) + length (entry_text (nat_lt 0 (length (take k v))) e)) same
-        ∙ sym (length-append (name_of_vector (take k v)) (entry_text (nat_lt 0 (length (take k v))) before))
-        ∙ sym (ap length (ap name_of_vector (take_more v k 0 within) ∙ name-more (take k v) before));
-    size = so.size;
-  }
+  turned-same same = grind (arith, turned-now, turned-next, first-more, name-more, length-append, long, take_more v k 0 within)
 
   -- where the digits of this entry end
   digits-end : (mine : List ℕ) → decimal before ≡ mine → length (name_of_vector (take (k + 1) v)) ≡ length (front first) + length mine
-  digits-end mine is =
-      ap (λ w. length (name_of_vector w)) (take_more v k 0 within) ∙ length-digits (take k v) before mine is
-      ∙ ap (λ (n : ℕ). n + length mine) (sym (length-front first (take k v) long so.fronts))
+  digits-end mine is = grind (arith, take_more v k 0 within, length-digits, length-append, long)
 
   digits-before : (mine : List ℕ) → decimal before ≡ mine → page ≡ old ++ (front first ++ (mine ++ entries_text true rest))
-  digits-before mine is = so.text ∙ ap (λ t. old ++ t) (ap name_of_vector turned-now ∙ name-digits first rest before mine is)
+  digits-before mine is = grind (arith, turned-now, name-digits)
 
   -- digits that are written over by as many
   turned-digits : (mine theirs after : List ℕ) → decimal before ≡ mine → decimal entry ≡ theirs → length theirs ≡ length mine
       → length after ≡ length page → after ≡ old ++ (front first ++ (theirs ++ entries_text true rest)) → IsTurnedTo old v other (k + 1) after
-  turned-digits mine theirs after is are same size over = record {
-    text = over ∙ ap (λ t. old ++ t) (sym (ap name_of_vector turned-next ∙ name-digits first rest entry theirs are));
-    fronts = ap (λ w. length (name_of_vector w)) first-more ∙ length-digits first entry theirs are ∙ ap (λ (n : ℕ). length (front first) + n) same ∙ sym (digits-end mine is);
-    size = size ∙ so.size;
-  }
+  turned-digits mine theirs after is are same size over = grind (arith, turned-next, name-digits, first-more, length-digits, digits-end)
 
   -- where the digit of this entry ends
   pub digit-end : before < 10 → length (name_of_vector (take (k + 1) v)) ≡ length (front first) + 1
@@ -130,11 +101,8 @@ module _ (old v other : List ℕ) (k : ℕ) (page : List ℕ) (width : length ot
   pub turned-digit : (start end : ℕ) (after : List ℕ) → before < 10 → entry < 10 → start ≡ length old → end ≡ length (name_of_vector (take (k + 1) v))
       → after ≡ set page (start + end - 1) (48 + entry) → IsTurnedTo old v other (k + 1) after
   turned-digit start end after few less starts ends is =
-      let mine = decimal_digit before few in
-      turned-digits ((48 + before) ∷ []) ((48 + entry) ∷ []) after mine (decimal_digit entry less) refl
-      (ap length is ∙ length-set page (start + end - 1) (48 + entry))
-      (is ∙ ap (λ p. set p (start + end - 1) (48 + entry)) (digits-before ((48 + before) ∷ []) mine)
-      ∙ over-one old (front first) (entries_text true rest) (48 + before) (48 + entry) (start + end - 1) (omega (arith, starts, ends, digit-end few)))
+      let now = digits-before ((48 + before) ∷ []) (decimal_digit before few) in
+      turned-digits ((48 + before) ∷ []) ((48 + entry) ∷ []) after (decimal_digit before few) (decimal_digit entry less) refl (grind (arith, length-set)) (grind (arith, over-one, digit-end))
 
   -- and two digits
   pub two-end : 10 ≤ before → before < 100 → length (name_of_vector (take (k + 1) v)) ≡ length (front first) + 2
@@ -144,12 +112,16 @@ module _ (old v other : List ℕ) (k : ℕ) (page : List ℕ) (width : length ot
       → start ≡ length old → end ≡ length (name_of_vector (take (k + 1) v))
       → after ≡ set (set page (start + end - 2) (48 + entry / 10)) (start + end - 2 + 1) (48 + entry % 10) → IsTurnedTo old v other (k + 1) after
   turned-two start end after more few over less starts ends is =
-      let place = start + end - 2 in
       let mine = two-digits before more few in
-      let one = (48 + before / 10) ∷ (48 + before % 10) ∷ [] in
-      let two = (48 + entry / 10) ∷ (48 + entry % 10) ∷ [] in
-      turned-digits one two after mine (two-digits entry over less) refl
-      (ap length is ∙ length-set (set page place (48 + entry / 10)) (place + 1) (48 + entry % 10) ∙ length-set page place (48 + entry / 10))
-      (is ∙ ap (λ p. set (set p place (48 + entry / 10)) (place + 1) (48 + entry % 10)) (digits-before one mine)
-      ∙ over-two old (front first) (entries_text true rest) (48 + before / 10) (48 + before % 10) (48 + entry / 10) (48 + entry % 10) place
-      (omega (arith, starts, ends, two-end more few)))
+      let now = digits-before ((48 + before / 10) ∷ (48 + before % 10) ∷ []) mine in
+      turned-digits _ _ after mine (two-digits entry over less) refl (grind (arith, length-set)) (grind (arith, over-two, two-end))
+
+-- a name with an entry of one digit is not empty
+pub name-one : (v : List ℕ) (k : ℕ) → k < length v → get_or v k 0 < 10 → 1 ≤ length (name_of_vector (take (k + 1) v))
+name-one v k within few =
+    omega (arith, ap (λ w. length (name_of_vector w)) (take_more v k 0 within), length-digits (take k v) (get_or v k 0) _ (decimal_digit (get_or v k 0) few))
+
+-- and that with one of two digits has two bytes
+pub name-two : (v : List ℕ) (k : ℕ) → k < length v → 10 ≤ get_or v k 0 → get_or v k 0 < 100 → 2 ≤ length (name_of_vector (take (k + 1) v))
+name-two v k within more few =
+    omega (arith, ap (λ w. length (name_of_vector w)) (take_more v k 0 within), length-digits (take k v) (get_or v k 0) _ (two-digits (get_or v k 0) more few))

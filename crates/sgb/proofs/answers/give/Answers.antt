@@ -1,8 +1,7 @@
-use Rattle.std.proofs.Common.{rules, refl}
+use Rattle.std.proofs.Common.{refl}
 use Rattle.std.proofs.lemmas.Result.{err_from_is_err_and}
 use Rattle.sgb.proofs.CertainAnswers.{exit_certain, write_certain}
-use Rattle.sgb.proofs.Endings.{flush_ended}
-use Rattle.sgb.proofs.InputEndings.{read_refused, read_sound, some_kept}
+use Rattle.sgb.proofs.Endings.{flush_ended, read_refused, read_sound, some_kept}
 use Rattle.sgb.proofs.answers.give.Goals as goal
 
 pub returns-in_err-input-clause-ended : goal.returns-in_err-input-clause-ended
@@ -28,9 +27,6 @@ returns-clause-ended g c =
       λ a answer. read_sound _ a _ _ _ c.in_ok-input.ensures.ended
           (flush_ended a _ _ _ _ _ _ _ _ _ (c.in_ok-write.ensures.ended a answer) passed.kept passed.failed passed.fault),
     )
-
-pub returns-in_err-input-clause-certain : goal.returns-in_err-input-clause-certain
-returns-in_err-input-clause-certain g c = search rules
 
 pub returns-in_err-write-clause-certain : goal.returns-in_err-write-clause-certain
 returns-in_err-write-clause-certain g c = λ unread needs. exit_certain _ _ c.from_residual-in_err-write.ensures.1 (c.in_err-write.ensures.memory needs)

@@ -1,7 +1,6 @@
 use Rattle.std.proofs.Common.{◌∙◌, sym}
 use Rattle.sgb.proofs.CertainAnswers.{certain_err, certain_ok}
-use Rattle.sgb.proofs.Endings.{fault_status}
-use Rattle.sgb.proofs.InputEndings.{answers_from_ok, answers_from_err}
+use Rattle.sgb.proofs.Endings.{fault_status, answers_from_ok, answers_from_err}
 use Rattle.sgb.proofs.answers.run_answer.Goals as goal
 
 pub returns-in-Ok-clause-answers : goal.returns-in-Ok-clause-answers

@@ -1,4 +1,4 @@
-use Rattle.std.proofs.Common.{◌≡◌, ◌||◌, ◌∙◌, ◌++◌, ℤ, List, [], ◌∷◌, map, Result, Ok, Err, refl, ap, sym, subst, w64, rules, arith, inr}
+use Rattle.std.proofs.Common.{◌≡◌, ◌||◌, ◌∙◌, ◌++◌, ℤ, List, [], ◌∷◌, map, Result, Ok, Err, refl, ap, sym, subst, w64, rules, arith, inr, ℕ, Bool, IfOk}
 use Rattle.std.proofs.lemmas.Result.{err_from_is_err_and}
 use Rattle.std.proofs.lemmas.Int.{to_z-of_z}
 use Rattle.std.proofs.lemmas.List.{map-append}
@@ -6,12 +6,11 @@ use Rattle.sgb_vec.specs.declared.panics.Panic.{Panic}
 use Rattle.sgb_graph.specs.Descriptions.{Description, IsAnswerOf}
 use Rattle.sgb_graph.specs.Graphs.{GraphData}
 use Rattle.sgb_expr.specs.Listed.{listed}
-use Rattle.sgb_expr.specs.Expression.{entries_of, expression_of}
+use Rattle.sgb_expr.specs.Expression.{entries_of, expression_of, Expression, Entries}
 use Rattle.sgb_expr.specs.StdinUses.{entries_have_stdin, has_stdin}
 use Rattle.sgb_expr.specs.declared.entries.EntryExpr.{EntryExpr}
 use Rattle.sgb_ops.specs.Induced.{induced_of}
 use Rattle.sgb_ops.specs.declared.entries.Entry.{Entry}
-use Rattle.sgb_expr.specs.declared.expressions.Expr.{Expr}
 use Rattle.sgb_ops.specs.Complement.{complement_of}
 use Rattle.sgb_ops.specs.Gunion.{gunion_of}
 use Rattle.sgb_ops.specs.Intersection.{intersection_of}
@@ -23,15 +22,29 @@ use Rattle.sgb_vec.specs.Results.{IsValue}
 use Rattle.sgb.specs.Values.{made, value_of, values_of}
 use Rattle.sgb.specs.inner.EntryValues.{handed_entry}
 use Rattle.sgb.specs.inner.Inputs.{left_after}
-use Rattle.sgb.proofs.EntryValues.{and_values, entries_made, entries_refused, induced_reads, induced_size, induced_value, one_more}
+use Rattle.sgb.proofs.Values.{and_values, both_refused, induced_reads, induced_size, induced_value, one_more, size_of_entries, then_refused, value_both, value_made, value_one, value_two}
 use Rattle.sgb.proofs.FirstRefusals.{exit_first, made_first, made_operands, numbers_refused}
-use Rattle.sgb.proofs.InputsLeft.{if_ok, left_on, value_on, values_on}
-use Rattle.sgb.proofs.Values.{both_refused, size_of_entries, value_both, value_made, value_one, value_two}
 use Rattle.sgb.proofs.evaluation.+graphs.Goals as goal
+use Rattle.sgb.proofs.StdinValues.{value_same, values_same}
 
--- the value of an operand that stands in a box
-at_value : (stdin : Result GraphData Panic) (e f : Expr) (g : GraphData) → e ≡ f → value_of stdin (expression_of e) ≡ Ok g → value_of stdin (expression_of f) ≡ Ok g
-at_value stdin e f g same is = subst (λ (x : Expr). value_of stdin (expression_of x) ≡ Ok g) same is
+-- an expression has the same value on what is left for it
+value_on : (more first again : Bool) (old mid : List ℕ) (stdin : List ℕ → Result GraphData Panic) (e : Expression) → again ≡ (more || has_stdin e) → mid ≡ left_after again first old
+    → value_of (stdin mid) e ≡ value_of (stdin old) e
+value_on more first again old mid stdin e told left = grind (arith, value_same)
+
+-- entries have the same values on what is left for them
+values_on : (more first again : Bool) (old mid : List ℕ) (stdin : List ℕ → Result GraphData Panic) (es : Entries) → again ≡ (more || entries_have_stdin es) → mid ≡ left_after again first old
+    → values_of (stdin mid) es ≡ values_of (stdin old) es
+values_on more first again old mid stdin es told left = grind (arith, values_same)
+
+-- what both leave, of which the first was told whether the second reads
+left_on : (more first again : Bool) (old mid : List ℕ) (second : Bool) (new : List ℕ) → again ≡ (more || second) → mid ≡ left_after again first old → new ≡ left_after more second mid
+    → new ≡ left_after more (first || second) old
+left_on more first again old mid second new told left after = grind arith
+
+-- what holds of any result holds of a good one
+if_ok : {T E : Type 0} (r : Result T E) (P : Type 0) → P → IfOk r (λ _. P)
+if_ok r P p = grind (arith)
 
 pub evaluate-returns-in-Generator-clause-value : goal.evaluate-returns-in-Generator-clause-value
 evaluate-returns-in-Generator-clause-value t c =
@@ -155,49 +168,33 @@ evaluate-returns-in_err-values-in-Induced-clause-value t c = λ stdin gives.
     let a = c.in-Induced in
     let p = err_from_is_err_and c.from_residual-in_err-values-in-Induced.result c.from_residual-in_err-values-in-Induced.ensures.1 in
     let same = values_on _ _ _ _ _ stdin (entries_of (listed c.as_slice-entries.result.now)) c.more_in.ensures c.in_ok-operand-in-Induced.ensures.left in
-    let refused = subst (λ (v : Result (List Entry) Panic). IsValue v (Err c.in_err-values-in-Induced.field-0.0)) same (c.in_err-values-in-Induced.ensures.refused stdin gives) in
-    let by = subst (λ (es : List EntryExpr). IsValue (values_of (stdin c.args.input.now) (entries_of (listed es))) (Err c.in_err-values-in-Induced.field-0.0)) c.as_slice-entries.ensures refused in
-    rw (p.1, p.2)
-    (subst (λ (v : Result GraphData Panic). IsValue v (Err c.in_err-values-in-Induced.field-0.0)) (sym (induced_value (stdin c.args.input.now) c.args.expression.now a.graph a.entries a.self_loops a.multi a.directed a.is))
-    (entries_refused _ _ c.in_ok-operand-in-Induced.operand a.self_loops a.multi a.directed c.in_err-values-in-Induced.field-0.0
-    (at_value (stdin c.args.input.now) _ a.graph.value c.in_ok-operand-in-Induced.operand c.deref-in-Induced.ensures (c.in_ok-operand-in-Induced.ensures.value stdin gives)) by))
+    rw (p.1, p.2) (induced_value (stdin c.args.input.now) c.args.expression.now _ _ _ _ (Err c.in_err-values-in-Induced.field-0.0) a.graph a.entries a.self_loops a.multi a.directed a.is c.deref-in-Induced.ensures c.as_slice-entries.ensures (c.in_ok-operand-in-Induced.ensures.value stdin gives)
+    same (then_refused _ _ c.in_err-values-in-Induced.field-0.0 (c.in_err-values-in-Induced.ensures.refused stdin gives)))
 
 pub evaluate-returns-in_err-list-in-Induced-clause-value : goal.evaluate-returns-in_err-list-in-Induced-clause-value
 evaluate-returns-in_err-list-in-Induced-clause-value t c = λ stdin gives.
     let a = c.in-Induced in
     let p = err_from_is_err_and c.from_residual-in_err-list-in-Induced.result c.from_residual-in_err-list-in-Induced.ensures.1 in
-    let values = map handed_entry c.in_ok-values-in-Induced.values.items in
     let same = values_on _ _ _ _ _ stdin (entries_of (listed c.as_slice-entries.result.now)) c.more_in.ensures c.in_ok-operand-in-Induced.ensures.left in
-    let is = subst (λ (es : List EntryExpr). values_of (stdin c.args.input.now) (entries_of (listed es)) ≡ Ok values) c.as_slice-entries.ensures (sym same ∙ (c.in_ok-values-in-Induced.ensures.ok stdin gives)) in
-    rw (p.1, p.2)
-    (subst (λ (v : Result GraphData Panic). IsValue v (Err c.in_err-list-in-Induced.field-0.0)) (sym (induced_value (stdin c.args.input.now) c.args.expression.now a.graph a.entries a.self_loops a.multi a.directed a.is))
-    (entries_made _ _ c.in_ok-operand-in-Induced.operand values a.self_loops a.multi a.directed (Err c.in_err-list-in-Induced.field-0.0)
-    (at_value (stdin c.args.input.now) _ a.graph.value c.in_ok-operand-in-Induced.operand c.deref-in-Induced.ensures (c.in_ok-operand-in-Induced.ensures.value stdin gives)) is
-    (inr c.in_err-list-in-Induced.ensures.memory)))
+    rw (p.1, p.2) (induced_value (stdin c.args.input.now) c.args.expression.now _ _ _ (Ok (map handed_entry c.in_ok-values-in-Induced.values.items)) (Err c.in_err-list-in-Induced.field-0.0) a.graph a.entries a.self_loops a.multi a.directed a.is c.deref-in-Induced.ensures c.as_slice-entries.ensures (c.in_ok-operand-in-Induced.ensures.value stdin gives)
+    (sym (c.in_ok-values-in-Induced.ensures.ok stdin gives) ∙ same) (inr c.in_err-list-in-Induced.ensures.memory))
 
 pub evaluate-returns-in_ok-list-in-Induced-clause-value : goal.evaluate-returns-in_ok-list-in-Induced-clause-value
 evaluate-returns-in_ok-list-in-Induced-clause-value t c = λ stdin gives.
     let a = c.in-Induced in
-    let values = map handed_entry c.in_ok-values-in-Induced.values.items in
-    let list = c.in_ok-list-in-Induced.list.items in
     let operand = c.in_ok-operand-in-Induced.operand in
     let same = values_on _ _ _ _ _ stdin (entries_of (listed c.as_slice-entries.result.now)) c.more_in.ensures c.in_ok-operand-in-Induced.ensures.left in
-    let is = subst (λ (es : List EntryExpr). values_of (stdin c.args.input.now) (entries_of (listed es)) ≡ Ok values) c.as_slice-entries.ensures (sym same ∙ (c.in_ok-values-in-Induced.ensures.ok stdin gives)) in
-    let answer : IsAnswerOf (induced_of operand list a.self_loops a.multi a.directed) c.induced_from.result = c.induced_from.ensures.answer in
-    subst (λ (v : Result GraphData Panic). IsValue v c.induced_from.result) (sym (induced_value (stdin c.args.input.now) c.args.expression.now a.graph a.entries a.self_loops a.multi a.directed a.is))
-    (entries_made _ _ operand values a.self_loops a.multi a.directed c.induced_from.result
-    (at_value (stdin c.args.input.now) _ a.graph.value operand c.deref-in-Induced.ensures (c.in_ok-operand-in-Induced.ensures.value stdin gives)) is
-    (subst (λ (es : List Entry). IsValue (made (induced_of operand es a.self_loops a.multi a.directed)) c.induced_from.result) c.in_ok-list-in-Induced.ensures.ok
-    (value_made (induced_of operand list a.self_loops a.multi a.directed) c.induced_from.result answer)))
+    let answer : IsAnswerOf (induced_of operand c.in_ok-list-in-Induced.list.items a.self_loops a.multi a.directed) c.induced_from.result = c.induced_from.ensures.answer in
+    induced_value (stdin c.args.input.now) c.args.expression.now _ _ _ (Ok (map handed_entry c.in_ok-values-in-Induced.values.items)) c.induced_from.result a.graph a.entries a.self_loops a.multi a.directed a.is c.deref-in-Induced.ensures c.as_slice-entries.ensures (c.in_ok-operand-in-Induced.ensures.value stdin gives)
+    (sym (c.in_ok-values-in-Induced.ensures.ok stdin gives) ∙ same)
+    (subst (λ (es : List Entry). IsValue (made (induced_of operand es a.self_loops a.multi a.directed)) c.induced_from.result) c.in_ok-list-in-Induced.ensures.ok (value_made _ _ answer))
 
 pub evaluate-returns-in_ok-list-in-Induced-clause-left : goal.evaluate-returns-in_ok-list-in-Induced-clause-left
 evaluate-returns-in_ok-list-in-Induced-clause-left t c =
     let a = c.in-Induced in
     let left = left_on c.args.more _ _ _ _ (entries_have_stdin (entries_of (listed c.as_slice-entries.result.now))) _ c.more_in.ensures c.in_ok-operand-in-Induced.ensures.left c.in_ok-values-in-Induced.ensures.left in
-    let graph = ap (λ x. has_stdin (expression_of x) || entries_have_stdin (entries_of (listed c.as_slice-entries.result.now))) c.deref-in-Induced.ensures in
-    let entries = ap (λ es. has_stdin (expression_of a.graph.value) || entries_have_stdin (entries_of (listed es))) c.as_slice-entries.ensures in
-    let all = induced_reads c.args.expression.now a.graph a.entries a.self_loops a.multi a.directed a.is in
-    if_ok c.induced_from.result _ (left ∙ ap (λ reads. left_after c.args.more reads c.args.input.now) (graph ∙ entries ∙ sym all))
+    let all = induced_reads c.args.expression.now _ _ a.graph a.entries a.self_loops a.multi a.directed a.is c.deref-in-Induced.ensures c.as_slice-entries.ensures in
+    if_ok c.induced_from.result _ (left ∙ ap (λ reads. left_after c.args.more reads c.args.input.now) (sym all))
 
 pub operands-returns-in_err-right-clause-value : goal.operands-returns-in_err-right-clause-value
 operands-returns-in_err-right-clause-value t c = λ stdin gives.

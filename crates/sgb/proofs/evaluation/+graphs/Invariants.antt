@@ -8,8 +8,7 @@ use Rattle.sgb.specs.Values.{values_of}
 use Rattle.sgb.specs.inner.EntryValues.{handed_entry}
 use Rattle.sgb.specs.inner.Inputs.{left_after}
 use Rattle.sgb.specs.inner.StdinValues.{GivesStdin}
-use Rattle.sgb.proofs.EntryValues.{and_values}
-use Rattle.sgb.proofs.Values.{size_of, size_of_entries, size_of_entry}
+use Rattle.sgb.proofs.Values.{and_values, size_of, size_of_entries, size_of_entry}
 use Rattle.sgb.proofs.evaluation.+graphs.Given as goal
 
 -- an expression is larger than its operands together

@@ -1,4 +1,4 @@
-use Rattle.std.proofs.Common.{rules, ◌≡◌, Result, subst, neg_ℤ, pos, false}
+use Rattle.std.proofs.Common.{rules, ◌≡◌, Result, subst, neg_ℤ, false}
 use Rattle.std.proofs.lemmas.Result.{err_from_is_err_and}
 use Rattle.sgb_vec.specs.Results.{IsValue}
 use Rattle.sgb_vec.specs.declared.panics.Panic.{Panic}
@@ -7,7 +7,7 @@ use Rattle.sgb_graph.specs.Graphs.{GraphData}
 use Rattle.sgb_expr.specs.declared.expressions.Generator.{Generator}
 use Rattle.sgb_ops.specs.Gunion.{gunion_of}
 use Rattle.sgb.specs.Outcomes.{moves_of, queen_moves}
-use Rattle.sgb.specs.Values.{both, generator_value, made}
+use Rattle.sgb.specs.Values.{generator_value, made}
 use Rattle.sgb.proofs.Values.{first_refused, value_both, value_made, value_then}
 use Rattle.sgb.proofs.evaluation.queen_moves.Goals as goal
 
@@ -22,7 +22,6 @@ returns-in_err-rooks c = search (rules, err_from_is_err_and, first_refused, made
 pub returns : goal.returns
 unfolding queen_moves
 returns c =
-    value_then (both (made (generator_value (moves_of (neg_ℤ (pos 1))))) (made (generator_value (moves_of (neg_ℤ (pos 2)))))) (c.in_ok-rooks.rooks, c.in_ok-bishops.bishops)
-    (λ operands. made (gunion_of operands.0 operands.1 false false)) c.gunion.result
-    (value_both _ _ c.in_ok-rooks.rooks c.in_ok-bishops.bishops (moves_made _ _ _ c.moves_of.ensures c.in_ok-rooks.ensures.answer) (moves_made _ _ _ c.moves_of-2.ensures c.in_ok-bishops.ensures.answer))
+    let both_made = value_both _ _ c.in_ok-rooks.rooks c.in_ok-bishops.bishops (moves_made _ _ _ c.moves_of.ensures c.in_ok-rooks.ensures.answer) (moves_made _ _ _ c.moves_of-2.ensures c.in_ok-bishops.ensures.answer) in
+    value_then _ (c.in_ok-rooks.rooks, c.in_ok-bishops.bishops) (λ operands. made (gunion_of operands.0 operands.1 false false)) c.gunion.result both_made
     (value_made (gunion_of c.in_ok-rooks.rooks c.in_ok-bishops.bishops false false) c.gunion.result c.gunion.ensures)

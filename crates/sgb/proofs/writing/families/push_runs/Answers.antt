@@ -1,28 +1,26 @@
 use Rattle.std.proofs.Common.{◌∙◌, refl, sym, ap, arith}
-use Rattle.std.specs.List.{flat_map}
-use Rattle.sgb.specs.inner.Locals.{local_line}
-use Rattle.sgb.proofs.Pages.{exit_paged, paged_cut, paged_more}
+use Rattle.sgb.proofs.Pages.{paged_more, exit_part}
 use Rattle.sgb.proofs.RunLines.{run-lines}
 use Rattle.sgb.proofs.writing.families.push_runs.Goals as goal
 
 pub returns-in_err-push_ahead : goal.returns-in_err-push_ahead
 returns-in_err-push_ahead g c =
     let run = c.next_run-run.result in
-    let first = run-lines c.loop-run.left c.next_run-run.new.self c.args.name.now run.ahead.now run.back.now run.farthest run.farthest_back c.next_run-run.ensures.left c.loop-run.invariant.named c.next_run-run.ensures.arcs in
-    exit_paged c.args.page.now (flat_map local_line c.args.runs.arcs) _ _ _ _ c.from_residual.ensures.1 (paged_cut _ _ _ _ _ _ _ _ _ _ _ first c.loop-run.invariant.lines c.in_err-push_ahead.ensures)
+    let first = run-lines c.loop-run.left _ c.args.name.now run.ahead.now run.back.now run.farthest run.farthest_back c.next_run-run.ensures.left c.loop-run.invariant.named c.next_run-run.ensures.arcs in
+    exit_part _ _ _ _ _ _ _ _ _ _ _ _ _ c.from_residual.ensures.1 c.loop-run.invariant.lines c.in_err-push_ahead.ensures first
 
 pub returns-in_err-push_back : goal.returns-in_err-push_back
 returns-in_err-push_back g c =
     let run = c.next_run-run.result in
-    let first = run-lines c.loop-run.left c.next_run-run.new.self c.args.name.now run.ahead.now run.back.now run.farthest run.farthest_back c.next_run-run.ensures.left c.loop-run.invariant.named c.next_run-run.ensures.arcs in
-    exit_paged c.args.page.now (flat_map local_line c.args.runs.arcs) _ _ _ _ c.from_residual-in_err-push_back.ensures.1
-    (paged_cut _ _ _ _ _ _ _ _ _ _ _ refl (paged_more _ _ _ _ _ _ _ _ _ _ first c.loop-run.invariant.lines c.in_ok-push_ahead.ensures.output) c.in_err-push_back.ensures)
+    let first = run-lines c.loop-run.left _ c.args.name.now run.ahead.now run.back.now run.farthest run.farthest_back c.next_run-run.ensures.left c.loop-run.invariant.named c.next_run-run.ensures.arcs in
+    exit_part _ _ _ _ _ _ _ _ _ _ _ _ _ c.from_residual-in_err-push_back.ensures.1
+    (paged_more _ _ _ _ _ _ _ _ _ _ first c.loop-run.invariant.lines c.in_ok-push_ahead.ensures.output) c.in_err-push_back.ensures refl
 
 pub loop-run-preserved : goal.loop-run-preserved
 loop-run-preserved g c =
-    let run = c.next_run-run.result in
     let left = c.next_run-run.ensures.left in
-    let first = run-lines c.loop-run.left c.next_run-run.new.self c.args.name.now run.ahead.now run.back.now run.farthest run.farthest_back left c.loop-run.invariant.named c.next_run-run.ensures.arcs in
+    let run = c.next_run-run.result in
+    let first = run-lines c.loop-run.left _ c.args.name.now run.ahead.now run.back.now run.farthest run.farthest_back c.next_run-run.ensures.left c.loop-run.invariant.named c.next_run-run.ensures.arcs in
     record {
       lines = paged_more _ _ _ _ _ _ _ _ _ _ refl (paged_more _ _ _ _ _ _ _ _ _ _ first c.loop-run.invariant.lines c.in_ok-push_ahead.ensures.output) c.in_ok-push_back.ensures.output;
       named = c.loop-run.invariant.named ∙ sym (ap (λ d. d.x) left);

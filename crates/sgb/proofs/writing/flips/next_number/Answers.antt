@@ -1,4 +1,4 @@
-use Rattle.std.proofs.Common.{◌≤◌, ◌+◌, arith}
+use Rattle.std.proofs.Common.{◌+◌, arith}
 use Rattle.sgb_graph.specs.Draws.{seed_of}
 use Rattle.sgb.proofs.DrawnNumbers.{plain_first, uniform_first}
 use Rattle.sgb.proofs.writing.flips.next_number.Goals as goal
@@ -10,6 +10,5 @@ returns-then-m-eq0 c start k at =
 
 pub returns-else-m-eq0 : goal.returns-else-m-eq0
 returns-else-m-eq0 c start k at =
-    let some : 1 ≤ c.args.m = omega (arith, c.if-m-eq0.false) in
     let drawn = c.below.ensures.stands start k at in
-    (drawn.0 + 1, drawn.2, λ count. uniform_first (seed_of start) c.args.m k c.below.result drawn.0 count some c.requires drawn.1)
+    (drawn.0 + 1, drawn.2, λ count. uniform_first (seed_of start) c.args.m k c.below.result drawn.0 count (omega (arith, c.if-m-eq0.false)) c.requires drawn.1)

@@ -1,7 +1,6 @@
-use Rattle.std.proofs.Common.{◌≡◌, ◌∙◌, ◌++◌, List, ℕ, [], ◌∷◌, decimal, ap, append_assoc}
 use Rattle.sgb.specs.inner.Texts.{number_line}
 use Rattle.sgb.proofs.CutOff.{exit_write}
-use Rattle.sgb.proofs.Pages.{exit_untaken, held_line}
+use Rattle.sgb.proofs.Pages.{exit_untaken, held_two}
 use Rattle.sgb.proofs.writing.flips.push_number_line.Goals as goal
 
 pub returns-in_err-make_room : goal.returns-in_err-make_room
@@ -11,8 +10,7 @@ returns-in_err-make_room g c = record {
 }
 
 pub returns-clause-paged : goal.returns-clause-paged
-returns-clause-paged g c =
-    let page : List ℕ = c.make_room.new.page in
-    let text : c.push_text.new.self ≡ page ++ number_line c.args.number =
-    c.push_text.ensures.put ∙ ap (λ (line : List ℕ). line ++ 10 ∷ []) c.push_number.ensures.text ∙ append_assoc page (decimal c.args.number) (10 ∷ []) in
-    record { output = held_line _ _ _ _ _ _ c.in_ok-make_room.ensures.paged.output text; sound = c.in_ok-make_room.ensures.paged.sound }
+returns-clause-paged g c = record {
+  output = held_two _ _ _ _ _ _ _ _ c.in_ok-make_room.ensures.paged.output c.push_number.ensures.text c.push_text.ensures.put;
+  sound = c.in_ok-make_room.ensures.paged.sound;
+}

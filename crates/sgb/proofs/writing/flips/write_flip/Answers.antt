@@ -1,12 +1,11 @@
-use Rattle.std.proofs.Common.{sym}
+use Rattle.std.proofs.Common.{rules}
 use Rattle.sgb.proofs.CertainAnswers.{exit_panic, write_certain}
 use Rattle.sgb.proofs.FirstRefusals.{other_code}
 use Rattle.sgb.proofs.Refusals.{draws_judged}
 use Rattle.sgb.proofs.writing.flips.write_flip.Goals as goal
 
 pub returns-in_err-draws-clause-certain : goal.returns-in_err-draws-clause-certain
-returns-in_err-draws-clause-certain g c =
-    exit_panic _ _ c.from_residual.ensures.1 (other_code _ _ (draws_judged c.args.params.now) (sym c.in_err-draws.ensures))
+returns-in_err-draws-clause-certain g c = search (rules, exit_panic, other_code, draws_judged)
 
 pub returns-clause-certain : goal.returns-clause-certain
 returns-clause-certain g c = write_certain _ c.write_draws.ensures.fault

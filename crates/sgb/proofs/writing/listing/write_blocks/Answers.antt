@@ -1,31 +1,25 @@
-use Rattle.std.proofs.Common.{rules, ◌≡◌, ◌<◌, ◌∙◌, min, sym, ap, length, arith}
+use Rattle.std.proofs.Common.{rules, ◌≡◌, ◌∙◌, min, sym, ap, length, arith}
 use Rattle.std.proofs.lemmas.List.{length-map}
 use Rattle.sgb_graph.specs.Vertices.{names_of}
 use Rattle.sgb.specs.Texts.{blocks}
-use Rattle.sgb.proofs.Listings.{blocks-first, blocks-min, blocks-none}
+use Rattle.sgb.proofs.Listings.{blocks-min, blocks-none, blocks-next}
 use Rattle.sgb.proofs.CutOff.{exit_cut}
 use Rattle.sgb.proofs.Pages.{paged_all, paged_cut, paged_left, paged_more, written_held}
 use Rattle.sgb.proofs.writing.listing.write_blocks.Goals as goal
 
 pub loop-v-init : goal.loop-v-init
 loop-v-init g c =
-    let graph = c.args.graph.now in
-    let start : min c.args.from (length (names_of graph)) ≡ c.min-start.result =
+    let start : min c.args.from (length (names_of c.args.graph.now)) ≡ c.min-start.result =
     omega (arith, length-map c.args.graph.now.vertices (λ v. v.name), c.n-end.ensures.count, c.min-start.ensures, c.from.ensures) in
-    let left = sym (blocks-min graph c.args.from) ∙ ap (blocks graph) start in
-    (paged_left _ _ c.args.page.now _ left, c.requires)
+    (paged_left _ _ c.args.page.now _ (sym (blocks-min c.args.graph.now c.args.from) ∙ ap (blocks c.args.graph.now) start), c.requires)
 
 pub returns-in_err-push_block : goal.returns-in_err-push_block
 returns-in_err-push_block g c =
-    let graph = c.args.graph.now in
-    let within : c.loop-v.v < length (names_of graph) = omega (arith, length-map c.args.graph.now.vertices (λ v. v.name), c.n-end.ensures.count) in
-    exit_cut _ _ _ _ c.from_residual.ensures.1 (paged_cut _ _ _ _ _ _ _ _ _ _ _ (blocks-first graph c.loop-v.v within) c.loop-v.invariant.0 c.in_err-push_block.ensures)
+    exit_cut _ _ _ _ c.from_residual.ensures.1 (paged_cut _ _ _ _ _ _ _ _ _ _ _ (blocks-next c.args.graph.now c.loop-v.v (omega (arith, c.n-end.ensures.count))) c.loop-v.invariant.0 c.in_err-push_block.ensures)
 
 pub loop-v-preserved : goal.loop-v-preserved
 loop-v-preserved g c =
-    let graph = c.args.graph.now in
-    let within : c.loop-v.v < length (names_of graph) = omega (arith, length-map c.args.graph.now.vertices (λ v. v.name), c.n-end.ensures.count) in
-    (paged_more _ _ _ _ _ _ _ _ _ _ (blocks-first graph c.loop-v.v within) c.loop-v.invariant.0 c.in_ok-push_block.ensures.output, c.in_ok-push_block.ensures.sound)
+    (paged_more _ _ _ _ _ _ _ _ _ _ (blocks-next c.args.graph.now c.loop-v.v (omega (arith, c.n-end.ensures.count))) c.loop-v.invariant.0 c.in_ok-push_block.ensures.output, c.in_ok-push_block.ensures.sound)
 
 pub returns : goal.returns
 returns g c = search (rules, names_of, length-map, written_held, paged_all, blocks-none)

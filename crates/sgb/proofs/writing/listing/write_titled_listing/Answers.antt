@@ -1,13 +1,6 @@
-use Rattle.std.proofs.Common.{◌≡◌, ◌∙◌, ◌++◌, List, ℕ, sym, ap, length, append_assoc, arith}
+use Rattle.std.proofs.Common.{◌≡◌, ◌∙◌, ◌++◌, List, ℕ, sym, ap, append_assoc}
 use Rattle.sgb.specs.Texts.{blocks, head}
 use Rattle.sgb.proofs.writing.listing.write_titled_listing.Goals as goal
-
-pub push_text-requires : goal.push_text-requires
-push_text-requires g c = omega (arith, ap length c.new-page.ensures, c.requires.short)
-
-pub push_head-requires : goal.push_head-requires
-push_head-requires g c =
-    omega (arith, ap length (c.push_text.ensures.put ∙ ap (λ (text : List ℕ). text ++ c.args.title.now) c.new-page.ensures), c.requires.short)
 
 pub returns : goal.returns
 returns g c =

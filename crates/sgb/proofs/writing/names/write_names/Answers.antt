@@ -8,14 +8,8 @@ use Rattle.sgb.proofs.Endings.{ended_after, exit_ended, refused_after}
 use Rattle.sgb.proofs.NamedMembers.{lines_of_rest}
 use Rattle.sgb.proofs.writing.names.write_names.Goals as goal
 
-pub returns-in_err-start-clause-ended : goal.returns-in_err-start-clause-ended
-returns-in_err-start-clause-ended g c = search (rules, name_of_vector, exit_ended, refused_after, left_out, name_lines)
+pub returns-in_err-start : goal.returns-in_err-start
+returns-in_err-start g c = search (rules, name_of_vector, exit_ended, refused_after, left_out, name_lines, exit_certain, place_other)
 
-pub returns-clause-ended : goal.returns-clause-ended
-returns-clause-ended g c = search (rules, name_of_vector, option_map, start_after, ended_after, left_out, name_lines, lines_of_rest)
-
-pub returns-in_err-start-clause-certain : goal.returns-in_err-start-clause-certain
-returns-in_err-start-clause-certain g c = search (rules, name_of_vector, exit_certain, place_other)
-
-pub returns-clause-certain : goal.returns-clause-certain
-returns-clause-certain g c = write_certain _ c.write_all.ensures.fault
+pub returns : goal.returns
+returns g c = search (rules, name_of_vector, option_map, start_after, ended_after, left_out, name_lines, lines_of_rest, write_certain)

@@ -1,4 +1,4 @@
-use Rattle.std.proofs.Common.{ℕ, List, ◌++◌, Ok, option_map, sym, refl}
+use Rattle.std.proofs.Common.{ℕ, List, ◌++◌, Ok, option_map, sym, rules}
 use Rattle.sgb_graph.specs.Made.{graph_described}
 use Rattle.sgb_graph.specs.Vertices.{names_of}
 use Rattle.sgb.specs.Outcomes.{head_for, left_out}
@@ -11,13 +11,8 @@ use Rattle.sgb.proofs.writing.resumed.list_resumed.Goals as goal
 
 pub returns-in_err-start : goal.returns-in_err-start
 returns-in_err-start g c =
-    let graph = graph_described (described c.args.local.now) in
-    let text : ℕ → List ℕ = λ k. head_for c.args.resume.now (head graph) ++ blocks graph k in
     let nowhere = left_out_of_graph (vector_graph_of c.args.local.now) c.args.resume.now _ c.in_err-start.ensures in
-    record {
-      ended = exit_ended _ _ _ _ _ c.from_residual.ensures.1 (refused_after _ (left_out (names_of graph) c.args.resume.now) text _ _ _ _ nowhere c.requires refl);
-      nowhere = exit_nowhere _ (left_out (names_of graph) c.args.resume.now) _ c.from_residual.ensures.1 nowhere;
-    }
+    search (rules, nowhere, exit_ended, refused_after, exit_nowhere, left_out, head_for, head, blocks, names_of, described, graph_described, vector_graph_of)
 
 pub returns : goal.returns
 returns g c =

@@ -1,9 +1,9 @@
-use Rattle.std.proofs.Common.{◌≡◌, ◌∙◌, ◌++◌, List, ℕ, [], ◌∷◌, Some, ap, sym, append_assoc}
+use Rattle.std.proofs.Common.{◌∙◌, [], Some, ap, sym}
 use Rattle.std.specs.List.{slice_index_or}
 use Rattle.std.proofs.lemmas.Option.{get_or_from_slice_get}
 use Rattle.sgb_graph.specs.Vertices.{names_of}
 use Rattle.sgb.specs.Texts.{name_line}
-use Rattle.sgb.proofs.Pages.{exit_untaken, held_line}
+use Rattle.sgb.proofs.Pages.{exit_untaken, held_two}
 use Rattle.sgb.proofs.writing.vertices.push_name_line.Goals as goal
 
 pub returns-in_err-make_room : goal.returns-in_err-make_room
@@ -11,9 +11,6 @@ returns-in_err-make_room g c = exit_untaken c.args.page.now (name_line (slice_in
 
 pub returns : goal.returns
 returns g c =
-    let page : List ℕ = c.make_room.new.page in
-    let name : List ℕ = c.bytes.result.now in
     let named = get_or_from_slice_get (names_of c.args.graph.now) c.args.v _ [] (c.name.ensures ∙ ap Some (sym c.bytes.ensures.value)) in
-    let text : c.push_text-2.new.self ≡ page ++ name_line name =
-    c.push_text-2.ensures.put ∙ ap (λ (line : List ℕ). line ++ 10 ∷ []) c.push_text.ensures.put ∙ append_assoc page name (10 ∷ []) in
-    rw named (record { output = held_line _ _ _ _ _ _ c.in_ok-make_room.ensures.paged.output text; sound = c.in_ok-make_room.ensures.paged.sound })
+    let output = held_two _ _ _ _ _ _ _ _ c.in_ok-make_room.ensures.paged.output c.push_text.ensures.put c.push_text-2.ensures.put in
+    rw named (record { output = output; sound = c.in_ok-make_room.ensures.paged.sound })

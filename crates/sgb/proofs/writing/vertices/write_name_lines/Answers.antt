@@ -1,10 +1,9 @@
-use Rattle.std.proofs.Common.{rules, ◌<◌, [], length, arith}
+use Rattle.std.proofs.Common.{rules, [], arith}
 use Rattle.std.proofs.lemmas.List.{length-map}
 use Rattle.sgb_graph.specs.Vertices.{names_of}
 use Rattle.sgb.specs.Texts.{name_lines}
-use Rattle.sgb.proofs.Listings.{name_lines-first, name_lines-min, name_lines-none}
-use Rattle.sgb.proofs.CutOff.{exit_cut}
-use Rattle.sgb.proofs.Pages.{paged_all, paged_begun, paged_cut, paged_more, written_held}
+use Rattle.sgb.proofs.Listings.{name_lines-min, name_lines-none, name_lines-next}
+use Rattle.sgb.proofs.Pages.{paged_all, paged_begun, paged_more, written_held, exit_begun}
 use Rattle.sgb.proofs.writing.vertices.write_name_lines.Goals as goal
 
 pub loop-v-init : goal.loop-v-init
@@ -12,15 +11,11 @@ loop-v-init g c = search (rules, names_of, length-map, name_lines-min, name_line
 
 pub returns-in_err-push_name_line : goal.returns-in_err-push_name_line
 returns-in_err-push_name_line g c =
-    let graph = c.args.graph.now in
-    let within : c.loop-v.v < length (names_of graph) = omega (arith, length-map c.args.graph.now.vertices (λ v. v.name), c.n-end.ensures.count) in
-    exit_cut _ _ _ _ c.from_residual.ensures.1 (paged_cut _ _ _ _ [] _ _ _ _ _ _ (name_lines-first (names_of graph) c.loop-v.v within) c.loop-v.invariant.0 c.in_err-push_name_line.ensures)
+    exit_begun _ _ _ _ _ _ _ _ _ _ _ c.from_residual.ensures.1 c.loop-v.invariant.0 c.in_err-push_name_line.ensures (name_lines-next c.args.graph.now c.loop-v.v (omega (arith, c.n-end.ensures.count)))
 
 pub loop-v-preserved : goal.loop-v-preserved
 loop-v-preserved g c =
-    let graph = c.args.graph.now in
-    let within : c.loop-v.v < length (names_of graph) = omega (arith, length-map c.args.graph.now.vertices (λ v. v.name), c.n-end.ensures.count) in
-    (paged_more _ _ _ _ [] _ _ _ _ _ (name_lines-first (names_of graph) c.loop-v.v within) c.loop-v.invariant.0 c.in_ok-push_name_line.ensures.output, c.in_ok-push_name_line.ensures.sound)
+    (paged_more _ _ _ _ [] _ _ _ _ _ (name_lines-next c.args.graph.now c.loop-v.v (omega (arith, c.n-end.ensures.count))) c.loop-v.invariant.0 c.in_ok-push_name_line.ensures.output, c.in_ok-push_name_line.ensures.sound)
 
 pub returns : goal.returns
 returns g c = search (rules, names_of, length-map, written_held, paged_all, name_lines-none)

@@ -8,8 +8,5 @@ pub returns-then-count-eq0-clause-value : goal.returns-then-count-eq0-clause-val
 returns-then-count-eq0-clause-value c =
     ap length (sym (name-entries [])) ∙ ap (λ k. length (name_of_vector (take k c.args.self.now))) (sym c.if-count-eq0.true)
 
-pub returns-clause-short : goal.returns-clause-short
-returns-clause-short c = search (rules, slice_index_or, kept-end, front-short)
-
-pub returns-clause-within : goal.returns-clause-within
-returns-clause-within c = search (rules, slice_index_or, kept-end, name-within, name_of_vector)
+pub returns : goal.returns
+returns c = search (rules, slice_index_or, kept-end, front-short, name-within, name_of_vector)

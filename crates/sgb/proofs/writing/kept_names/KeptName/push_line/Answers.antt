@@ -1,9 +1,9 @@
-use Rattle.std.proofs.Common.{rules, ◌≡◌, ◌∙◌, ◌++◌, List, ℕ, [], ◌∷◌, ap, append_assoc}
+use Rattle.std.proofs.Common.{rules}
 use Rattle.sgb_vec.specs.Names.{name_of_vector}
 use Rattle.sgb.specs.Texts.{name_line}
 use Rattle.sgb.proofs.CutOff.{exit_write}
 use Rattle.sgb_vec.proofs.VectorNames.{length-name_of_vector-le}
-use Rattle.sgb.proofs.Pages.{exit_untaken, held_line}
+use Rattle.sgb.proofs.Pages.{exit_untaken, held_two}
 use Rattle.sgb.proofs.writing.kept_names.KeptName.push_line.Goals as goal
 
 pub push_text-requires : goal.push_text-requires
@@ -20,10 +20,5 @@ returns-in_err-make_room g c = record {
 
 pub returns-clause-paged : goal.returns-clause-paged
 returns-clause-paged g c =
-    let page : List ℕ = c.make_room.new.page in
-    let name : c.bytes.result.now ≡ name_of_vector c.args.self.now = c.bytes.ensures ∙ c.self.invariant.name ∙ ap name_of_vector c.self.view_is in
-    let text : c.push_text-2.new.self ≡ page ++ name_line (name_of_vector c.args.self.now) =
-    c.push_text-2.ensures.put
-    ∙ ap (λ (line : List ℕ). line ++ 10 ∷ []) (c.push_text.ensures.put ∙ ap (λ (line : List ℕ). page ++ line) name)
-    ∙ append_assoc page (name_of_vector c.args.self.now) (10 ∷ []) in
-    record { output = held_line _ _ _ _ _ _ c.in_ok-make_room.ensures.paged.output text; sound = c.in_ok-make_room.ensures.paged.sound }
+    let name = rw (c.bytes.ensures, c.self.invariant.name, c.self.view_is) at c.push_text.ensures.put in
+    record { output = held_two _ _ _ _ _ _ _ _ c.in_ok-make_room.ensures.paged.output name c.push_text-2.ensures.put; sound = c.in_ok-make_room.ensures.paged.sound }
