@@ -1,5 +1,5 @@
 -- Draws, one after another.
-use Rattle.std.proofs.Common.{◌≡◌, ℕ, zero, suc, ◌+◌, ◌-◌, ◌%◌, ◌<◌, ◌≤◌, List, ◌∷◌, length, set, refl, sym, ap, ◌∙◌, arith, rules}
+use Rattle.std.proofs.Common.{◌≡◌, ℕ, zero, suc, ◌+◌, ◌-◌, ◌<◌, ◌≤◌, List, ◌∷◌, length, set, refl, sym, ap, ◌∙◌, arith, rules}
 use Rattle.sgb_graph.specs.Draws.{IsUniformDraw, draw, modulus, plain_draws, uniform_draws, used_draw}
 use Rattle.sgb_graph.proofs.UniformDraws.{uniform_draw_only}
 use Rattle.sgb_arrays.specs.inner.Puts.{put_from}

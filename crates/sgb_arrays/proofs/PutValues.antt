@@ -3,11 +3,6 @@ use Rattle.std.proofs.Common.{◌≡◌, ℕ, ◌+◌, List, [], ◌∷◌, ◌+
 use Rattle.std.proofs.lemmas.List.{append-nil, length-map, length-set, map-append, take_all, take_more_set}
 use Rattle.sgb_arrays.specs.inner.Puts.{put_from}
 
--- the list stays as long
-pub length-put_from : {X : Type 0} (at : ℕ) (xs old : List X) → length (put_from at xs old) ≡ length old
-length-put_from at [] old = refl
-length-put_from at (x ∷ xs) old = length-put_from (at + 1) xs (set old at x) ∙ length-set old at x
-
 -- values, and then others
 pub put_from-append : {X : Type 0} (at : ℕ) (xs ys old : List X) → put_from at (xs ++ ys) old ≡ put_from (at + length xs) ys (put_from at xs old)
 put_from-append at [] ys old = grind (arith)
@@ -27,8 +22,8 @@ pub first_put : (v at next there : ℕ) (left : List ℕ) (rest : ℕ → List �
 first_put v at next there left rest now all is same whole = rw same (ap (λ xs. put_from v xs now) (sym is) ∙ whole)
 
 -- the last one is put, so all are there
-pub last_put : (v at : ℕ) (left now old all : List ℕ) → left ≡ at ∷ [] → length old ≡ length all → put_from v left now ≡ put_from 0 all old → set now v at ≡ all
-last_put v at left now old all is size whole = ap (λ xs. put_from v xs now) (sym is) ∙ whole ∙ put_from-all all old size
+pub last_put : (v n at : ℕ) (left now old all : List ℕ) → v ≡ n → left ≡ at ∷ [] → length old ≡ length all → put_from v left now ≡ put_from 0 all old → set now n at ≡ all
+last_put v n at left now old all same is size whole = rw (← put_from-all all old size, ← whole, is, same) refl
 
 -- one part less is left to count
 pub part_counted : {X : Type 0} (count size all : ℕ) (left part rest : List X) → left ≡ part ++ rest → size ≡ length part → count + length left ≡ all → (count + size) + length rest ≡ all

@@ -1,7 +1,6 @@
-use Rattle.std.proofs.Common.{◌≡◌, ◌≤◌, ◌<◌, ◌+◌, ◌-◌, ◌∙◌, ℕ, ℤ, w64, to_z, of_z, length, ap, refl, sym, subst, arith, rules}
+use Rattle.std.proofs.Common.{◌≡◌, ◌≤◌, ◌<◌, ◌+◌, ℕ, ℤ, w64, to_z, of_z, length, refl, sym, subst, arith, rules}
 use Rattle.std.proofs.lemmas.Int.{to_z-of_z}
 use Rattle.sgb_graph.specs.Draws.{IsAtDraw, plain_draws, seed_of}
-use Rattle.sgb_arrays.specs.inner.Puts.{put_from}
 use Rattle.sgb_arrays.proofs.DrawsPut.{draw_put, draws_put}
 use Rattle.sgb_arrays.proofs.draws.fill_draws.Goals as goal
 
@@ -10,12 +9,9 @@ loop-place-init c =
     let start = to_z w64 (of_z w64 c.args.start) in
     let at = c.skip.ensures start 0 c.new-flip.ensures in
     let same : 0 + c.args.skip ≡ c.args.skip + 0 = omega arith in
-    let zero : c.args.skip + 0 ≡ c.args.skip = omega arith in
-    let size : length c.args.out.now - 0 ≡ length c.args.out.now = omega arith in
     record {
       stands = subst (λ (k : ℕ). IsAtDraw start k c.skip.new.self.numbers c.skip.new.self.left) same at;
-      draws = ap (λ (n : ℕ). put_from 0 (plain_draws (seed_of start) (c.args.skip + 0) n) c.args.out.now) size
-          ∙ ap (λ (k : ℕ). put_from 0 (plain_draws (seed_of start) k (length c.args.out.now)) c.args.out.now) zero;
+      draws = grind arith;
       places = refl;
     }
 

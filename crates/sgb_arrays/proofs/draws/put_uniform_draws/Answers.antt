@@ -1,7 +1,6 @@
-use Rattle.std.proofs.Common.{◌≡◌, ◌≤◌, ◌<◌, ◌+◌, ◌-◌, ℕ, ℤ, w64, to_z, of_z, length, ap, refl, subst, arith, rules}
+use Rattle.std.proofs.Common.{◌≡◌, ◌≤◌, ◌<◌, ◌+◌, ℕ, ℤ, w64, to_z, of_z, length, refl, subst, arith, rules}
 use Rattle.std.proofs.lemmas.Int.{to_z-of_z}
 use Rattle.sgb_graph.specs.Draws.{IsAtDraw, seed_of, uniform_draws}
-use Rattle.sgb_arrays.specs.inner.Puts.{put_from}
 use Rattle.sgb_arrays.proofs.DrawsPut.{uniform_draws_put, uniform_put}
 use Rattle.sgb_arrays.proofs.draws.put_uniform_draws.Goals as goal
 
@@ -10,13 +9,8 @@ loop-place-init c =
     let start = to_z w64 (of_z w64 c.args.start) in
     let at = c.skip.ensures start 0 c.new-flip.ensures in
     let same : 0 + c.args.skip ≡ c.args.skip = omega arith in
-    let size : length c.args.out.now - 0 ≡ length c.args.out.now = omega arith in
     record {
-      draws = (
-        c.args.skip,
-        subst (λ (k : ℕ). IsAtDraw start k c.skip.new.self.numbers c.skip.new.self.left) same at,
-        ap (λ (n : ℕ). put_from 0 (uniform_draws (seed_of start) c.args.m c.args.skip n) c.args.out.now) size,
-      );
+      draws = (c.args.skip, subst (λ (k : ℕ). IsAtDraw start k c.skip.new.self.numbers c.skip.new.self.left) same at, grind arith);
       places = refl;
     }
 

@@ -1,12 +1,15 @@
 use Rattle.std.proofs.Common.{◌≤◌, ◌<◌, ◌∙◌, [], Some, length, ap, sym, arith}
 use Rattle.std.proofs.lemmas.Option.{get_or_from_slice_get}
 use Rattle.sgb_graph.specs.Vertices.{names_of}
-use Rattle.sgb_arrays.proofs.NamesLeft.{bytes_left-first, bytes_left-none, bytes_left-whole}
+use Rattle.sgb_arrays.specs.Names.{name_bytes}
+use Rattle.sgb_arrays.specs.inner.NamesLeft.{bytes_left}
+use Rattle.sgb_arrays.proofs.ArcsLeft.{bytes_left-first, bytes_left-none}
 use Rattle.sgb_arrays.proofs.PutValues.{part_counted}
 use Rattle.sgb_arrays.proofs.names.names_len.Goals as goal
 
 pub loop-v-init : goal.loop-v-init
-loop-v-init c = record { count = omega (arith, ap length (bytes_left-whole c.args.graph.now)); few = omega arith }
+unfolding bytes_left name_bytes
+loop-v-init c = record { count = omega arith; few = omega arith }
 
 pub loop-v-preserved : goal.loop-v-preserved
 loop-v-preserved c =

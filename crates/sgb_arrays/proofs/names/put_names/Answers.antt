@@ -1,24 +1,17 @@
-use Rattle.std.proofs.Common.{◌≡◌, ℕ, set, ◌<◌, ◌+◌, ◌∙◌, [], Some, length, ap, refl, sym, get_or, arith, rules}
+use Rattle.std.proofs.Common.{◌≡◌, ◌<◌, ◌+◌, ◌∙◌, [], Some, length, ap, refl, sym, get_or, arith, rules}
 use Rattle.std.proofs.lemmas.List.{length-append}
 use Rattle.std.proofs.lemmas.Option.{get_or_from_slice_get}
 use Rattle.sgb_graph.specs.Vertices.{names_of}
 use Rattle.sgb_arrays.specs.Names.{name_bytes, name_starts}
 use Rattle.sgb_arrays.specs.inner.NamesLeft.{bytes_left, name_starts_left}
 use Rattle.sgb_arrays.specs.inner.Puts.{put_from}
-use Rattle.sgb_arrays.proofs.NamesLeft.{bytes_left-first, bytes_left-none, bytes_left-whole, length-name_starts, name_starts_left-first, name_starts_left-none, name_starts_left-whole}
+use Rattle.sgb_arrays.proofs.ArcsLeft.{bytes_left-first, bytes_left-none, length-name_starts, name_starts_left-first, name_starts_left-none}
 use Rattle.sgb_arrays.proofs.PutValues.{bytes_put, first_put, last_put, part_counted, put_from-all}
 use Rattle.sgb_arrays.proofs.names.put_names.Goals as goal
 
 pub loop-v-init : goal.loop-v-init
-loop-v-init c =
-    let g = c.args.graph.now in
-    record {
-      starts = ap (λ xs. put_from 0 xs c.args.starts.now) (name_starts_left-whole g);
-      bytes = ap (λ xs. put_from 0 xs c.args.bytes.now) (bytes_left-whole g);
-      end = omega (arith, ap length (bytes_left-whole g));
-      start_places = refl;
-      byte_places = refl;
-    }
+unfolding bytes_left name_bytes name_starts_left name_starts
+loop-v-init c = record { starts = refl; bytes = refl; end = omega arith; start_places = refl; byte_places = refl }
 
 pub put_bytes-requires : goal.put_bytes-requires
 put_bytes-requires c =
@@ -52,8 +45,7 @@ returns c =
     let v = c.loop-v.v in
     let last : v ≡ length g.vertices = omega (arith, c.n-v-end.ensures.count, c.loop-v.auto.v-end) in
     let none = bytes_left-none g v (omega (arith, last)) in
-    let same : v ≡ c.n.result = omega (arith, last, c.n.ensures.count) in
     record {
-      starts = ap (λ (k : ℕ). set c.loop-v.starts k c.loop-v.at) (sym same) ∙ last_put v c.loop-v.at _ c.loop-v.starts c.args.starts.now (name_starts g) (name_starts_left-none g v c.loop-v.at (omega (arith, last))) (omega (arith, c.requires.starts, length-name_starts g)) c.loop-v.invariant.starts;
+      starts = last_put v c.n.result c.loop-v.at _ c.loop-v.starts c.args.starts.now (name_starts g) (omega (arith, last, c.n.ensures.count)) (name_starts_left-none g v c.loop-v.at (omega (arith, last))) (omega (arith, c.requires.starts, length-name_starts g)) c.loop-v.invariant.starts;
       bytes = ap (λ xs. put_from c.loop-v.at xs c.loop-v.bytes) (sym none) ∙ c.loop-v.invariant.bytes ∙ put_from-all (name_bytes g) c.args.bytes.now c.requires.bytes;
     }

@@ -1,4 +1,4 @@
-use Rattle.std.proofs.Common.{◌≡◌, ℕ, set, ◌<◌, ◌+◌, ◌∙◌, length, map, ap, refl, sym, arith, rules}
+use Rattle.std.proofs.Common.{◌≡◌, ◌<◌, ◌+◌, length, map, ap, refl, arith, rules}
 use Rattle.std.proofs.lemmas.List.{length-append, length-map}
 use Rattle.sgb_graph.specs.Graphs.{chain_of}
 use Rattle.sgb_arrays.specs.Rows.{arcs_of, lengths_of, starts_of, tips_of}
@@ -57,9 +57,8 @@ returns c =
     let v = c.loop-v.v in
     let last : v ≡ length g.vertices = omega (arith, c.n-v-end.ensures.count, c.loop-v.auto.v-end) in
     let none = arcs_left-none g v (omega (arith, last)) in
-    let same : v ≡ c.n.result = omega (arith, last, c.n.ensures.count) in
     record {
-      starts = ap (λ (k : ℕ). set c.loop-v.starts k c.loop-v.at) (sym same) ∙ last_put v c.loop-v.at _ c.loop-v.starts c.args.starts.now (starts_of g) (starts_left-none g v c.loop-v.at (omega (arith, last))) (omega (arith, c.requires.starts, length-starts_of g)) c.loop-v.invariant.starts;
+      starts = last_put v c.n.result c.loop-v.at _ c.loop-v.starts c.args.starts.now (starts_of g) (omega (arith, last, c.n.ensures.count)) (starts_left-none g v c.loop-v.at (omega (arith, last))) (omega (arith, c.requires.starts, length-starts_of g)) c.loop-v.invariant.starts;
       tips = all_put (λ k. k.tip) c.loop-v.at (arcs_left g v) c.loop-v.tips c.args.tips.now (tips_of g) none (omega (arith, c.requires.tips, length-map (arcs_of g) (λ k. k.tip))) c.loop-v.invariant.tips;
       lengths = all_put (λ k. k.len) c.loop-v.at (arcs_left g v) c.loop-v.lengths c.args.lengths.now (lengths_of g) none (omega (arith, c.requires.lengths, length-map (arcs_of g) (λ k. k.len))) c.loop-v.invariant.lengths;
     }

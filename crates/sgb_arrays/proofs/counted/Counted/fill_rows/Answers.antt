@@ -1,23 +1,17 @@
-use Rattle.std.proofs.Common.{subst, arith}
-use Rattle.std.specs.Prelude.{IfSome}
-use Rattle.sgb_arrays.specs.Rows.{AreRows}
-use Rattle.sgb_arrays.proofs.RowsInOrder.{lengths_size, starts_size, tips_size}
+use Rattle.std.proofs.Common.{length, ap, arith}
+use Rattle.std.proofs.lemmas.List.{length-map}
+use Rattle.sgb_graph.specs.declared.fields.Link.{Link}
+use Rattle.sgb_arrays.specs.Rows.{arcs_of}
+use Rattle.sgb_arrays.proofs.ArcsLeft.{length-starts_of}
 use Rattle.sgb_arrays.proofs.counted.Counted.fill_rows.Goals as goal
 
-pub copy_to-requires-clause-starts : goal.copy_to-requires-clause-starts
-copy_to-requires-clause-starts c =
+pub copy_to-requires : goal.copy_to-requires
+copy_to-requires c =
     let g = c.self.inside.graph in
-    let rows = subst (λ o. IfSome o (λ r. AreRows g r.starts.items r.tips.items r.lengths.items)) c.in-Some.is c.self.invariant.1 in
-    omega (arith, c.if-not-have_row_lengths.ensures.fits.starts, starts_size g _ _ _ rows)
-
-pub copy_to-requires-clause-tips : goal.copy_to-requires-clause-tips
-copy_to-requires-clause-tips c =
-    let g = c.self.inside.graph in
-    let rows = subst (λ o. IfSome o (λ r. AreRows g r.starts.items r.tips.items r.lengths.items)) c.in-Some.is c.self.invariant.1 in
-    omega (arith, c.if-not-have_row_lengths.ensures.fits.tips, tips_size g _ _ _ rows)
-
-pub copy_to-requires-clause-lengths : goal.copy_to-requires-clause-lengths
-copy_to-requires-clause-lengths c =
-    let g = c.self.inside.graph in
-    let rows = subst (λ o. IfSome o (λ r. AreRows g r.starts.items r.tips.items r.lengths.items)) c.in-Some.is c.self.invariant.1 in
-    omega (arith, c.if-not-have_row_lengths.ensures.fits.lengths, lengths_size g _ _ _ rows)
+    let fits = c.if-not-have_row_lengths.ensures.fits in
+    let rows = rw c.in-Some.is at c.self.invariant.1 in
+    record {
+      starts = omega (arith, fits.starts, ap length rows.starts, length-starts_of g);
+      tips = omega (arith, fits.tips, ap length rows.tips, length-map (arcs_of g) (λ (l : Link). l.tip));
+      lengths = omega (arith, fits.lengths, ap length rows.lengths, length-map (arcs_of g) (λ (l : Link). l.len));
+    }
