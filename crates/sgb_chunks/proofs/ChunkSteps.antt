@@ -1,6 +1,6 @@
 -- Chunks, one vertex more, and one chunk after another.
-use Rattle.std.proofs.Common.{◌≡◌, ◌∙◌, ℕ, zero, suc, ◌+◌, List, [], ◌∷◌, ◌++◌, length, map, refl, sym, ap, ap₂, arith}
-use Rattle.std.specs.List.{flat_map, range_with_len, slice_index_or}
+use Rattle.std.proofs.Common.{◌≡◌, ◌∙◌, ℕ, ◌+◌, List, [], ◌∷◌, ◌++◌, length, map, sym, ap, ap₂, arith}
+use Rattle.std.specs.List.{flat_map, range_with_len}
 use Rattle.std.proofs.lemmas.Grind.{flat_map-append}
 use Rattle.std.proofs.lemmas.List.{flat_map_more, length-append, map-append}
 use Rattle.std.proofs.lemmas.List.FromFn.{length-map-range_with_len}
@@ -21,50 +21,23 @@ unfolding chunk_of
 chunk_joined parts first a b =
     ap (flat_map parts) (range-joined first a b) ∙ flat_map-append parts (range_with_len first a) (range_with_len (first + a) b)
 
--- no vertices
-pub chunk_none : {X : Type 0} (parts : ℕ → List X) (first : ℕ) → chunk_of parts first 0 ≡ []
-unfolding chunk_of
-chunk_none parts first = refl
-
-pub starts_none : {X : Type 0} (parts : ℕ → List X) (first : ℕ) → chunk_starts parts first 0 ≡ 0 ∷ []
-unfolding chunk_starts
-starts_none parts first = refl
-
 -- starts of parts, one part more: behind them stands where that one ends
-starts_after : {X : Type 0} (parts : ℕ → List X) (at : ℕ) (vs : List ℕ) (v : ℕ)
-    → starts_from at (map (λ u. length (parts u)) (vs ++ v ∷ [])) ≡ starts_from at (map (λ u. length (parts u)) vs) ++ (at + length (flat_map parts (vs ++ v ∷ []))) ∷ []
-starts_after parts at [] v =
-    let last : at + length (parts v) ≡ at + length (parts v ++ []) = omega (arith, length-append (parts v) []) in
-    ap (λ k. at ∷ k ∷ []) last
-starts_after parts at (u ∷ us) v =
-    let rest = flat_map parts (us ++ v ∷ []) in
-    let size = length (parts u) in
-    let last : at + size + length rest ≡ at + length (parts u ++ rest) = omega (arith, length-append (parts u) rest) in
-    ap (λ ks. at ∷ ks) (starts_after parts (at + size) us v ∙ ap (λ k. starts_from (at + size) (map (λ w. length (parts w)) us) ++ k ∷ []) last)
+starts_after : {X : Type 0} (parts : ℕ → List X) (at end : ℕ) (vs : List ℕ) (v : ℕ) → end ≡ at + length (flat_map parts (vs ++ v ∷ []))
+    → starts_from at (map (λ u. length (parts u)) (vs ++ v ∷ [])) ≡ starts_from at (map (λ u. length (parts u)) vs) ++ end ∷ []
+starts_after parts at end [] v is = grind (arith, length-append)
+starts_after parts at end (u ∷ us) v is =
+    ap (λ ks. at ∷ ks) (starts_after parts (at + length (parts u)) end us v (omega (arith, is, length-append (parts u) (flat_map parts (us ++ v ∷ [])))))
 
 pub starts_more : {X : Type 0} (parts : ℕ → List X) (first count : ℕ)
     → chunk_starts parts first (count + 1) ≡ chunk_starts parts first count ++ length (chunk_of parts first (count + 1)) ∷ []
 unfolding chunk_starts chunk_of
-starts_more parts first count =
-    let vs = range_with_len first count in
-    ap (λ us. starts_from 0 (map (λ u. length (parts u)) us)) (range-more first count)
-    ∙ starts_after parts 0 vs (first + count)
-    ∙ ap (λ us. starts_from 0 (map (λ u. length (parts u)) vs) ++ (0 + length (flat_map parts us)) ∷ []) (sym (range-more first count))
-    ∙ ap (λ k. starts_from 0 (map (λ u. length (parts u)) vs) ++ k ∷ []) (zero-plus (length (flat_map parts (range_with_len first (count + 1)))))
-  where
-    zero-plus : (k : ℕ) → 0 + k ≡ k
-    zero-plus k = omega arith
+starts_more parts first count = rw (range-more first count) (starts_after parts 0 _ (range_with_len first count) (first + count) (omega arith))
 
 -- the same of what was put so far
 pub values_more : {X Y : Type 0} (f : X → Y) (parts : ℕ → List X) (first count : ℕ) (now own after : List Y) → now ≡ map f (chunk_of parts first count)
     → own ≡ map f (parts (first + count)) → after ≡ now ++ own → after ≡ map f (chunk_of parts first (count + 1))
 values_more f parts first count now own after so_far is put =
     put ∙ ap₂ (λ xs ys. xs ++ ys) so_far is ∙ sym (map-append f (chunk_of parts first count) (parts (first + count))) ∙ ap (map f) (sym (chunk_more parts first count))
-
-pub bytes_more : {X : Type 0} (parts : ℕ → List X) (first count : ℕ) (now own after : List X) → now ≡ chunk_of parts first count
-    → own ≡ parts (first + count) → after ≡ now ++ own → after ≡ chunk_of parts first (count + 1)
-bytes_more parts first count now own after so_far is put =
-    put ∙ ap₂ (λ xs ys. xs ++ ys) so_far is ∙ sym (chunk_more parts first count)
 
 pub start_more : {X : Type 0} (parts : ℕ → List X) (first count : ℕ) (now after : List ℕ) (size : ℕ) → now ≡ chunk_starts parts first count
     → size ≡ length (chunk_of parts first (count + 1)) → after ≡ now ++ size ∷ [] → after ≡ chunk_starts parts first (count + 1)

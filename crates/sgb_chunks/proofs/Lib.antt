@@ -3,7 +3,5 @@
 pub mod ChunkSteps
 -- chunks of a generator's graph
 pub mod LocalChunks
--- the names of all vertices, vertex by vertex
-pub mod NamesInOrder
 -- worked examples
 pub mod Examples

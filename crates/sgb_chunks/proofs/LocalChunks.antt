@@ -1,9 +1,10 @@
 -- Chunks of a generator's graph.
-use Rattle.std.proofs.Common.{◌≡◌, ◌⊎◌, ◌∙◌, ℕ, suc, ◌+◌, ◌-◌, ◌<◌, ◌≤◌, Bool, true, false, List, [], ◌∷◌, ◌++◌, append_assoc, length, map, drop, drop-cons, add-one, None, Some, sym, ap, ap₂, subst, inl, inr, arith}
+use Rattle.std.proofs.Common.{◌≡◌, ◌⊎◌, ◌∙◌, ℕ, suc, ◌+◌, ◌-◌, ◌<◌, ◌≤◌, Bool, true, false, List, [], ◌∷◌, ◌++◌, append_assoc, length, map, drop, drop-cons, add-one, None, Some, sym, ap, ap₂, inl, inr, arith}
 use Rattle.std.specs.Prelude.{Option, IfNone, IfSome, IsSome, Result, Ok, Err, IfOk, IfErr}
 use Rattle.std.specs.Bool.{OnTrue, OnFalse}
 use Rattle.std.specs.List.{All, Contains, slice_get, slice_index_or}
-use Rattle.std.proofs.lemmas.List.{append-nil, drop-drop, get_or-map, length-drop, length-map}
+use Rattle.std.proofs.lemmas.List.{drop-drop, get_or-map, length-drop, length-map}
+use Rattle.std.proofs.lemmas.List.Elements.{All-contains}
 use Rattle.std.proofs.lemmas.Option.{get_or_from_slice_get, slice_get_within}
 use Rattle.sgb_vec.specs.Lexicographic.{IsRising}
 use Rattle.sgb_vec.specs.Ranges.{ComeAfter}
@@ -46,65 +47,30 @@ one_put f xs i x now after all there whole put =
     drop-cons xs i x (slice_get_within xs i x there) ∙ ap₂ (λ y k. y ∷ drop k xs) (get_or_from_slice_get xs i x x there) (sym (add-one i)) in
     ap (λ ys. ys ++ map f (drop (i + 1) xs)) put ∙ append_assoc now (f x ∷ []) (map f (drop (i + 1) xs)) ∙ ap (λ ys. now ++ map f ys) (sym first) ∙ whole
 
--- and that is all, where none are left
-pub all_put : {X Y : Type 0} (f : X → Y) (xs : List X) (i : ℕ) (now all : List Y) → length xs ≤ i → now ++ map f (drop i xs) ≡ all → now ≡ all
-all_put f xs i now all past whole = by_rest (drop i xs) (omega (arith, length-drop i xs, past)) whole
-  where
-    by_rest : (rest : List _) → length rest ≡ 0 → now ++ map f rest ≡ all → now ≡ all
-    by_rest [] none is = sym (append-nil now) ∙ is
-    by_rest (x ∷ rest) none is = absurd (omega (arith, none))
-
 -- what is left of the members is not empty before their end
 pub some_front : {X : Type 0} (r : Option X) (left members : List (List ℕ)) (place : ℕ) → left ≡ drop place members → place < length members → IfNone r (left ≡ []) → IsSome r
 some_front None left members place from within none = absurd (omega (arith, within, ap length none, ap length from, length-drop place members))
 some_front (Some x) left members place from within none = search
 
--- what is said of the value that there is
-pub said_of : {X : Type 0} (P : X → Type 0) (r : Option X) (x : X) → r ≡ Some x → IfSome r P → P x
-said_of P r x is all = subst (λ o. IfSome o P) is all
-
 -- without the first, the members from the next place on are left
 pub left_after : (members left after : List (List ℕ)) (first k : ℕ) → left ≡ drop (first + k) members → after ≡ drop 1 left → after ≡ drop (first + (k + 1)) members
-left_after members left after first k from one =
-    let next : first + k + 1 ≡ first + (k + 1) = omega arith in
-    one ∙ ap (drop 1) from ∙ drop-drop 1 (first + k) members ∙ ap (λ i. drop i members) next
-
--- what stands at a place is among the vectors, of the same graph
-pub contained : (g h : VectorGraph) (place : ℕ) (x : List ℕ) → h ≡ g → slice_get g.vectors place ≡ Some x → Contains h.vectors x
-contained g h place x same there =
-    subst (λ (q : VectorGraph). Contains q.vectors x) (sym same) (place, slice_get_within g.vectors place x there, get_or_from_slice_get g.vectors place x x there)
+left_after members left after first k from one = rw (one, from, drop-drop 1 (first + k) members) (grind arith)
 
 -- the arcs of a vector lead to vectors
 pub tips_contained : (g h : VectorGraph) (arcs : List LocalArc) → h ≡ g → All (λ (a : LocalArc). Contains g.vectors a.tip) arcs
     → (k : ℕ) (arc : LocalArc) → slice_get arcs k ≡ Some arc → Contains h.vectors arc.tip
 tips_contained g h arcs same tips k arc there =
-    subst (λ (q : VectorGraph). Contains q.vectors arc.tip) (sym same)
-    (subst (λ (a : LocalArc). Contains g.vectors a.tip) (get_or_from_slice_get arcs k arc arc there) (tips k arc (slice_get_within arcs k arc there)))
+    rw same (All-contains (λ (a : LocalArc). Contains g.vectors a.tip) arcs arc tips (k, slice_get_within arcs k arc there, get_or_from_slice_get arcs k arc arc there))
 
 -- and say the list of its vertex
 pub row_said : (g h : VectorGraph) (members : List (List ℕ)) → IsRising members → members ≡ g.vectors → All (HasEnds g.vectors) g.moves → (place : ℕ) (x : List ℕ) (arcs : List LocalArc) → h ≡ g
     → arcs ≡ list_in g x → slice_get g.vectors place ≡ Some x → SayList h.vectors arcs (chain_of (graph_described (described_by g)) place)
-row_said g h members rise vectors ends place x arcs same is there =
-    let chain = chain_of (graph_described (described_by g)) place in
-    let rising : IsRising g.vectors = subst IsRising vectors rise in
-    subst (λ (q : VectorGraph). SayList q.vectors arcs chain) (sym same) (subst (λ links. SayList g.vectors links chain) (sym is) (chain_said g rising ends place x there))
+row_said g h members rise vectors ends place x arcs same is there = rw (same, is) (chain_said g (rw (← vectors) rise) ends place x there)
 
 -- the name of the vector at a place
 pub name_is_there : (members : List (List ℕ)) (place : ℕ) (x : List ℕ) → slice_get members place ≡ Some x → name_of_vector x ≡ name_there members place
 name_is_there members place x there =
     sym (get_or-map name_of_vector members place x [] (slice_get_within members place x there) ∙ ap name_of_vector (get_or_from_slice_get members place x x there))
-
--- the names of members are those of the vertices
-pub names_of_chunk : (g : VectorGraph) (members : List (List ℕ)) (first count : ℕ) (begins text : List ℕ) → members ≡ g.vectors
-    → (first + count ≤ length members) × (begins ≡ chunk_starts (name_there members) first count) × (text ≡ chunk_of (name_there members) first count)
-    → IsThere (graph_described (described_by g)) first count × AreChunkNames (graph_described (described_by g)) first count begins text
-names_of_chunk g members first count begins text same (within, starts, bytes) = (
-  omega (arith, vertices_are_members g members same, within),
-  record {
-    starts = starts ∙ ap (λ names. chunk_starts (λ v. slice_index_or names v []) first count) (sym (named_by_members g members same));
-    bytes = bytes ∙ ap (λ names. chunk_of (λ v. slice_index_or names v []) first count) (sym (named_by_members g members same));
-  },
-)
 
 -- a chunk of members that is not there is none of the graph
 pub chunk_refused : (g : GraphData) (n first count : ℕ) (why : Fault) → length g.vertices ≡ n
@@ -116,7 +82,13 @@ chunk_refused g n first count why size (inr none) = inr none
 pub names_answered : (g : VectorGraph) (members : List (List ℕ)) (first count : ℕ) (r : Result ChunkNames Fault) → members ≡ g.vectors
     → IfOk r (λ names. (first + count ≤ length members) × (names.starts.items ≡ chunk_starts (name_there members) first count) × (names.bytes.items ≡ chunk_of (name_there members) first count))
     → IfOk r (λ names. IsThere (graph_described (described_by g)) first count × AreChunkNames (graph_described (described_by g)) first count names.starts.items names.bytes.items)
-names_answered g members first count (Ok names) same said = names_of_chunk g members first count names.starts.items names.bytes.items same said
+names_answered g members first count (Ok names) same (within, starts, bytes) = (
+  omega (arith, vertices_are_members g members same, within),
+  record {
+    starts = starts ∙ ap (λ ns. chunk_starts (λ v. slice_index_or ns v []) first count) (sym (named_by_members g members same));
+    bytes = bytes ∙ ap (λ ns. chunk_of (λ v. slice_index_or ns v []) first count) (sym (named_by_members g members same));
+  },
+)
 names_answered g members first count (Err why) same said = said
 
 pub refusal_answered : {T : Type 0} (g : VectorGraph) (members : List (List ℕ)) (first count : ℕ) (r : Result T Fault) → members ≡ g.vectors

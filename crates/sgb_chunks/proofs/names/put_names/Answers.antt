@@ -1,22 +1,18 @@
-use Rattle.std.proofs.Common.{◌∙◌, ◌≡◌, ◌<◌, ◌+◌, ap, sym, length, drop, arith}
-use Rattle.std.specs.Prelude.{Some, slice_get}
-use Rattle.sgb_chunks.specs.Chunks.{chunk_of}
+use Rattle.std.proofs.Common.{◌≡◌, ◌<◌, ◌+◌, ap, length, arith}
+use Rattle.sgb_chunks.specs.Chunks.{chunk_of, chunk_starts}
 use Rattle.sgb_chunks.specs.inner.VectorNames.{name_there}
-use Rattle.sgb_chunks.proofs.ChunkSteps.{bytes_more, chunk_none, start_more, starts_none}
-use Rattle.sgb_chunks.proofs.LocalChunks.{left_after, name_is_there, said_of, some_front}
+use Rattle.sgb_chunks.proofs.ChunkSteps.{chunk_more, start_more}
+use Rattle.sgb_chunks.proofs.LocalChunks.{left_after, name_is_there, some_front}
 use Rattle.sgb_gen.proofs.FamilyWalks.{at_front}
 use Rattle.sgb_chunks.proofs.names.put_names.Goals as goal
 
 pub loop-k-init : goal.loop-k-init
-loop-k-init g c =
-    let members = g.F.Family.members c.args.family.now in
-    let first = c.args.first in
-    let here : first ≡ first + 0 = omega arith in
-    record {
-      starts = c.in_ok-names.ensures.starts ∙ sym (starts_none (name_there members) first);
-      bytes = c.in_ok-names.ensures.bytes ∙ sym (chunk_none (name_there members) first);
-      left = c.vectors_from-left.ensures ∙ ap (λ k. drop k members) here;
-    }
+unfolding chunk_of chunk_starts
+loop-k-init g c = record {
+  starts = c.in_ok-names.ensures.starts;
+  bytes = c.in_ok-names.ensures.bytes;
+  left = grind (arith, c.vectors_from-left.ensures);
+}
 
 pub unwrap-x-requires : goal.unwrap-x-requires
 unwrap-x-requires g c =
@@ -30,11 +26,9 @@ loop-k-preserved g c =
     let first = c.args.first in
     let k = c.loop-k._k in
     let x = c.unwrap-x.result.now in
-    let there : slice_get members (first + k) ≡ Some x =
-    at_front members c.loop-k.left (first + k) x c.loop-k.invariant.left
-    (said_of (λ v. slice_get c.loop-k.left 0 ≡ Some v.now) c.front.result c.unwrap-x.result c.unwrap-x.ensures c.front.ensures.first) in
+    let there = at_front members c.loop-k.left (first + k) x c.loop-k.invariant.left (rw c.unwrap-x.ensures at c.front.ensures.first) in
     let bytes : c.push.new.self.bytes.items ≡ chunk_of (name_there members) first (k + 1) =
-    bytes_more (name_there members) first k c.loop-k.names.bytes.items _ c.push.new.self.bytes.items c.loop-k.invariant.bytes (name_is_there members (first + k) x there) c.in_ok-push.ensures.bytes in
+    rw (chunk_more (name_there members) first k, ← name_is_there members (first + k) x there, ← c.loop-k.invariant.bytes) c.in_ok-push.ensures.bytes in
     record {
       starts = start_more (name_there members) first k c.loop-k.names.starts.items c.push.new.self.starts.items (length c.push.new.self.bytes.items) c.loop-k.invariant.starts (ap length bytes) c.in_ok-push.ensures.starts;
       bytes = bytes;

@@ -1,29 +1,27 @@
-use Rattle.std.proofs.Common.{◌∙◌, ◌≡◌, ◌<◌, ◌+◌, ◌++◌, ◌∷◌, [], ℕ, ap, ap₂, sym, refl, length, map, drop, arith, rules, Contains}
+use Rattle.std.proofs.Common.{◌∙◌, ◌≡◌, ◌<◌, ◌+◌, ◌++◌, ◌∷◌, [], ℕ, ap, refl, length, arith, rules, Contains}
 use Rattle.std.specs.Prelude.{Some, slice_get}
 use Rattle.std.proofs.lemmas.List.{length-map}
+use Rattle.std.proofs.lemmas.Option.{get_or_from_slice_get, slice_get_within}
 use Rattle.sgb_graph.specs.Graphs.{chain_of}
+use Rattle.sgb_graph.specs.declared.fields.Link.{Link}
 use Rattle.sgb_graph.specs.Made.{graph_described}
 use Rattle.sgb_gen.specs.LocalLists.{LocalArc, list_in}
 use Rattle.sgb_gen.specs.VectorGraphs.{described_by}
-use Rattle.sgb_chunks.specs.Chunks.{chunk_of}
-use Rattle.sgb_chunks.proofs.ChunkSteps.{chunk_none, start_more, starts_none, values_more}
-use Rattle.sgb_chunks.proofs.LocalChunks.{contained, left_after, row_said, said_of, some_front, tips_contained}
+use Rattle.sgb_chunks.specs.Chunks.{chunk_of, chunk_starts}
+use Rattle.sgb_chunks.proofs.ChunkSteps.{start_more, values_more}
+use Rattle.sgb_chunks.proofs.LocalChunks.{left_after, row_said, some_front, tips_contained}
 use Rattle.sgb_gen.proofs.FamilyWalks.{at_front}
 use Rattle.sgb_chunks.proofs.rows.put_rows.Goals as goal
 
 pub loop-k-init : goal.loop-k-init
-loop-k-init g c =
-    let listed = g.L.Listed.graph c.args.listed.now in
-    let graph = graph_described (described_by listed) in
-    let first = c.args.first in
-    let here : first ≡ first + 0 = omega arith in
-    record {
-      starts = c.in_ok-rows.ensures.starts ∙ sym (starts_none (chain_of graph) first);
-      tips = c.in_ok-rows.ensures.tips ∙ ap (map (λ r. r.tip)) (sym (chunk_none (chain_of graph) first));
-      lengths = c.in_ok-rows.ensures.lengths ∙ ap (map (λ r. r.len)) (sym (chunk_none (chain_of graph) first));
-      left = c.vectors_from-left.ensures ∙ ap₂ (λ k ms. drop k ms) here c.family.ensures.members;
-      same = refl;
-    }
+unfolding chunk_of chunk_starts
+loop-k-init g c = record {
+  starts = c.in_ok-rows.ensures.starts;
+  tips = c.in_ok-rows.ensures.tips;
+  lengths = c.in_ok-rows.ensures.lengths;
+  left = grind (arith, c.vectors_from-left.ensures, c.family.ensures.members);
+  same = refl;
+}
 
 pub vectors_from-left-requires : goal.vectors_from-left-requires
 vectors_from-left-requires g c = omega (arith, c.requires, ap length c.family.ensures.members)
@@ -39,10 +37,8 @@ arcs_at-requires g c =
     let listed = g.L.Listed.graph c.args.listed.now in
     let place = c.args.first + c.loop-k._k in
     let x = c.unwrap-x.result.now in
-    let there : slice_get listed.vectors place ≡ Some x =
-    at_front listed.vectors c.loop-k.left place x c.loop-k.invariant.left
-    (said_of (λ v. slice_get c.loop-k.left 0 ≡ Some v.now) c.front.result c.unwrap-x.result c.unwrap-x.ensures c.front.ensures.first) in
-    let member : Contains (g.L.Listed.graph c.loop-k.listed).vectors x = contained listed (g.L.Listed.graph c.loop-k.listed) place x c.loop-k.invariant.same there in
+    let there = at_front listed.vectors c.loop-k.left place x c.loop-k.invariant.left (rw c.unwrap-x.ensures at c.front.ensures.first) in
+    let member : Contains (g.L.Listed.graph c.loop-k.listed).vectors x = rw c.loop-k.invariant.same (place, slice_get_within listed.vectors place x there, get_or_from_slice_get listed.vectors place x x there) in
     search rules
 
 pub push_arcs-requires : goal.push_arcs-requires
@@ -58,20 +54,14 @@ loop-k-preserved g c =
     let first = c.args.first in
     let k = c.loop-k._k in
     let x = c.unwrap-x.result.now in
-    let there : slice_get listed.vectors (first + k) ≡ Some x =
-    at_front listed.vectors c.loop-k.left (first + k) x c.loop-k.invariant.left
-    (said_of (λ v. slice_get c.loop-k.left 0 ≡ Some v.now) c.front.result c.unwrap-x.result c.unwrap-x.ensures c.front.ensures.first) in
+    let there = at_front listed.vectors c.loop-k.left (first + k) x c.loop-k.invariant.left (rw c.unwrap-x.ensures at c.front.ensures.first) in
     let same : g.L.Listed.graph c.arcs_at.new.self ≡ listed = c.in_ok-arcs_at.ensures.same ∙ c.loop-k.invariant.same in
     let arcs : c.arcs_at.new.links.arcs ≡ list_in listed x = c.in_ok-arcs_at.ensures.ok ∙ ap (λ q. list_in q x) c.loop-k.invariant.same in
-    let said =
-    row_said listed (g.L.Listed.graph c.arcs_at.new.self) (g.L.Members.Family.members c.family.result.now) (g.met.L.Members.Family.rising c.family.result.now) c.family.ensures.members c.family.ensures.ends
+    let said = row_said listed (g.L.Listed.graph c.arcs_at.new.self) (g.L.Members.Family.members c.family.result.now) (g.met.L.Members.Family.rising c.family.result.now) c.family.ensures.members c.family.ensures.ends
     (first + k) x c.arcs_at.new.links.arcs same arcs there in
-    let tips : c.push_arcs.new.self.tips.items ≡ map (λ r. r.tip) (chunk_of (chain_of graph) first (k + 1)) =
-    values_more (λ r. r.tip) (chain_of graph) first k c.loop-k.rows.tips.items _ c.push_arcs.new.self.tips.items c.loop-k.invariant.tips said.tips c.in_ok-push_arcs.ensures.tips in
-    let lengths : c.push_arcs.new.self.lengths.items ≡ map (λ r. r.len) (chunk_of (chain_of graph) first (k + 1)) =
-    values_more (λ r. r.len) (chain_of graph) first k c.loop-k.rows.lengths.items _ c.push_arcs.new.self.lengths.items c.loop-k.invariant.lengths said.lengths c.in_ok-push_arcs.ensures.lengths in
-    let size : length c.push_arcs.new.self.tips.items ≡ length (chunk_of (chain_of graph) first (k + 1)) =
-    ap length tips ∙ length-map (chunk_of (chain_of graph) first (k + 1)) (λ r. r.tip) in
+    let tips = values_more (λ (r : Link). r.tip) (chain_of graph) first k c.loop-k.rows.tips.items _ c.push_arcs.new.self.tips.items c.loop-k.invariant.tips said.tips c.in_ok-push_arcs.ensures.tips in
+    let lengths = values_more (λ (r : Link). r.len) (chain_of graph) first k c.loop-k.rows.lengths.items _ c.push_arcs.new.self.lengths.items c.loop-k.invariant.lengths said.lengths c.in_ok-push_arcs.ensures.lengths in
+    let size = ap length tips ∙ length-map (chunk_of (chain_of graph) first (k + 1)) (λ (r : Link). r.tip) in
     record {
       starts = start_more (chain_of graph) first k c.loop-k.rows.starts.items c.push_start.new.self.starts.items (length c.push_arcs.new.self.tips.items) c.loop-k.invariant.starts size
           (c.in_ok-push_start.ensures.starts ∙ ap (λ ss. ss ++ length c.push_arcs.new.self.tips.items ∷ []) c.in_ok-push_arcs.ensures.starts);
