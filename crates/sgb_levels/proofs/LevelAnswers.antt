@@ -1,5 +1,5 @@
 -- The lines of distances, one after the other, and how an answer of them ends.
-use Rattle.std.proofs.Common.{◌≡◌, ◌∙◌, ◌+◌, ◌<◌, ◌≤◌, ℕ, Bool, false, List, [], ◌∷◌, ◌++◌, length, get_or, Option, Some, None, Result, Ok, Err, refl, sym, ap, subst, inl, inr, arith}
+use Rattle.std.proofs.Common.{◌≡◌, ◌∙◌, ◌+◌, ◌<◌, ◌≤◌, ℕ, Bool, false, List, [], ◌++◌, length, get_or, Option, Some, None, Result, Ok, Err, refl, sym, ap, subst, inl, inr, arith}
 use Rattle.std.specs.List.{flat_map}
 use Rattle.std.proofs.lemmas.List.{ext_get_or}
 use Rattle.sgb_vec.specs.declared.panics.Panic.{Panic}
@@ -17,12 +17,7 @@ use Rattle.sgb.specs.Writing.{IsEnded, IsWritten}
 use Rattle.sgb.proofs.Endings.{change_of, memory_at_once, refused_at_once}
 use Rattle.sgb_vec.proofs.Lists.{range-first, range-none}
 use Rattle.sgb_levels.specs.Distances.{AreDistances, IsDistanceIfAny}
-use Rattle.sgb_levels.specs.Lines.{IsLevelsAnswer, distance_text, level_line, level_lines, line_of_level}
-
--- the parts of a line
-pub line-parts : (name : List ℕ) (distance : Option ℕ) → line_of_level name distance ≡ name ++ ((32 ∷ []) ++ (distance_text distance ++ (10 ∷ [])))
-unfolding line_of_level
-line-parts name distance = refl
+use Rattle.sgb_levels.specs.Lines.{IsLevelsAnswer, level_line, level_lines}
 
 -- the line of a vertex stands before those after it
 pub level_lines-first : (names : List (List ℕ)) (distances : List (Option ℕ)) (v : ℕ) → v < length names
@@ -50,28 +45,17 @@ distances_only g u xs ys x y =
     one_distance g u v (get_or xs v None) (get_or ys v None) (x.each v inside) (y.each v inside))
 
 -- the lines of the distances that were found are the answer
-written_is : {T : Type 0} (g : GraphData) (found : List (Option ℕ)) (a : Result (List ℕ) Fault) (same : Type 0) (out : Change) (r : Result T Fault)
+pub written_is : {T : Type 0} (g : GraphData) (found : List (Option ℕ)) (a : Result (List ℕ) Fault) (same : Type 0) (out : Change) (r : Result T Fault)
     → AreDistances g 0 found → IsWritten (level_lines (names_of g) found 0) out r → IsLevelsAnswer (Ok g) a → IsEnded a same out r
-written_is {T = T} g found (Ok text) same out r are written (distances, also, is) =
-    let alike : level_lines (names_of g) found 0 ≡ text = ap (λ ds. level_lines (names_of g) ds 0) (distances_only g 0 found distances are also) ∙ sym is in
-    subst (λ t. IsWritten {T = T} t out r) alike written
+written_is g found (Ok text) same out r are written (distances, also, is) = rw (is, ← distances_only g 0 found distances are also) written
 written_is g found (Err f) same out r are written answer = absurd answer
 
-pub answer_written : {T : Type 0} (v : Result GraphData Panic) (g : GraphData) (found : List (Option ℕ)) (a : Result (List ℕ) Fault) (same : Type 0) (out : Change) (r : Result T Fault)
-    → v ≡ Ok g → AreDistances g 0 found → IsWritten (level_lines (names_of g) found 0) out r → IsLevelsAnswer v a → IsEnded a same out r
-answer_written v g found a same out r is are written answer = written_is g found a same out r are written (subst (λ (x : Result GraphData Panic). IsLevelsAnswer x a) is answer)
-
 -- a graph that is refused is the answer
-refused_is : (T : Type 0) (p : Panic) (a : Result (List ℕ) Fault) (same : Type 0) (w : Option (List ℕ)) (failed : Bool) → failed ≡ false → same
-    → IsLevelsAnswer (Err p) a → IsEnded {T = T} a same (change_of w w failed) (Err (fault.Panic p))
-refused_is T p (Ok text) same w failed sound left answer = absurd answer
-refused_is T p (Err f) same w failed sound left answer = refused_at_once T (Err f) same (fault.Panic p) w failed (ap Err answer) sound left
-
 pub answer_refused : (T : Type 0) (v : Result GraphData Panic) (p : Panic) (a : Result (List ℕ) Fault) (same : Type 0) (w : Option (List ℕ)) (failed : Bool) → IsValue v (Err p) → failed ≡ false → same
     → IsLevelsAnswer v a → IsEnded {T = T} a same (change_of w w failed) (Err (fault.Panic p))
-answer_refused T v p a same w failed (inl is) sound left answer = refused_is T p a same w failed sound left (subst (λ (x : Result GraphData Panic). IsLevelsAnswer x a) is answer)
-answer_refused T v p a same w failed (inr is) sound left answer =
-    subst (λ q. IsEnded {T = T} a same (change_of w w failed) (Err (fault.Panic q))) (sym is) (memory_at_once T a same w failed sound left)
+answer_refused T v p (Ok text) same w failed (inl is) sound left answer = absurd (rw is at answer)
+answer_refused T v p (Err f) same w failed (inl is) sound left answer = refused_at_once T (Err f) same (fault.Panic p) w failed (ap Err (rw is at answer)) sound left
+answer_refused T v p a same w failed (inr is) sound left answer = rw is (memory_at_once T a same w failed sound left)
 
 -- so it is with the value of an expression, of which there is one
 pub answer_on : (input : List ℕ) (e : Expression) (v : Result GraphData Panic) (a : Result (List ℕ) Fault) → IsValueOn input e v → AreLevelsOn input e a → IsLevelsAnswer v a

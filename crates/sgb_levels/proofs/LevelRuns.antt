@@ -15,23 +15,14 @@ use Rattle.sgb.proofs.StdinValues.{kept_value, value_only}
 use Rattle.sgb_levels.specs.Lines.{IsLevelsAnswer}
 use Rattle.sgb_levels.specs.Program.{AreLevelsOn, AreLevelsWritten, AskFor, IsLevelsRun, IsRefused}
 
--- the words ask for an expression, and it was answered
-pub levels_ran : {W E : Type 0} (words : Result W E) (texts : W → List (List ℕ)) (kind : E → ErrorKind) (e : Expr) (source : Input) (same : Type 0) (out err : Change) (status : ℕ)
-    → MatchResult words (λ w. AskFor (texts w) (Ok e)) (λ x. ◌≡◌ {A = Result Expr Fault} (Ok e) (Err (unread_fault (kind x))))
-    → AreLevelsWritten (expression_of e) source same out err status
+-- the words ask for an expression, and it was answered, or they are refused, and that was reported
+pub levels_ran : {W E : Type 0} (words : Result W E) (texts : W → List (List ℕ)) (kind : E → ErrorKind) (read : Result Expr Fault) (source : Input) (same : Type 0) (out err : Change) (status : ℕ)
+    → MatchResult words (λ w. AskFor (texts w) read) (λ x. read ≡ Err (unread_fault (kind x)))
+    → MatchResult read (λ e. AreLevelsWritten (expression_of e) source same out err status) (λ f. IsRefused f same out err status)
     → MatchResult words (λ w. IsLevelsRun (texts w) source same out err status) (λ x. IsRefused (unread_fault (kind x)) same out err status)
-levels_ran (Ok w) texts kind e source same out err status asked run = inl (e, asked, run)
-levels_ran (Err x) texts kind e source same out err status asked run = absurd cc
-
--- they are refused, and that was reported
-pub levels_refused : {W E : Type 0} (words : Result W E) (texts : W → List (List ℕ)) (kind : E → ErrorKind) (f : Fault) (source : Input) (same : Type 0) (out err : Change) (status : ℕ)
-    → MatchResult words (λ w. AskFor (texts w) (Err f)) (λ x. ◌≡◌ {A = Result Expr Fault} (Err f) (Err (unread_fault (kind x))))
-    → IsRefused f same out err status
-    → MatchResult words (λ w. IsLevelsRun (texts w) source same out err status) (λ x. IsRefused (unread_fault (kind x)) same out err status)
-levels_refused (Ok w) texts kind f source same out err status asked refused = inr (f, asked, refused)
-levels_refused (Err x) texts kind f source same out err status asked refused =
-    let alike : f ≡ unread_fault (kind x) = cc in
-    subst (λ (h : Fault). IsRefused h same out err status) alike refused
+levels_ran (Ok w) texts kind (Ok e) source same out err status asked run = inl (e, asked, run)
+levels_ran (Ok w) texts kind (Err f) source same out err status asked refused = inr (f, asked, refused)
+levels_ran (Err x) texts kind read source same out err status asked refused = rw asked at refused
 
 -- what is kept of standard input is as good as all of it
 pub levels_written : (e : Expression) (source : Input) (kept : List ℕ) (same : Type 0) (out err : Change) (status : ℕ) → (has_stdin e ≡ true → IsKeptOfInput source.bytes kept)

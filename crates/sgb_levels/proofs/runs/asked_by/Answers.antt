@@ -9,10 +9,8 @@ use Rattle.sgb_levels.proofs.runs.asked_by.Goals as goal
 -- two words ask for what the second one is read as
 second_asks : (words : List (String Global)) (text : String Global) (bytes : List ℕ) (read : Result Expr Fault) → 1 < length words → length words < 3
     → text ≡ get_or words 1 text → bytes ≡ string_bytes text → IsReadAs bytes read → AskFor (map string_bytes words) read
-second_asks [] text bytes read some few is same h = absurd (omega (arith, some))
-second_asks (a ∷ []) text bytes read some few is same h = absurd (omega (arith, some))
 second_asks (a ∷ b ∷ []) text bytes read some few is same h = subst (λ (t : List ℕ). IsReadAs t read) (same ∙ ap string_bytes is) h
-second_asks (a ∷ b ∷ c ∷ words) text bytes read some few is same h = absurd (omega (arith, few))
+second_asks _ text bytes read some few is same h = absurd (omega arith)
 
 pub returns-in-len2 : goal.returns-in-len2
 returns-in-len2 c =

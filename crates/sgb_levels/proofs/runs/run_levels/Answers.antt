@@ -1,18 +1,18 @@
-use Rattle.std.proofs.Common.{◌∙◌, refl, sym}
+use Rattle.std.proofs.Common.{◌∙◌, Ok, Err, refl, sym}
 use Rattle.sgb_expr.specs.Expression.{expression_of}
 use Rattle.sgb.proofs.Endings.{fault_status}
-use Rattle.sgb_levels.proofs.LevelRuns.{levels_ran, levels_refused, levels_written}
+use Rattle.sgb_levels.proofs.LevelRuns.{levels_ran, levels_written}
 use Rattle.sgb_levels.proofs.runs.run_levels.Goals as goal
 
 pub returns-in-Ok-clause-read : goal.returns-in-Ok-clause-read
 returns-in-Ok-clause-read g c =
     let (kept, is, each) = c.run_answer.ensures.answers in
-    levels_ran c.args.words _ _ c.in-Ok.expression _ _ _ _ c.run_answer.result c.in-Ok.ensures
+    levels_ran c.args.words _ _ (Ok c.in-Ok.expression) _ _ _ _ c.run_answer.result c.in-Ok.ensures
     (levels_written (expression_of c.in-Ok.expression) _ kept _ _ _ _ is (λ a answer. (each a answer).0))
 
 pub returns-in-Err-clause-read : goal.returns-in-Err-clause-read
 returns-in-Err-clause-read g c =
-    levels_refused c.args.words _ _ c.in-Err.fault _ _ _ _ c.report_refusal.result c.in-Err.ensures
+    levels_ran c.args.words _ _ (Err c.in-Err.fault) _ _ _ _ c.report_refusal.result c.in-Err.ensures
     (record { left = refl; untouched = refl; sound = c.requires; line = c.report_refusal.ensures.line; exit = c.report_refusal.ensures.status })
 
 pub returns-in-Err-clause-flushed : goal.returns-in-Err-clause-flushed

@@ -1,7 +1,7 @@
 use Rattle.std.proofs.Common.{inr, refl}
 use Rattle.sgb_expr.specs.Expression.{expression_of}
 use Rattle.sgb.proofs.Endings.{exit_ended}
-use Rattle.sgb_levels.proofs.LevelAnswers.{answer_on, answer_refused, answer_written}
+use Rattle.sgb_levels.proofs.LevelAnswers.{answer_on, answer_refused, written_is}
 use Rattle.sgb_levels.proofs.runs.LevelsAnswer.write.Goals as goal
 
 pub returns-in_err-graph-clause-ended : goal.returns-in_err-graph-clause-ended
@@ -18,5 +18,5 @@ returns-in_err-distances-clause-ended g c = λ a answer.
 pub returns-clause-ended : goal.returns-clause-ended
 returns-clause-ended g c = λ a answer.
     let (value, on, is) = c.in_ok-graph.ensures.value in
-    answer_written _ c.in_ok-graph.graph c.in_ok-distances.distances.items a _ _ _ is c.in_ok-distances.ensures.distances (rw c.as_slice.ensures.value at c.write_lines.ensures)
-    (answer_on c.deref.result.now (expression_of c.args.self.now.expression) value a on (rw c.deref.ensures.value answer))
+    written_is c.in_ok-graph.graph c.in_ok-distances.distances.items a _ _ _ c.in_ok-distances.ensures.distances (rw c.as_slice.ensures.value at c.write_lines.ensures)
+    (rw is at (answer_on c.deref.result.now (expression_of c.args.self.now.expression) value a on (rw c.deref.ensures.value answer)))
