@@ -47,83 +47,9 @@ number_kept P (Err h) n is said = subst P (sym is) said
 pub graph_of_call : (text : List ℕ) (l : Local) → (f : Generator) × IsTextOfGenerator text f × (generator_value f ≡ Ok (described l)) → IsGraphOfCall text (graph_described (described l))
 graph_of_call text l (f, call, value) = (f, call, ap made value)
 
--- why a chunk of it is not there
-pub chunk_number : (text : List ℕ) (first count : ℕ) (l : Local) (number : ℕ) → (f : Generator) × IsTextOfGenerator text f × (generator_value f ≡ Ok (described l))
-    → (why : Fault) × IsChunkRefusal (graph_described (described l)) first count why × (number ≡ number_of_fault why) → IsChunkNumber text first count number
-chunk_number text first count l number named (why, inl (e, out), is) = inr (graph_described (described l), graph_of_call text l named, is ∙ ap number_of_fault e, out)
-chunk_number text first count l number (f, call, value) (why, inr e, is) = inl (inr (inr (f, NoRoom, call, inr refl, is ∙ ap number_of_fault e)))
-
--- a call on it that answers so leaves all as it was
-pub chunk_unanswered : (text : List ℕ) (first count number : ℕ) (done : GraphData → Type 0) (fits : GraphData → Type 0) (left : Type 0)
-    → IsChunkNumber text first count number → left → IsAnswerOfCall text done (λ g n. IsMisfit (fits g) g first count n) left number
-chunk_unanswered text first count number done fits left (inl refused) same = inr (inl refused, same)
-chunk_unanswered text first count number done fits left (inr (g, graph, is, out)) same = inr (inr (g, graph, inl (is, out)), same)
-
-pub sizes_unanswered : (text : List ℕ) (first count number : ℕ) (done : GraphData → Type 0) (left : Type 0)
-    → IsChunkNumber text first count number → left → IsAnswerOfCall text done (λ g n. (n ≡ not_there) × (IsThere g first count → ⊥)) left number
-sizes_unanswered text first count number done left (inl refused) same = inr (inl refused, same)
-sizes_unanswered text first count number done left (inr (g, graph, is, out)) same = inr (inr (g, graph, (is, out)), same)
-
--- what was copied answers the call
-call_copied : (text : List ℕ) (first count number : ℕ) (Fits Copied : GraphData → Type 0) (left : Type 0) (g : GraphData) → IsGraphOfCall text g → IsThere g first count → number ≡ 0 → Fits g → Copied g
-    → IsAnswerOfCall text (λ h. IsThere h first count × Fits h × Copied h) (λ h n. IsMisfit (Fits h) h first count n) left number
-call_copied text first count number Fits Copied left g graph there ok fits are = inl (ok, (g, graph, (there, fits, are)))
-
--- arrays that do not fit are left as they were
-call_misfit : (text : List ℕ) (first count number : ℕ) (Fits Copied : GraphData → Type 0) (left : Type 0) (g : GraphData) → IsGraphOfCall text g → IsThere g first count
-    → number ≡ number_of_wrong wrong.Length → (Fits g → ⊥) → left → IsAnswerOfCall text (λ h. IsThere h first count × Fits h × Copied h) (λ h n. IsMisfit (Fits h) h first count n) left number
-call_misfit text first count number Fits Copied left g graph there is out same = inr (inr (g, graph, inr (is, there, out)), same)
-
--- the names of a chunk are copied, or the arrays do not fit
-pub names_copied : (text : List ℕ) (first count number : ℕ) (starts bytes starts_after bytes_after begins letters : List ℕ)
-    → (g : GraphData) × IsGraphOfCall text g × IsThere g first count × AreChunkNames g first count begins letters
-    → (number ≡ 0 → (length starts ≡ length begins) × (length bytes ≡ length letters) × (starts_after ≡ begins) × (bytes_after ≡ letters))
-    → (number ≡ 0) ⊎ ((number ≡ number_of_wrong wrong.Length) × ((length starts ≡ length begins) × (length bytes ≡ length letters) → ⊥) × (starts_after ≡ starts) × (bytes_after ≡ bytes))
-    → IsAnswerOfCall text (λ h. IsThere h first count × HaveChunkNameLengths h first count starts bytes × AreChunkNames h first count starts_after bytes_after)
-    (λ h n. IsMisfit (HaveChunkNameLengths h first count starts bytes) h first count n) ((starts_after ≡ starts) × (bytes_after ≡ bytes)) number
-names_copied text first count number starts bytes starts_after bytes_after begins letters (g, graph, there, are) copied (inl ok) =
-    let (a, b, s, t) = copied ok in
-    call_copied text first count number (λ h. HaveChunkNameLengths h first count starts bytes) (λ h. AreChunkNames h first count starts_after bytes_after) _ g graph there ok
-    (record { starts = a ∙ ap length are.starts ∙ length-chunk_starts (name_at g) first count; bytes = b ∙ ap length are.bytes })
-    (record { starts = s ∙ are.starts; bytes = t ∙ are.bytes })
-names_copied text first count number starts bytes starts_after bytes_after begins letters (g, graph, there, are) copied (inr (is, out, s, t)) =
-    call_misfit text first count number (λ h. HaveChunkNameLengths h first count starts bytes) (λ h. AreChunkNames h first count starts_after bytes_after) _ g graph there is
-    (λ fits. out (fits.starts ∙ sym (ap length are.starts ∙ length-chunk_starts (name_at g) first count), fits.bytes ∙ sym (ap length are.bytes))) (s, t)
-
--- the lists likewise
-module _ (g : GraphData) (first count : ℕ) (begins leads : List ℕ) (weights : List ℤ) (are : AreChunkRows g first count begins leads weights) where
-  begins_count : length begins ≡ count + 1
-  begins_count = ap length are.starts ∙ length-chunk_starts (chain_of g) first count
-
-  leads_count : length leads ≡ length (chunk_of (chain_of g) first count)
-  leads_count = ap length are.tips ∙ length-map (chunk_of (chain_of g) first count) (λ l. l.tip)
-
-  weights_count : length weights ≡ length (chunk_of (chain_of g) first count)
-  weights_count = ap length are.lengths ∙ length-map (chunk_of (chain_of g) first count) (λ l. l.len)
-
-pub rows_copied : (text : List ℕ) (first count number : ℕ) (starts tips : List ℕ) (lengths : List ℤ) (starts_after tips_after : List ℕ) (lengths_after : List ℤ) (begins leads : List ℕ) (weights : List ℤ)
-    → (g : GraphData) × IsGraphOfCall text g × IsThere g first count × AreChunkRows g first count begins leads weights
-    → (number ≡ 0 → (length starts ≡ length begins) × (length tips ≡ length leads) × (length lengths ≡ length weights) × (starts_after ≡ begins) × (tips_after ≡ leads) × (lengths_after ≡ weights))
-    → (number ≡ 0) ⊎ ((number ≡ number_of_wrong wrong.Length)
-    × ((length starts ≡ length begins) × (length tips ≡ length leads) × (length lengths ≡ length weights) → ⊥)
-    × (starts_after ≡ starts) × (tips_after ≡ tips) × (lengths_after ≡ lengths))
-    → IsAnswerOfCall text (λ h. IsThere h first count × HaveChunkRowLengths h first count starts tips lengths × AreChunkRows h first count starts_after tips_after lengths_after)
-    (λ h n. IsMisfit (HaveChunkRowLengths h first count starts tips lengths) h first count n) ((starts_after ≡ starts) × (tips_after ≡ tips) × (lengths_after ≡ lengths)) number
-rows_copied text first count number starts tips lengths starts_after tips_after lengths_after begins leads weights (g, graph, there, are) copied (inl ok) =
-    let (a, b, c, s, t, u) = copied ok in
-    call_copied text first count number (λ h. HaveChunkRowLengths h first count starts tips lengths) (λ h. AreChunkRows h first count starts_after tips_after lengths_after) _ g graph there ok
-    (record {
-      starts = a ∙ begins_count g first count begins leads weights are;
-      tips = b ∙ leads_count g first count begins leads weights are;
-      lengths = c ∙ weights_count g first count begins leads weights are;
-    })
-    (record { starts = s ∙ are.starts; tips = t ∙ are.tips; lengths = u ∙ are.lengths })
-rows_copied text first count number starts tips lengths starts_after tips_after lengths_after begins leads weights (g, graph, there, are) copied (inr (is, out, s, t, u)) =
-    call_misfit text first count number (λ h. HaveChunkRowLengths h first count starts tips lengths) (λ h. AreChunkRows h first count starts_after tips_after lengths_after) _ g graph there is
-    (λ fits.
-    out (
-      fits.starts ∙ sym (begins_count g first count begins leads weights are),
-      fits.tips ∙ sym (leads_count g first count begins leads weights are),
-      fits.lengths ∙ sym (weights_count g first count begins leads weights are),
-    ))
-    (s, t, u)
+-- why a chunk of it is not there, by a number that is handed on
+pub chunk_number : {T : Type 0} (text : List ℕ) (first count : ℕ) (l : Local) (n : ℕ) (r : Result T ℕ) → IsErrAnd r (λ h. h ≡ n) → (f : Generator) × IsTextOfGenerator text f × (generator_value f ≡ Ok (described l))
+    → (why : Fault) × IsChunkRefusal (graph_described (described l)) first count why × (n ≡ number_of_fault why) → IfErr r (IsChunkNumber text first count)
+chunk_number text first count l n (Ok x) same named said = absurd same
+chunk_number text first count l n (Err h) same named (why, inl (e, out), is) = inr (graph_described (described l), graph_of_call text l named, same ∙ is ∙ ap number_of_fault e, out)
+chunk_number text first count l n (Err h) same (f, call, value) (why, inr e, is) = inl (inr (inr (f, NoRoom, call, inr refl, same ∙ is ∙ ap number_of_fault e)))

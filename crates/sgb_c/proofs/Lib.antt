@@ -5,7 +5,5 @@ pub mod Named
 pub mod LooseValues
 -- the types of a box that is taken apart and made again
 pub mod BoxTypes
--- a call on the graph that a handle holds
-pub mod OnHandles
 -- the graph of a generator's call, and chunks of it
 pub mod CallGraphs

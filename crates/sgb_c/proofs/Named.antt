@@ -21,26 +21,17 @@ pub text_refused : (text input : List ℕ) (r : Result GraphData Fault) (f : Fau
 text_refused text input (Ok g) f is refused = absurd is
 text_refused text input (Err h) f is refused = inl (subst (λ (k : Fault). IsReadAs text (Err k)) (sym is) refused)
 
--- its value is this one too
-same_value : (input : List ℕ) (e : Expression) (v w : Result GraphData Panic) → v ≡ w → IsValueOn input e v → IsValueOn input e w
-same_value input e v w same on = subst (IsValueOn input e) same on
-
 -- its value is a refusal, or memory ran out
-refused_is : (text input : List ℕ) (e : Expr) (p : Panic) (v : Result GraphData Panic) → IsReadAs text (Ok e) → IsValueOn input (expression_of e) v → IsValue v (Err p)
-    → IsGraphNamed text input (Err (fault.Panic p))
-refused_is text input e p v read on (inl is) = inr (p, refl, (expression_of e, read.0, read.1, same_value input (expression_of e) v (Err p) is on))
-refused_is text input e p v read on (inr none) = inl (unread.NoRoom, tt, ap fault.Panic none)
-
 pub value_refused : (text input : List ℕ) (r : Result GraphData Fault) (e : Expr) (p : Panic) → IsErrAnd r (λ h. h ≡ fault.Panic p) → IsReadAs text (Ok e)
     → (v : Result GraphData Panic) × IsValueOn input (expression_of e) v × IsValue v (Err p) → IsGraphNamed text input r
 value_refused text input (Ok g) e p is read refused = absurd is
-value_refused text input (Err h) e p is read (v, on, refused) =
-    subst (λ (k : Fault). IsGraphNamed text input (Err k)) (sym is) (refused_is text input e p v read on refused)
+value_refused text input (Err h) e p is read (v, on, inl same) = inr (p, is, (expression_of e, read.0, read.1, rw same at on))
+value_refused text input (Err h) e p is read (v, on, inr none) = inl (unread.NoRoom, tt, is ∙ ap fault.Panic none)
 
 -- it is a graph
 pub value_named : (text input : List ℕ) (e : Expr) (g : GraphData) → IsReadAs text (Ok e)
     → (v : Result GraphData Panic) × IsValueOn input (expression_of e) v × IsValue v (Ok g) → IsGraphNamed text input (Ok g)
-value_named text input e g read (v, on, is) = (expression_of e, read.0, read.1, same_value input (expression_of e) v (Ok g) is on)
+value_named text input e g read (v, on, is) = (expression_of e, read.0, read.1, rw is at on)
 
 -- memory ran out
 pub memory_refused : {T : Type 0} (text input : List ℕ) (r : Result T Fault) (p : Panic) → IsErrAnd r (λ h. h ≡ fault.Panic p) → p ≡ NoRoom → IfErr r (λ f. IsGraphNamed text input (Err f))

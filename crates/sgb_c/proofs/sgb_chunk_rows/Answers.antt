@@ -1,20 +1,25 @@
-use Rattle.std.proofs.Common.{◌≡◌, refl}
-use Rattle.sgb_chunks.specs.Chunks.{AreChunkRows, HaveChunkRowLengths, IsThere}
-use Rattle.sgb_c.proofs.CallGraphs.{chunk_unanswered, rows_copied}
+use Rattle.std.proofs.Common.{◌∙◌, length, refl, sym, ap, inl, inr}
+use Rattle.std.proofs.lemmas.List.{length-map}
+use Rattle.sgb_graph.specs.Graphs.{chain_of}
+use Rattle.sgb_chunks.specs.Chunks.{chunk_of}
+use Rattle.sgb_chunks.proofs.ChunkSteps.{length-chunk_starts}
 use Rattle.sgb_c.proofs.sgb_chunk_rows.Goals as goal
 
 pub returns-in-Ok : goal.returns-in-Ok
 returns-in-Ok c =
-    rows_copied c.args.text.now c.args.first c.args.count c.copy_rows.result c.args.starts.now c.args.tips.now c.args.lengths.now c.copy_rows.new.starts c.copy_rows.new.tips c.copy_rows.new.lengths
-    c.in-Ok.rows.starts.items c.in-Ok.rows.tips.items c.in-Ok.rows.lengths.items c.in-Ok.ensures.rows c.copy_rows.ensures.copied c.copy_rows.ensures.refused
+    let (g, graph, there, are) = c.in-Ok.ensures.rows in
+    let begun = ap length are.starts ∙ length-chunk_starts (chain_of g) c.args.first c.args.count in
+    let arcs = ap length are.tips ∙ length-map (chunk_of (chain_of g) c.args.first c.args.count) (λ l. l.tip) in
+    let same = ap length are.lengths ∙ length-map (chunk_of (chain_of g) c.args.first c.args.count) (λ l. l.len) in
+    elim c.copy_rows.ensures.refused [
+      | inl ok ↦
+          let (a, b, d, s, t, u) = c.copy_rows.ensures.copied ok in
+          inl (ok, (g, graph, (there, record { starts = a ∙ begun; tips = b ∙ arcs; lengths = d ∙ same }, record { starts = s ∙ are.starts; tips = t ∙ are.tips; lengths = u ∙ are.lengths })))
+      | inr (is, out, s, t, u) ↦ inr (inr (g, graph, inr (is, there, λ fits. out (fits.starts ∙ sym begun, fits.tips ∙ sym arcs, fits.lengths ∙ sym same))), (s, t, u))
+    ]
 
 pub returns-in-Err : goal.returns-in-Err
-returns-in-Err c =
-    let first = c.args.first in
-    let count = c.args.count in
-    let starts = c.args.starts.now in
-    let tips = c.args.tips.now in
-    let lengths = c.args.lengths.now in
-    chunk_unanswered c.args.text.now first count c.in-Err.number
-    (λ g. IsThere g first count × HaveChunkRowLengths g first count starts tips lengths × AreChunkRows g first count starts tips lengths)
-    (λ g. HaveChunkRowLengths g first count starts tips lengths) ((starts ≡ starts) × (tips ≡ tips) × (lengths ≡ lengths)) c.in-Err.ensures.refused (refl, refl, refl)
+returns-in-Err c = elim c.in-Err.ensures.refused [
+  | inl refused ↦ inr (inl refused, (refl, refl, refl))
+  | inr (g, graph, is, out) ↦ inr (inr (g, graph, inl (is, out)), (refl, refl, refl))
+]

@@ -9,5 +9,4 @@ returns-in_err-local-clause-refused c =
 
 pub returns-in_err-rows-clause-refused : goal.returns-in_err-rows-clause-refused
 returns-in_err-rows-clause-refused c =
-    number_kept (IsChunkNumber c.args.text.now c.args.first c.args.count) c.from_residual-in_err-rows.result c.in_err-rows.field-0.0 c.from_residual-in_err-rows.ensures.1
-    (chunk_number c.args.text.now c.args.first c.args.count c.in_ok-local.local c.in_err-rows.field-0.0 c.in_ok-local.ensures.named c.in_err-rows.ensures.refused)
+    chunk_number c.args.text.now c.args.first c.args.count c.in_ok-local.local _ c.from_residual-in_err-rows.result c.from_residual-in_err-rows.ensures.1 c.in_ok-local.ensures.named c.in_err-rows.ensures.refused
