@@ -1,5 +1,6 @@
 -- Unions and intersections of graphs with parallel edges.
-use Rattle.std.specs.Prelude.{◌≡◌, true, false, [], ◌∷◌, codes, refl}
+use Rattle.std.specs.Prelude.{◌≡◌, pos, true, false, [], ◌∷◌, codes, refl}
+use Rattle.std.specs.Fmt.{digits}
 use Rattle.sgb_graph.specs.Graphs.{GraphData, numbers_from}
 use Rattle.sgb_graph.specs.Events.{list_from}
 use Rattle.sgb_graph.specs.Ids.{double_compound_id}
@@ -8,7 +9,7 @@ use Rattle.sgb_ops.specs.Taken.{each_edge_once}
 use Rattle.sgb_ops.specs.Merged.{merged, merged_unless}
 use Rattle.sgb_ops.specs.Gunion.{gunion_of, union_events}
 use Rattle.sgb_ops.specs.Intersection.{intersection_of, intersection_events}
-use Rattle.sgb_ops.proofs.Examples.Operands.{event, numbers, complete_3, cycle_3, rider_3, circuit_3, circuit_4, loop_1, arcs, title}
+use Rattle.sgb_ops.proofs.Examples.Operands.{event, numbers, complete_3, cycle_3, rider_3, circuit_3, circuit_4, loop_1, arcs, block, title}
 
 -- two edges between 0 and 1, the shorter one last; and graphs with one that is shorter still
 abbrev first : GraphData
@@ -58,8 +59,10 @@ pub simple_intersected :
     (intersection_events rider_3 complete_3 true false ≡ event 0 2 2 ∷ event 0 1 1 ∷ event 1 2 1 ∷ [])
     × (intersection_events complete_3 rider_3 true false ≡ event 0 2 2 ∷ event 0 1 2 ∷ event 1 2 2 ∷ [])
     × (arcs (intersection_of rider_3 rider_3 true false) ≡ 12)
-unfolding numbers_from list_from each_edge_once
-simple_intersected = (refl, refl, refl)
+    × (block (intersection_of rider_3 complete_3 true false) 0 ≡ (codes "1", pos 1) ∷ (codes "2", pos 2) ∷ [])
+    × (block (intersection_of complete_3 rider_3 true false) 0 ≡ (codes "1", pos 2) ∷ (codes "2", pos 2) ∷ [])
+unfolding digits numbers_from list_from each_edge_once
+simple_intersected = (refl, refl, refl, refl, refl)
 
 -- of each loop one record counts in either graph
 abbrev loops : GraphData
