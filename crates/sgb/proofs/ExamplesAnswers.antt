@@ -1,32 +1,38 @@
 -- Answers of requests on small graphs, worked out by hand, and what they are made of.
-use Rattle.std.specs.Prelude.{◌≡◌, ℕ, ℤ, pos, negsuc, true, false, List, [], ◌∷◌, ◌++◌, length, Some, None, Ok, Err, map, codes, refl}
+use Rattle.std.specs.Prelude.{◌≡◌, ℕ, ℤ, pos, negsuc, true, false, List, [], ◌∷◌, ◌++◌, length, take, Some, None, Result, Ok, Err, map, codes, refl}
 use Rattle.std.proofs.Common.{inl}
 use Rattle.std.proofs.lemmas.Bool.{leb-true}
 use Rattle.std.specs.Fmt.{digits}
+use Rattle.std.specs.Result.{result_map_both}
 use Rattle.sgb_vec.specs.Boxes.{box}
 use Rattle.sgb_vec.specs.Names.{name_of_vector}
 use Rattle.sgb_vec.specs.Sizes.{repeated}
 use Rattle.sgb_vec.specs.Sums.{bounded_sums, has_great_count}
+use Rattle.sgb_vec.specs.declared.panics.Panic.{Panic}
 use Rattle.sgb_vec.specs.declared.panics.Panic.TheVariants.{Bad, VeryBad, Early}
 use Rattle.sgb_graph.specs.Events.{list_from}
-use Rattle.sgb_graph.specs.Graphs.{numbers_from}
+use Rattle.sgb_graph.specs.Graphs.{GraphData, numbers_from}
+use Rattle.sgb_graph.specs.Ids.{compound_id, double_compound_id}
 use Rattle.sgb_graph.specs.Made.{graph_described}
 use Rattle.sgb_gen.specs.Boards.{board_id}
 use Rattle.sgb_gen.specs.Displacements.{displacements, vectors_of_norm}
 use Rattle.sgb_gen.specs.Moves.{board_moves}
 use Rattle.sgb_gen.specs.Simplexes.{simplex_id, moves_of_simplex}
 use Rattle.sgb_gen.specs.VectorGraphs.{family_graph}
+use Rattle.sgb_ops.specs.Merged.{merged}
+use Rattle.sgb_ops.specs.Taken.{each_edge_once}
 use Rattle.sgb_ops.specs.declared.entries.Entry.TheVariants as entry
 use Rattle.sgb_file.specs.FileLines.{text_of_lines}
 use Rattle.sgb_file.proofs.Examples.GraphFiles.{one_cell, one_cell_lines}
 use Rattle.sgb_file.proofs.Examples.Restoring.{no_file_read, one_cell_read}
-use Rattle.sgb_expr.specs.Expression.{Expression, EntryThen, Generated, Graph, Gunion, NoEntries, Number, Stdin}
+use Rattle.sgb_expr.specs.Expression.{Expression, BiComplete, Complement, EntryThen, Generated, Graph, Gunion, Induced, Intersection, Lines, NoEntries, Number, Product, Stdin, Wheel}
 use Rattle.sgb_expr.specs.declared.expressions.Expr.{Expr}
 use Rattle.sgb_expr.specs.declared.expressions.Expr.TheVariants as expr
 use Rattle.sgb_expr.specs.declared.expressions.Generator.{Generator}
 use Rattle.sgb_expr.specs.declared.expressions.Generator.TheVariants as generator
 use Rattle.sgb.specs.Locals.{family_text, start_after, vectors_of}
-use Rattle.sgb.specs.Outcomes.{answer_of}
+use Rattle.sgb.specs.Outcomes.{answer_of, outcome_of, queen_moves, reads_input}
+use Rattle.sgb_requests.specs.Faults.{fault_line}
 use Rattle.sgb.specs.Texts.{arc_line, block, blocks, head_text, name_lines}
 use Rattle.sgb.specs.Values.{IsStdinValue, described, most_input, numbered_entry, value_of, values_of}
 use Rattle.sgb.specs.declared.locals.Local.{Local}
@@ -131,6 +137,62 @@ entries_valued = (refl, refl)
 pub numbers_told : map numbered_entry (pos 0 ∷ pos 7 ∷ pos 4_294_967_296 ∷ negsuc 0 ∷ negsuc 6 ∷ negsuc 4_294_967_296 ∷ [])
     ≡ entry.Copies 0 ∷ entry.Copies 7 ∷ entry.Copies 4_294_967_295 ∷ entry.Merged 1 ∷ entry.Merged 7 ∷ entry.Merged 4_294_967_295 ∷ []
 numbers_told = refl
+
+-- the id of a graph, which has the arguments in their order
+abbrev id_of : Result GraphData Panic → List ℕ
+id_of (Ok g) = g.id
+id_of (Err p) = []
+
+-- board(1,1,0,0,1,0,0)
+abbrev one_square : Expression
+one_square = Generated (squares (pos 1) (pos 1) (pos 1))
+
+-- the value of each operation, where `stdin` is board(1,0,0,0,1,0,0), by its id
+abbrev ids : List Expression → List (List ℕ)
+ids values = map (λ e. id_of (value_of (Ok one_cell) e)) values
+
+pub one_operand :
+    ids (Complement Stdin true false false ∷ Complement Stdin false true true ∷ Lines Stdin true ∷ Lines Stdin false
+    ∷ Induced Stdin (EntryThen (Number (pos 1)) NoEntries) true false false ∷ Induced Stdin (EntryThen (Number (pos 1)) NoEntries) false true false ∷ Induced Stdin (EntryThen (Number (pos 1)) NoEntries) false false true ∷ [])
+    ≡ codes "complement(board(1,0,0,0,1,0,0),1,0,0)" ∷ codes "complement(board(1,0,0,0,1,0,0),0,1,1)"
+    ∷ codes "lines(board(1,0,0,0,1,0,0),1)" ∷ codes "lines(board(1,0,0,0,1,0,0),0)"
+    ∷ codes "induced(board(1,0,0,0,1,0,0),,1,0,0)" ∷ codes "induced(board(1,0,0,0,1,0,0),,0,1,0)" ∷ codes "induced(board(1,0,0,0,1,0,0),,0,0,1)" ∷ []
+unfolding digits numbers_from list_from each_edge_once merged compound_id
+one_operand = refl
+
+pub two_operands :
+    ids (Gunion Stdin one_square true false ∷ Gunion one_square Stdin false true ∷ Intersection Stdin one_square true false
+    ∷ Intersection one_square Stdin false true ∷ Product Stdin one_square (pos 2) false ∷ Product one_square Stdin (pos 1) true ∷ [])
+    ≡ codes "gunion(board(1,0,0,0,1,0,0),board(1,1,0,0,1,0,0),1,0)" ∷ codes "gunion(board(1,1,0,0,1,0,0),board(1,0,0,0,1,0,0),0,1)"
+    ∷ codes "intersection(board(1,0,0,0,1,0,0),board(1,1,0,0,1,0,0),1,0)" ∷ codes "intersection(board(1,1,0,0,1,0,0),board(1,0,0,0,1,0,0),0,1)"
+    ∷ codes "product(board(1,0,0,0,1,0,0),board(1,1,0,0,1,0,0),2,0)" ∷ codes "product(board(1,1,0,0,1,0,0),board(1,0,0,0,1,0,0),1,1)" ∷ []
+unfolding box repeated digits name_of_vector displacements vectors_of_norm board_moves board_id family_graph numbers_from list_from each_edge_once merged double_compound_id
+two_operands = refl
+
+pub no_operand :
+    ids (BiComplete (pos 1) (pos 2) false ∷ BiComplete (pos 1) (pos 2) true ∷ Wheel (pos 3) (pos 1) false ∷ Wheel (pos 3) (pos 1) true ∷ [])
+    ≡ codes "bi_complete(1,2,0)" ∷ codes "bi_complete(1,2,1)" ∷ codes "wheel(3,1,0)" ∷ codes "wheel(3,1,1)" ∷ []
+unfolding box repeated digits name_of_vector displacements vectors_of_norm board_moves board_id family_graph numbers_from list_from each_edge_once merged compound_id
+no_operand = refl
+
+-- ---- queens, what is seen of an answer, and what reads standard input
+
+pub queens : result_map_both (λ text. take 167 text) (λ f. f) (answer_of request.Queen (Err Early))
+    ≡ Ok (codes "Queen Moves on a 3x4 Board\n\n  The graph whose official name is\ngunion(board(3,4,0,0,-1,0,0),board(3,4,0,0,-2,0,0),0,0)\n  has 12 vertices and 92 arcs:\n\n0.0\n  -> 1.1, le")
+unfolding box repeated digits name_of_vector displacements vectors_of_norm board_moves board_id family_graph numbers_from list_from each_edge_once merged double_compound_id blocks block arc_line head_text queen_moves
+queens = refl
+
+pub seen :
+    (outcome_of (Ok (codes "0\n")) ≡ record { output = codes "0\n"; line = []; status = 0 })
+    × (outcome_of (Err fault.NoVertex) ≡ record { output = []; line = codes "sgb: no such vertex\n"; status = 1 })
+unfolding fault_line
+seen = (refl, refl)
+
+pub input_read :
+    map reads_input (request.Names expr.Stdin resume.Whole ∷ request.List expr.Stdin resume.Whole ∷ request.Save expr.Stdin ∷ [])
+    ++ map reads_input (request.Names ring resume.Whole ∷ request.List ring resume.Whole ∷ request.Save ring ∷ request.Queen ∷ [])
+    ≡ true ∷ true ∷ true ∷ false ∷ false ∷ false ∷ false ∷ []
+input_read = refl
 
 -- ---- a generator's listing
 

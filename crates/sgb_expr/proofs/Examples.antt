@@ -1,8 +1,12 @@
 -- Texts and the expressions that they are, and where others go wrong, by evaluation.
-use Rattle.std.proofs.Common.{◌≡◌, true, false, [], ◌∷◌, map, codes, Ok, Err, refl, pos, negsuc}
+use Rattle.std.proofs.Common.{◌≡◌, ◌≤◌, ◌<◌, ◌==◌, ◌++◌, ℕ, true, false, List, [], ◌∷◌, map, length, take, codes, Ok, Err, refl, ap, inl, inr, pos, negsuc, arith}
+use Rattle.std.specs.Prelude.{count_by}
+use Rattle.std.specs.List.{range_with_len}
+use Rattle.std.proofs.lemmas.List.FromFn.{length-map-range_with_len, take-map-range_with_len}
+use Rattle.std.proofs.lemmas.List.Sums.{count_by-le-length}
 use Rattle.sgb_gen.specs.Shorthands.{complete, transitive, empty, circuit, cycle, disjoint_subsets, petersen}
 use Rattle.sgb_expr.specs.Expression.{Expression, Entry, Entries}
-use Rattle.sgb_expr.specs.Expressions.{IsExpression}
+use Rattle.sgb_expr.specs.Expressions.{IsExpression, IsTooLarge}
 use Rattle.sgb_expr.specs.FlipTexts.{IsFlip}
 use Rattle.sgb_expr.specs.inner.FlipTexts.{whole_flip_at}
 use Rattle.sgb_expr.specs.inner.Names.{generator_openings, openings}
@@ -153,3 +157,35 @@ flip_is = word_whole reads_flip _ _ flip_example
 -- 1 byte is left, a `)` where the fourth integer is missing
 wrong_flip : whole_flip_at (codes "flip(1,2,3)") ≡ Err 1
 wrong_flip = refl
+
+-- and as the one operand of each operation on one
+finds_one : map has_stdin (Expression.Stdin ∷ Expression.Complement Expression.Stdin false false false ∷ Expression.Lines Expression.Stdin false ∷ Expression.Induced Expression.Stdin Entries.NoEntries false false false ∷ []) ≡ true ∷ true ∷ true ∷ true ∷ []
+finds_one = refl
+
+-- ---- texts that are too large
+
+-- so many bytes of one kind
+abbrev bytes : ℕ → ℕ → List ℕ
+bytes byte n = map (λ k. byte) (range_with_len 0 n)
+
+no_opening : (places : List ℕ) → count_by (λ byte. byte == 40) (map (λ k. 32) places) ≡ 0
+no_opening [] = refl
+no_opening (k ∷ places) = no_opening places
+
+-- of more than 65,536 bytes
+too_long : (n : ℕ) → 65_536 < n → IsTooLarge (bytes 32 n)
+too_long n e = inl (omega (arith, length-map-range_with_len {X = ℕ} (λ k. 32) 0 n))
+
+not_too_long : (n : ℕ) → n ≤ 65_536 → IsTooLarge (bytes 32 n) → ⊥
+not_too_long n e (inl long) = omega (arith, length-map-range_with_len {X = ℕ} (λ k. 32) 0 n)
+not_too_long n e (inr (k, within, deep)) =
+    omega (arith, ap (count_by (λ byte. byte == 40)) (take-map-range_with_len {X = ℕ} (λ k. 32) 0 n k (omega (arith, length-map-range_with_len {X = ℕ} (λ k. 32) 0 n))), no_opening (range_with_len 0 k))
+
+-- of 65 nested in one another, also where they end; 64 are not too many
+too_deep : IsTooLarge (bytes 40 65) × IsTooLarge (bytes 40 65 ++ bytes 41 65) × IsTooLarge (bytes 40 60 ++ (bytes 41 60 ++ bytes 40 65))
+too_deep = (inr (65, omega arith, omega arith), inr (65, omega arith, omega arith), inr (185, omega arith, omega arith))
+
+not_too_deep : (n : ℕ) → n ≤ 64 → IsTooLarge (bytes 40 n) → ⊥
+not_too_deep n e (inl long) = omega (arith, length-map-range_with_len {X = ℕ} (λ k. 40) 0 n)
+not_too_deep n e (inr (k, within, deep)) =
+    omega (arith, ap length (take-map-range_with_len {X = ℕ} (λ k. 40) 0 n k (omega (arith, length-map-range_with_len {X = ℕ} (λ k. 40) 0 n))), length-map-range_with_len {X = ℕ} (λ k. 40) 0 k, length-map-range_with_len {X = ℕ} (λ k. 40) 0 n, count_by-le-length (λ byte. byte == 40) (take k (bytes 40 n)))

@@ -7,3 +7,4 @@ pub mod Refusals
 pub mod Limits
 pub mod Saving
 pub mod SavedGraphs
+pub mod Devices

@@ -1,8 +1,8 @@
 -- A text that is looked through sixteen elements at a time.
-use Rattle.std.proofs.Common.{rules, ◌≡◌, ◌+◌, ◌<◌, ◌≤◌, ℕ, Bool, List, length, take, drop}
+use Rattle.std.proofs.Common.{rules, ◌≡◌, ◌+◌, ◌≤◌, ℕ, Bool, List, length, take, drop}
 use Rattle.std.specs.List.{position_or_len}
 use Rattle.std.proofs.lemmas.List.{take-append-drop, length-take}
-use Rattle.sgb_file.proofs.LeftTexts.{first_beyond, first_within, none_before}
+use Rattle.sgb_file.proofs.LeftTexts.{first_beyond, none_before}
 
 -- none of them passes
 pub found_later : (p : ℕ → Bool) (xs : List ℕ) (few : ℕ) → 16 ≤ length xs → few ≡ position_or_len p (take 16 xs) → 16 ≤ few

@@ -1,19 +1,26 @@
 -- Words and what they ask, by evaluation of clap's own definitions; and the requests that plain words make.
-use Rattle.std.proofs.Common.{◌≡◌, List, [], ◌∷◌, map, Option, Some, None, Ok, refl, codes, arith}
+use Rattle.std.proofs.Common.{◌≡◌, List, [], ◌∷◌, map, Option, Some, None, Ok, refl, inl, inr, codes, arith}
+use Rattle.std.specs.Fmt.{digits}
+use Rattle.std.specs.Option.{option_map_or}
 use Rattle.clap.specs.Faults.{defaults_fault, flags_fault, walk_fault}
 use Rattle.clap.specs.Kinds.{Kinds}
 use Rattle.clap.specs.Walk.{bundle_met, walked}
-use Rattle.clap.specs.Words.{Text, fault_of}
+use Rattle.clap.specs.Words.{Row, Text, fault_of, subcommand_of}
 use Rattle.clap.specs.declared.error.kind.ErrorKind.TheVariants as kind
 use Rattle.sgb_requests.specs.CommandLine.{command_line}
 use Rattle.sgb_requests.specs.inner.CommandLine.{Asked, asked_of}
 use Rattle.sgb_text.specs.Numbers.{IsNumber}
 use Rattle.sgb_expr.specs.Numbers.{most_digits}
+use Rattle.sgb_vec.specs.declared.panics.Panic.TheVariants.{Late, NoRoom}
+use Rattle.sgb_requests.specs.Faults.{fault_line, fault_of_kind, fault_of_unread, status_of}
 use Rattle.sgb_requests.specs.Reading.{IsFlipReadAs, IsReadAs}
-use Rattle.sgb_requests.specs.Requests.{IsCommandLineReadAs, IsRequest}
+use Rattle.sgb_requests.specs.Requests.{IsCommandLineReadAs, IsInvalidCommandLine, IsRequest, IsResumeOf}
 use Rattle.sgb_expr.specs.declared.expressions.Expr.{Expr}
+use Rattle.sgb_expr.specs.declared.expressions.Unread.TheVariants as unread
 use Rattle.sgb_expr.specs.declared.flips.FlipParams.{FlipParams}
+use Rattle.sgb_requests.specs.declared.faults.Fault.TheVariants as fault
 use Rattle.sgb_requests.specs.declared.requests.Request.TheVariants as request
+use Rattle.sgb_requests.specs.declared.requests.Resume.{Resume}
 use Rattle.sgb_requests.specs.declared.requests.Resume.TheVariants.{Whole, Skip, After}
 use Rattle.sgb_requests.proofs.PlainTexts.{expression_plain, flip_plain, letter}
 use Rattle.sgb_requests.proofs.PlainWords.{flip_law, list_law, names_law, queen_law, save_law}
@@ -55,6 +62,22 @@ hyphens :
 unfolding walked bundle_met walk_fault flags_fault defaults_fault
 hyphens = (refl, refl)
 
+-- no command, or both options
+abbrev both_options : List Text
+both_options = codes "sgb" ∷ codes "names" ∷ codes "petersen()" ∷ codes "--after" ∷ codes "0" ∷ codes "--skip" ∷ codes "1" ∷ []
+
+abbrev rows_of : List Text → List Row
+rows_of words = option_map_or (λ entered. entered.1) (subcommand_of command_line words) []
+
+not_both : (resume : Resume) → IsResumeOf (Some (codes "0")) (Some (codes "1")) resume → ⊥
+not_both Whole never = never
+not_both (Skip k) never = never
+not_both (After name) never = never
+
+invalid : IsInvalidCommandLine (codes "sgb" ∷ []) × IsInvalidCommandLine both_options
+unfolding walked bundle_met walk_fault flags_fault defaults_fault
+invalid = (inl (inr refl), inr (codes "names", rows_of both_options, codes "petersen()", (record { taken = refl; entered = refl }, refl), not_both))
+
 -- ---- by the law
 
 -- `sgb names petersen()`
@@ -88,3 +111,20 @@ queen = (queen_law _ (Ok request.Queen)).1 refl
 -- `sgb flip flip(1,0,5,0)`
 flip : (p : FlipParams) → IsFlipReadAs (codes "flip(1,0,5,0)") (Ok p) → IsRequest (codes "sgb" ∷ codes "flip" ∷ codes "flip(1,0,5,0)" ∷ []) (request.Flip p)
 flip p read = (flip_law _ _ (Ok (request.Flip p)) (flip_plain _ p read)).1 (p, read, refl)
+
+-- ---- faults
+
+-- the lines of refusals, and the status of each
+faults :
+    (map fault_line (fault.TooLarge ∷ fault.Expr 13 ∷ fault.Panic Late ∷ fault.NoVertex ∷ fault.Read ∷ fault.Write ∷ [])
+    ≡ codes "sgb: expression too large\n" ∷ codes "sgb: bad expression at byte 13\n"
+    ∷ codes "Something went wrong (panic code 11)!\n" ∷ codes "sgb: no such vertex\n"
+    ∷ codes "sgb: read fault\n" ∷ codes "sgb: write fault\n" ∷ [])
+    × (fault_line fault.Usage
+    ≡ codes "usage: sgb (names|list) EXPR [--after NAME|--skip K], sgb save EXPR, sgb queen, sgb flip EXPR\n")
+    × (map status_of (fault.Usage ∷ fault.TooLarge ∷ fault.Expr 13 ∷ fault.Panic Late ∷ fault.NoVertex ∷ fault.Read ∷ fault.Write ∷ [])
+    ≡ 2 ∷ 2 ∷ 2 ∷ 1 ∷ 1 ∷ 3 ∷ 3 ∷ [])
+    × (map fault_of_unread (unread.TooLarge ∷ unread.At 13 ∷ unread.NoRoom ∷ []) ≡ fault.TooLarge ∷ fault.Expr 13 ∷ fault.Panic NoRoom ∷ [])
+    × (map fault_of_kind (kind.OutOfMemory ∷ kind.UnknownArgument ∷ []) ≡ fault.Panic NoRoom ∷ fault.Usage ∷ [])
+unfolding digits fault_line
+faults = (refl, refl, refl, refl, refl)
