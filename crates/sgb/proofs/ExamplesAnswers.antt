@@ -31,7 +31,7 @@ use Rattle.sgb_expr.specs.declared.expressions.Expr.TheVariants as expr
 use Rattle.sgb_expr.specs.declared.expressions.Generator.{Generator}
 use Rattle.sgb_expr.specs.declared.expressions.Generator.TheVariants as generator
 use Rattle.sgb.specs.Locals.{family_text, start_after, vectors_of}
-use Rattle.sgb.specs.Outcomes.{answer_of, outcome_of, queen_moves, reads_input}
+use Rattle.sgb.specs.Outcomes.{answer_of, left_out, outcome_of, queen_moves, reads_input}
 use Rattle.sgb_requests.specs.Faults.{fault_line}
 use Rattle.sgb.specs.Texts.{arc_line, block, blocks, head_text, name_lines}
 use Rattle.sgb.specs.Values.{IsStdinValue, described, most_input, numbered_entry, value_of, values_of}
@@ -82,6 +82,10 @@ pub ring_names :
     × (answer_of (request.Names ring (resume.After (codes "01.0"))) (Err Early) ≡ Err fault.NoVertex)
 unfolding box repeated digits name_of_vector displacements vectors_of_norm board_moves board_id family_graph list_from name_lines
 ring_names = (refl, refl, refl)
+
+-- of two vertices of one name it is after the first
+pub same_names : left_out (codes "b" ∷ codes "a" ∷ codes "a" ∷ []) (resume.After (codes "a")) ≡ Ok 2
+same_names = refl
 
 -- simplex(1,1,1,0,0,0,1): one arc, to the vector that has the unit at the first place
 pub unit_listed : answer_of (request.List (expr.Generator (generator.Simplex (record { n = pos 1; n0 = pos 1; n1 = pos 1; n2 = pos 0; n3 = pos 0; n4 = pos 0; directed = true }))) resume.Whole) (Err Early)
