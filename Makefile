@@ -8,6 +8,7 @@
 # make graphbase GRAPHBASE=FOLDER  holds it against the published library in FOLDER: gb_graph.h .. and libgb.a
 # make gallery    makes the pictures of docs/gallery.md and compares them with those that are kept
 # make calls      refuses memory to library calls: what stood before stands after, about a minute
+# make test       what runs without a proof, on programs and a library that are built unproved, in some five minutes
 # make check      the gate: all proofs from nothing, must-fail edits, the tests, the program
 # make edits      tries the must-fail edits that the gate leaves out, on a copy
 # make lib        proves the library for C, and leaves libsgb.a and libsgb.so (lib.mk)
@@ -34,9 +35,6 @@ try: toolchain
 sgb: toolchain FORCE
 	@echo "Proving the crates, lowest first: some 12 minutes on a fresh machine, less where proofs are kept."
 	@bench/prove.py sgb_cli sgb_levels
-	@echo "Building the programs"
-	@cd crates/sgb_cli && rt run -- names "board(1,0,0,0,1,0,0)" > /dev/null
-	@cd crates/sgb_levels && rt run -- "circuit(1)" > /dev/null
 	@ln -sf $(PROGRAM) sgb
 	@ln -sf crates/sgb_levels/out/sgb_levels sgb_levels
 	@echo "Done: ./sgb, ./sgb_levels"
@@ -72,6 +70,9 @@ gallery: sgb
 calls: toolchain
 	bench/calls.py
 
+test: toolchain
+	@bench/unproved.py
+
 check: toolchain
 	bash .ci/run
 
@@ -90,12 +91,12 @@ uninstall:
 	rm -f $(DESTDIR)$(PREFIX)/share/bash-completion/completions/sgb
 
 clean:
-	rm -rf crates/*/out conformance/out
+	rm -rf crates/*/out conformance/out out
 	rm -f sgb sgb_levels
 
 FORCE:
 
-.PHONY: all toolchain try demo examples outside conformance graphbase gallery calls check edits install uninstall \
+.PHONY: all toolchain try demo examples outside conformance graphbase gallery calls test check edits install uninstall \
   clean FORCE
 
 include lib.mk

@@ -1,9 +1,9 @@
 #!/usr/bin/env python3
-"""Proves crates and those below them, side by side where they do not stand on one another: bench/prove.py CRATE ..
+"""Proves crates and those below them, and builds the programs among those that are named: bench/prove.py CRATE ..
 
-It is what `make` runs before it builds the programs. Only the crates that are named and what they use are proved, lowest
-first, as many at once as there are processors, with 4 GB of memory for each. What earlier checks kept is not proved again.
-The first crate that fails ends it, with what its check printed; the status is then 1.
+It is what `make` runs. Only the crates that are named and what they use are proved, lowest first, as many at once as there are
+processors, with 4 GB of memory for each. What earlier checks kept is not proved again. A program is built by `rt run`, on the
+words of its file `args`. It prints a line a crate. The first crate that fails ends it, with what rt printed; the status is then 1.
 """
 
 import os
@@ -46,15 +46,15 @@ def lanes():
     return max(1, min(os.cpu_count() or 1, free // 4_194_304))
 
 
-class Check:
-    """The check of a crate, under way."""
+class Work:
+    """What rt does in the folder of a crate, under way."""
 
-    def __init__(self, name):
+    def __init__(self, name, *words):
         self.start = time.monotonic()
         self.lines = tempfile.TemporaryFile()
         folder = os.path.join(TOP, "crates", name)
         self.process = subprocess.Popen(
-            ["rt", "check"], cwd=folder, stdin=subprocess.DEVNULL, stdout=self.lines, stderr=subprocess.STDOUT
+            ["rt", *words], cwd=folder, stdin=subprocess.DEVNULL, stdout=self.lines, stderr=subprocess.STDOUT
         )
 
     def said(self):
@@ -73,7 +73,7 @@ def main():
         for name in sorted(left):
             if len(running) < most and all(other in proved for other in below[name]):
                 left.remove(name)
-                running[name] = Check(name)
+                running[name] = Work(name, "check")
         if not running:
             sys.exit(f"crates.txt goes in a circle: {' '.join(sorted(left))}")
         name = ended(running)
@@ -85,6 +85,21 @@ def main():
         proved.add(name)
         print(f"  {name:14} proved, {time.monotonic() - check.start:.0f} s", flush=True)
     print(f"{len(proved)} crates proved in {time.monotonic() - begun:.0f} s")
+    for name in filter(is_program, names):
+        run = Work(name, "run", "--", *words_of(name))
+        if run.process.wait():
+            sys.exit(f"{run.said()}\n{name}: not built")
+        print(f"  {name:14} built, {time.monotonic() - run.start:.0f} s", flush=True)
+
+
+def is_program(name):
+    return os.path.exists(os.path.join(TOP, "crates", name, "src/main.rt"))
+
+
+def words_of(name):
+    """The words that a program is run on in the gate."""
+    with open(os.path.join(TOP, "crates", name, "args"), encoding="utf-8") as file:
+        return file.read().splitlines()
 
 
 def ended(running):
