@@ -1,4 +1,6 @@
 //! Standard input: reading it whole, and the graph that it is a file of.
+//!
+//! It is kept whole: the definition of an answer reads it before anything is written.
 ghost use Rattle.std.specs.Prelude.{◌≡◌, ◌≤◌, ◌<◌, ◌+◌, ◌-◌, ◌++◌, ℕ, List, true, length, nat_le, Result, Err, IfOk};
 ghost use Rattle.std.specs.Io.KnownBytes.{Consumes, IsAtEnd};
 ghost use Rattle.sgb_vec.specs.declared.panics.Panic.{Panic};

@@ -1,4 +1,8 @@
 //! What is done with a generator's graph, whichever generator it is of: its accepted parameters are matched here alone.
+//!
+//! A visitor is passed by value, so that it may hold the room that it needs, as `FamilyListing` its links; what a
+//! contract speaks of, as a sink, is its state. `Visit` has the graph's type as a parameter, and not its method: the
+//! checker states no method whose own bound names its lifetime.
 ghost use Rattle.sgb_gen.specs.VectorGraphs.{VectorGraph};
 ghost use Rattle.sgb.specs.Values.{vector_graph_of};
 

@@ -1,4 +1,9 @@
 //! A graph with its lists of arcs as arrays.
+//!
+//! Records lie far apart, so a walk over lists takes longer than all else that fetching does. To make the arrays makes
+//! opening longer by what it spares the first fetch, and who fetches twice walks once. In a file vertices may share
+//! records, so that a few stand on lists with any number of arcs. Then the arrays are not kept, so that a small file
+//! cannot take much memory: the arcs are counted, and each call walks the lists.
 ghost use Rattle.std.specs.Prelude.{◌≡◌, length, OnOk, IfErr, IfOk, IfSome, IsOkUnless};
 ghost use Rattle.sgb_arrays.specs.Rows.{AreRows, HaveRowLengths, arcs_of};
 ghost use Rattle.sgb_vec.specs.declared.panics.Panic.TheVariants as Panic;

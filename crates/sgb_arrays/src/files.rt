@@ -1,4 +1,7 @@
 //! The `.gb` file of a graph, in an array.
+//!
+//! The size of the file is had by making it. To fill an array makes it twice, first to count: nothing is written into
+//! an array of another length, and no memory is taken.
 ghost use Rattle.std.specs.Prelude.{◌≡◌, ◌^◌, ◌-◌, length, min, OnOk, IfErr};
 ghost use Rattle.sgb_file.specs.Saving.{text_of_graph};
 ghost use Rattle.sgb_arrays.specs.declared.refusals.Wrong.TheVariants as wrong;

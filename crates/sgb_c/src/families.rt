@@ -1,4 +1,8 @@
 //! The graph of a generator's call, which is not built.
+//!
+//! There is no handle: each call reads the text anew, and finds what a board's lists have in common once more. So there
+//! is nothing to close, and two threads need no lock. A chunk is made in memory of its own, and copied where the arrays
+//! fit it: it is walked once, and a call that is refused memory leaves the arrays as they were.
 ghost use Rattle.std.specs.Prelude.{◌≡◌, ◌⊎◌, ◌-◌, ◌^◌, Ok, Err, IfErr, IfOk, length, min};
 ghost use Rattle.sgb_vec.specs.Codes.{code_of};
 ghost use Rattle.sgb_vec.specs.declared.panics.Panic.{Panic};

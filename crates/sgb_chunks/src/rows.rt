@@ -1,4 +1,6 @@
 //! The lists of a chunk.
+//!
+//! Tips are vertices of the whole graph, found from their vectors by `place_of`, with no search.
 ghost use Rattle.std.specs.Prelude.{◌≡◌, ◌++◌, ◌∷◌, ◌+◌, ◌≤◌, [], ℕ, length, map, slice_get, Some, Contains, IfErr, IfOk, IsOkUnless, OnErr, OnOk, ⊤};
 ghost use Rattle.sgb_gen.specs.LocalLists.{LocalArc};
 ghost use Rattle.sgb_gen.specs.VectorGraphs.{described_by, vertex_among};

@@ -1,4 +1,7 @@
 //! The entries of an induced graph: integers and expressions, in order.
+//!
+//! They are a type of their own over a `Vec`. It has no `Model`, since it stands in a cycle of types with expressions:
+//! contracts see the list through `items_of` (`specs/CodeEntries`).
 ghost use Rattle.std.specs.Prelude.{◌≡◌, ◌==◌, length};
 ghost use Rattle.sgb_expr.specs.CodeEntries.{items_of};
 

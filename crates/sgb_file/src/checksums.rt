@@ -1,4 +1,7 @@
 //! The checksum of a file, made byte by byte (GB_IO, new_checksum).
+//!
+//! A remainder is taken once for a line of at most 30 bytes, with its newline, and once more for each 30 bytes beyond.
+//! Eight bytes a step would gain nothing on lines of some fifteen.
 ghost use Rattle.std.specs.Prelude.{◌≡◌, ◌≤◌, ◌<◌, ◌+◌, ◌*◌, ◌^◌, ◌%◌, ◌++◌, ◌∷◌, [], length};
 ghost use Rattle.sgb_file.specs.Checksum.{checksum_prime, has_star};
 ghost use Rattle.sgb_file.specs.inner.Layouts.{checksum_from, counted_bytes, place_of, places, value_after, value_from};

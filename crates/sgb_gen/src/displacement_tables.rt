@@ -1,4 +1,7 @@
 //! Displacements that are kept, for walks that are made again and again.
+//!
+//! At most 65,536 entries are kept, each also turned round, and with each coordinate that moves its number: a few
+//! megabytes at most.
 ghost use Rattle.std.specs.Prelude.{◌≡◌, ◌<◌, ◌≤◌, length, nat_abs, slice_get, Some, All, IfSome};
 ghost use Rattle.sgb_vec.specs.Limits.{most_dimensions};
 ghost use Rattle.sgb_gen.specs.Limits.{most_piece};

@@ -1,4 +1,9 @@
 //! What a listing asks of a generator's graph, with no graph.
+//!
+//! Proofs of listings speak of a graph of vectors (`VectorGraph`), and of no generator. That of a board is listed by
+//! `BoardLists`, which makes a table only in `prepare`: names, sizes and where a listing begins take no memory. That
+//! moves have their ends among the vectors is a clause of `family` and no law: its proof would have to stand with the
+//! definitions.
 ghost use Rattle.std.specs.Prelude.{◌≡◌, length, All, Contains, IfOk, IfSome, OnOk, IsOkUnless};
 ghost use Rattle.sgb_graph.specs.Made.{graph_described};
 ghost use Rattle.sgb_gen.specs.Boards.{board_vector_graph};

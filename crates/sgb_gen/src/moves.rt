@@ -1,3 +1,6 @@
+//! Where a piece moves from a place of a board.
+//!
+//! A coordinate within its side is taken as it is, and divided by the side's size only where it leaves it.
 ghost use Rattle.std.specs.Prelude.{◌≡◌, ℕ, ◌+◌, pos, ◌+ℤ◌, ◌*ℤ◌, ◌<◌, ◌≤◌, ◌/◌, min, length, true, false, is_some, All, None, Some};
 ghost use Rattle.std.specs.Bool.{OnTrue, OnFalse};
 ghost use Rattle.sgb_vec.specs.Limits.{most_dimensions};

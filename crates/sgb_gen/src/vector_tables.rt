@@ -1,3 +1,8 @@
+//! The vectors of a family in a table.
+//!
+//! In a graph that is built a vector of a simplex is found in such a table, and one of a board by its mixed radix
+//! number. `SumFamily::place_of` counts at each entry: in the place of the search it made the graph of a simplex of
+//! three or four entries take three times as long.
 ghost use Rattle.std.specs.Prelude.{◌≡◌, ◌<◌, ◌≤◌, ◌+◌, ◌*◌, length, take, drop, slice_get, Some, Contains, IfOk, IsOkUnless};
 ghost use Rattle.sgb_vec.specs.Lexicographic.{IsRising};
 

@@ -1,3 +1,7 @@
+//! The names of a graph's vertices.
+//!
+//! Where their number is known before they are made, as that of a line graph, their room is taken at once: a vector
+//! that grows moves, and leaves holes behind.
 ghost use Rattle.std.specs.Prelude.{◌≡◌, [], ◌∷◌, ◌++◌, length, OnOk, OnErr, IfErr, IfOk, IsOkUnless};
 
 use sgb_vec::{Panic, Text};

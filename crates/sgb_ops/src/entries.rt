@@ -1,4 +1,8 @@
 //! What is put in the place of each vertex of a graph (GB_BASIC, induced).
+//!
+//! An entry may be a graph, some 700 bytes. The entries are needed for the names and for the events inside the graphs
+//! that are put in. Of each vertex `Copies` then keeps what stands in its place as small numbers: so `induced_from`,
+//! which owns its entries, drops them before the arcs between copies are added.
 ghost use Rattle.std.specs.Prelude.{◌≡◌, ◌≤◌, ◌<◌, ◌+◌, ◌*◌, ◌^◌, false, Ok, Err, length, map, All, OnOk, IfOk, IfErr, IsOkUnless};
 ghost use Rattle.sgb_vec.specs.Limits.{most_vertices};
 ghost use Rattle.std.specs.List.{list_any};

@@ -1,4 +1,7 @@
 //! The events of an induced graph merged and added part by part (GB_BASIC, induced).
+//!
+//! So no list of all events is made. It is possible where no vertices are merged and no vertex with a graph in its
+//! place has a loop; else all are merged at once (`induced_graphs`).
 ghost use Rattle.std.specs.Prelude.{◌≡◌, ◌<◌, ◌≤◌, ◌+◌, ◌++◌, ◌==◌, false, length, map, flat_map, filter, All, OnOk, IfOk, IsOkUnless};
 ghost use Rattle.std.specs.Bool.{OnTrue};
 ghost use Rattle.std.specs.List.{list_any};

@@ -1,4 +1,8 @@
 //! The line graph of a graph, which has a vertex for each arc or edge (GB_BASIC, lines).
+//!
+//! The directed lines that begin at one vertex are a run of the list of lines, and a table tells where each run ends.
+//! The events are added one by one: no list of them is made. Room for the names is taken at once, and for the records
+//! of arcs.
 ghost use Rattle.std.specs.Prelude.{◌≡◌, ℕ, true, false, ◌≤◌, ◌<◌, ◌+◌, ◌-◌, ◌/◌, ◌^◌, ◌++◌, ◌==◌, ◌&&◌, [], ◌∷◌, Ok, Err, length, map, min, filter, take, slice_index, slice_index_or, All, OnOk, IfOk, IfErr, IsOkUnless, if◌then◌else◌};
 ghost use Rattle.std.specs.List.{list_all, range_with_len, sum_by};
 ghost use Rattle.sgb_vec.specs.Limits.{most_vertices};

@@ -1,4 +1,8 @@
 //! Events with the same two ends made into one (GB_BASIC, gunion).
+//!
+//! A map of their ends is made only where nothing cheaper tells them apart: sums of ends that rise, or a table of
+//! 16,384 bits, in which each event sets the bit at the sum of its ends. So a vertex of a union without parallel arcs
+//! is hashed nowhere, on up to 16,384 vertices, nor is one in the middle of a wheel, however great.
 ghost use Rattle.std.specs.Prelude.{◌≡◌, map, OnOk, IfOk, IsOkUnless};
 ghost use Rattle.std.specs.Bool.{OnTrue};
 ghost use Rattle.sgb_ops.specs.inner.Ends.{ends_key, with_event};

@@ -1,4 +1,7 @@
 //! Pieces of the ids of results, and names made of names.
+//!
+//! A name that is made of names takes one allocation: its bytes are put together in a vector, which the text keeps
+//! where it is not short.
 ghost use Rattle.std.specs.Prelude.{◌≡◌, ◌≤◌, ◌+◌, ◌++◌, [], ◌∷◌, All, length, take, IfOk, IsOkUnless, IsTrue};
 ghost use Rattle.std.specs.Fmt.{signed_decimal};
 ghost use Rattle.sgb_graph.specs.IdTexts.{flag_text, is_id_text};

@@ -1,3 +1,6 @@
+//! The vectors of a box.
+//!
+//! The place of a member is its mixed radix number, so `at` and `place_of` walk nothing.
 ghost use Rattle.std.specs.Prelude.{◌≡◌, ◌+◌, ◌-◌, ◌<◌, ◌≤◌, ◌^◌, ◌↔◌, ℕ, length, map, replicate, All, Contains, IsTrue, IfSome, IfNone, Some, slice_index, slice_get, nat_lt, if◌then◌else◌};
 ghost use Rattle.std.specs.Bool.{OnTrue, OnFalse};
 ghost use Rattle.std.specs.List.{AllZip, list_all, zip};

@@ -1,3 +1,10 @@
+//! What a family of vectors is.
+//!
+//! A copy of a vector moves a thousand bytes. So members are put into a vector that is handed in, and walks look at
+//! them where they stand (`Vectors::front`).
+//!
+//! What a member's entries are is a clause of `dims` and no law of the trait: a law speaks of all values of the type's
+//! model, and there a size may be any number.
 ghost use Rattle.std.specs.Prelude.{◌≡◌, ◌≤◌, ◌^◌, ℕ, ◌↔◌, List, [], IsTrue, Contains, Some, length, slice_get};
 ghost use Rattle.std.specs.Bool.{OnTrue, OnFalse};
 ghost use Rattle.sgb_vec.specs.Lexicographic.{IsRising};

@@ -1,3 +1,8 @@
+//! The vectors of a bounded sum.
+//!
+//! The vector after another, and the one before it, are found by carries: from the right the place that can rise (or
+//! fall), and after it the least (or greatest) vector of what is left. That is one look from the right and one refill,
+//! at most two visits for each entry.
 ghost use Rattle.std.specs.Prelude.{◌≡◌, ◌+◌, ◌<◌, ◌≤◌, ◌<ℤ◌, pos, ◌^◌, ◌⊎◌, ◌↔◌, length, drop, sum, Contains, IsTrue, IfSome, IfNone, slice_index, slice_get, nat_le, Some};
 ghost use Rattle.std.specs.Bool.{OnTrue, OnFalse};
 ghost use Rattle.std.specs.List.{list_all, zip};

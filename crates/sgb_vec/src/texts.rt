@@ -1,3 +1,7 @@
+//! The texts of vertices, and the name of a vector.
+//!
+//! A text of at most 16 bytes stands where it is kept: that spares an allocation for each name, and a look elsewhere
+//! when it is read. A longer one takes eight bytes more than it would as a `Vec`.
 ghost use Rattle.std.specs.Prelude.{◌≡◌, ◌+◌, ◌≤◌, ◌++◌, ◌↔◌, length, decimal, IsTrue, IsOk, IfOk, OnOk, OnErr, IsErrOf, IsOkUnless};
 ghost use Rattle.sgb_vec.specs.Limits.{most_dimensions};
 ghost use Rattle.sgb_vec.specs.Names.{name_of_vector, IsTextByte, IsText};

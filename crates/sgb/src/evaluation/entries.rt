@@ -1,4 +1,7 @@
 //! The entries of induced graphs, as they are evaluated and handed on to the operation (GB_BASIC, induced).
+//!
+//! They are evaluated first, each to a number or to a graph behind a box (`values_of`): so one list of entries as large
+//! as graphs is made, and not two.
 ghost use Rattle.std.specs.Prelude.{◌≡◌, map, IfOk, IsOkUnless};
 ghost use Rattle.sgb.specs.Values.{numbered_entry};
 ghost use Rattle.sgb.specs.inner.EntryValues.{handed_entry};

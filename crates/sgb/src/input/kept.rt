@@ -1,4 +1,7 @@
 //! The bytes that are kept of standard input while an expression is evaluated.
+//!
+//! Each `stdin` of the expression is read from them anew. Each operand is told whether `stdin` comes again after it:
+//! the last one drops the bytes before any operation on what it gave.
 ghost use Rattle.std.specs.Prelude.{◌≡◌, []};
 
 use std::borrow::CowSlice;

@@ -1,4 +1,9 @@
 //! The name of a vector, of which the next name keeps what it has in common with it.
+//!
+//! A name whose entries have one digit or two, as its length tells, is copied whole for a tip, and its digits are
+//! written over where no entry has more or fewer of them; else the entries are put anew from the first that differs to
+//! the last. Single digits are written whether they differ or not. To compare them takes fewer instructions, but which
+//! of them differ no branch can tell beforehand: sets of 25 elements take little more than half as long so.
 ghost use Rattle.std.specs.Prelude.{◌≡◌, ◌≤◌, ◌<◌, ◌+◌, ◌-◌, ◌*◌, [], ◌∷◌, ◌++◌, drop, false, length, nat_lt, take, IfErr};
 ghost use Rattle.std.specs.Bool.{OnFalse, OnTrue};
 ghost use Rattle.sgb_file.specs.Devices.{change};

@@ -1,4 +1,11 @@
 //! Texts put together in place, and pages of output: lines are put together where they leave.
+//!
+//! No line has more than 4,160 bytes: where fewer are free the page leaves, in one put. So each line stands on one
+//! page, and a page that leaves before the end is larger than the buffer of std's `BufWriter`, which passes it on
+//! without a copy. What was put and what the page holds are together what was handed to it (`IsPaged`).
+//!
+//! A part of a name with at most sixteen bytes is put by one move of sixteen, where page and name have so many. What
+//! stands behind it on the page is written over by what comes next, and is never put.
 ghost use Rattle.std.specs.Prelude.{◌≡◌, ◌≤◌, ◌<◌, ◌+◌, ◌*◌, ◌-◌, ◌/◌, ◌%◌, [], ◌∷◌, ◌++◌, codes, decimal, drop, false, length, nat_lt, set, take, IfErr};
 ghost use Rattle.std.specs.Fmt.{signed_decimal};
 ghost use Rattle.sgb_file.specs.Devices.{change};

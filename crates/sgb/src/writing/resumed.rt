@@ -1,4 +1,7 @@
 //! Where the answer to a request about a family begins.
+//!
+//! A name, or a number of vertices, is turned into the vector after which an answer begins (`start_of`, for names and
+//! for listings). So what `list_family` promises speaks of the graph alone.
 ghost use Rattle.std.specs.Prelude.{◌≡◌, false, drop, map, option_map, Contains, Err, IfSome, ⊤};
 ghost use Rattle.std.specs.Result.{MatchResult};
 ghost use Rattle.sgb_file.specs.Devices.{change};

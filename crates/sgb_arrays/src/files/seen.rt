@@ -1,4 +1,6 @@
 //! Bytes that only clauses read.
+//!
+//! They stand in a ghost field alone. `Seen::of`, which makes such a value, is proved by hand.
 ghost use Rattle.std.specs.Prelude.{◌≡◌, ℕ, List, [], ◌++◌};
 
 use std::marker::{Model, PhantomData};

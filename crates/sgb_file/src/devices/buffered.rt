@@ -1,4 +1,7 @@
 //! std's writers as sinks with a buffer before them, which is given up with the first fault.
+//!
+//! std's `BufWriter` is in it, and no `ToWrite` around one: that the buffer is empty after a flush is a clause of
+//! `BufWriter`'s own. Its drop alone would write what it holds once more after a fault.
 ghost use Rattle.std.specs.Prelude.{◌≡◌, ◌<◌, [], true, false, length, is_err, IfOk, IfErr, OnOk};
 ghost use Rattle.std.specs.Io.{WritesAtMost};
 ghost use Rattle.std.specs.Io.Buffered.{writer_buffer, writer_contents, writer_inner};

@@ -1,4 +1,10 @@
 //! Records that are one short line, read of the line alone with the checksum after it (GB_SAVE, restore_graph).
+//!
+//! The place of a digit is its value, so a digit that is read is counted by one sum more. Of an arc record the line has
+//! at most 30 bytes, of a vertex what follows its name: so many bytes and a newline take one remainder, as nothing
+//! leaves 64 bits before it. Any other record goes field by field: one with `0` or `1` for a vertex, with a number of
+//! more than 18 digits, on two lines, or longer. No clause says when a function here has something to say of a line:
+//! one that never had would read the same graph.
 ghost use Rattle.std.specs.Prelude.{◌≡◌, ◌≤◌, ◌+◌, ◌%◌, ◌++◌, ◌∷◌, [], IfSome, IsTrue, length, take};
 ghost use Rattle.sgb_file.specs.Checksum.{checksum_prime};
 ghost use Rattle.sgb_file.specs.inner.Layouts.{checksum_from, counted_bytes, value_after, value_from};

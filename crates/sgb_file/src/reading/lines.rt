@@ -1,4 +1,7 @@
 //! What is left of the lines of a file while they are read (GB_IO).
+//!
+//! The line under way is a slice of the file, so nothing is copied but names, ids and strings. Whether it is whole its
+//! length tells. No clause says when `whole_line` has one: a body that never had would read the same graph.
 ghost use Rattle.std.specs.Prelude.{◌≡◌, ◌≢◌, ◌≤◌, [], ◌∷◌, List, ℕ, Some, None, IfSome, length, IsTrue, option_map};
 ghost use Rattle.sgb_file.specs.Checksum.{checksum_of_lines};
 ghost use Rattle.sgb_file.specs.FileLines.{clean_lines, without_end_spaces};

@@ -1,4 +1,7 @@
 //! The numbers of a `.gb` file, and what stands for a vertex or an arc record (GB_SAVE, fill_field).
+//!
+//! An integer that `plain` does not read in one pass takes 128 bits and two passes: one sees that all are digits, the
+//! other makes the value.
 ghost use Rattle.std.specs.Prelude.{◌≡◌, ◌≤◌, ◌<◌, ◌^◌, length, IfSome, IsTrue};
 ghost use Rattle.std.specs.List.{list_all};
 ghost use Rattle.std.specs.Str.Parse.{digits_value};

@@ -1,4 +1,8 @@
 //! What the bytes before the first comma of a line say, and how many they are (GB_SAVE, fill_field).
+//!
+//! A number of at most 18 digits is read in one pass and in 64 bits, and where it ends tells where its field ends: at a
+//! comma, or with the line. So no comma is looked for first. Any other text, as `0` and `1` in the place of a vertex,
+//! is found up to its comma and then read.
 ghost use Rattle.std.specs.Prelude.{◌≡◌, ◌≤◌, ◌<◌, ◌==◌, ◌^◌, ◌+◌, ◌∷◌, drop, length, nat_le, true, IfSome, neg_ℤ, option_map, pos};
 ghost use Rattle.std.specs.List.{before_first, position, take_while};
 ghost use Rattle.std.specs.Str.Parse.{digits_value};

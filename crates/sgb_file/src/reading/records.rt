@@ -1,4 +1,7 @@
 //! The records of a `.gb` file (GB_SAVE, restore_graph).
+//!
+//! What is read of a record is put into the parts where it is read: a vertex that is returned is moved piece by piece,
+//! and has some 280 bytes with its six fields. One with integers alone is handed over by these, and written once.
 ghost use Rattle.std.specs.Prelude.{◌≡◌, ◌∷◌, [], Err, IfErr, IfSome, None, OnOk, Some, length, slice_index_or, true};
 ghost use Rattle.sgb_graph.specs.Sound.{arc_kinds, graph_kinds, vertex_kinds};
 ghost use Rattle.sgb_graph.specs.declared.fields.Kind.TheVariants.{I, Z};

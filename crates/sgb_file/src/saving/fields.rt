@@ -1,4 +1,7 @@
 //! The fields of records, laid out (GB_SAVE, save_graph).
+//!
+//! A record whose own fields are not used ends its line at once. Else a comma stands after a field where another one in
+//! use follows.
 ghost use Rattle.std.specs.Prelude.{◌≡◌, ◌≤◌, ◌≤ℤ◌, pos, ◌++◌, ◌∷◌, [], Some, length, map, codes, decimal, true, false};
 ghost use Rattle.std.specs.Fmt.{signed_decimal};
 ghost use Rattle.std.specs.List.{flat_map};

@@ -1,4 +1,8 @@
 //! Pieces laid out on lines of at most 79 bytes (GB_SAVE, save_graph).
+//!
+//! Where a piece goes on after the 79th byte of its line, that byte goes to the next line and a `\` takes its place. A
+//! piece that fits is put on the line in its three parts, and nothing else is done. Another one begins a line, and is
+//! put on lines up to each break at once. A number is laid out as `itoa` writes it.
 ghost use Rattle.std.specs.Prelude.{◌≡◌, ◌+◌, ◌<◌, ◌≤◌, ◌^◌, ◌++◌, ◌∷◌, [], OnOk, false, length};
 ghost use Rattle.sgb_file.specs.Devices.{IsPut, change};
 ghost use Rattle.sgb_file.specs.inner.Layouts.{IsFilled, IsLaid, IsPlaced, lines_before, stage};

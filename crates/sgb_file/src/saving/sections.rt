@@ -1,4 +1,7 @@
 //! A section of a file: its title and its records. Short lines are put together before they are written.
+//!
+//! Other records are laid out field by field. The two ways follow one another as the records come, in one loop for both
+//! sections.
 ghost use Rattle.std.specs.Prelude.{◌≡◌, ◌+◌, ◌^◌, ◌<◌, ◌≤◌, ◌++◌, ◌∷◌, [], ℕ, IfOk, List, length, true};
 ghost use Rattle.std.specs.Bool.{OnFalse, OnTrue};
 ghost use Rattle.sgb_graph.specs.Graphs.{GraphData};

@@ -1,4 +1,6 @@
 //! The records of arcs, and those whose lines are short.
+//!
+//! Short are those whose fields are not used, with numbers below 10^8 and a length below 10,000.
 ghost use Rattle.std.specs.Prelude.{◌≡◌, ◌<◌, codes, decimal, drop, length, IfSome};
 ghost use Rattle.std.specs.Fmt.{signed_decimal};
 ghost use Rattle.sgb_graph.specs.Columns.{arc_seen};

@@ -1,4 +1,8 @@
 //! Short lines, put together one after another with the checksum after them.
+//!
+//! Four kilobytes of them leave in one put, some 250 lines. A digit's place in the checksum is its value, so a digit
+//! takes no look into the table. What is called short no clause says: a body that never did so would lay out the same
+//! bytes, in more time.
 ghost use Rattle.std.specs.Prelude.{◌≡◌, ◌+◌, ◌*◌, ◌/◌, ◌%◌, ◌^◌, ◌<◌, ◌≤◌, ◌∷◌, [], Some, IfSome, decimal, length};
 ghost use Rattle.std.specs.Bool.{OnTrue};
 ghost use Rattle.sgb_file.specs.Checksum.{checksum_prime};

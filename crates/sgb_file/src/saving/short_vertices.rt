@@ -1,4 +1,7 @@
 //! The records of vertices, and those whose lines are short.
+//!
+//! Short are those with a name of at most 28 bytes, a first record below 10^8, and no fields, or integers below 10,000
+//! in x, y, z alone.
 ghost use Rattle.std.specs.Prelude.{◌≡◌, ◌<◌, [], ◌∷◌, codes, decimal, drop, length, IfSome};
 ghost use Rattle.sgb_graph.specs.Columns.{util_seen, vertex_seen};
 ghost use Rattle.sgb_file.specs.Saving.{field_texts, quoted};

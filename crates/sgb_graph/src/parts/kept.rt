@@ -1,4 +1,6 @@
 //! Parts whose fields hold values of their kinds, kept as a graph keeps them.
+//!
+//! They are kept so from the first one on: to check them copies nothing.
 ghost use Rattle.std.specs.Prelude.{◌≡◌, ◌<◌, ◌≤◌, ◌+◌, ◌^◌, ◌&&◌, ◌==◌, [], ◌∷◌, length, nat_le, false, Err, IsTrue, OnOk, OnErr, IfOk};
 ghost use Rattle.std.specs.Bool.{OnTrue};
 ghost use Rattle.std.specs.List.{list_all};

@@ -1,4 +1,8 @@
 //! Walks along the chains of records. Records that were passed are marked, so that each is passed twice at most.
+//!
+//! Where each record leads on to an earlier one, or to none, the way from each ends. It is so in each graph without
+//! loops that was made arc by arc, and is seen in one pass with no memory (`lead_back`). Marks are left for other
+//! graphs.
 ghost use Rattle.std.specs.Prelude.{◌≡◌, ◌≤◌, ◌&&◌, length, IsTrue, IfOk};
 ghost use Rattle.sgb_vec.specs.Limits.{most_vertices};
 ghost use Rattle.std.specs.List.{list_all, range_with_len};

@@ -1,3 +1,9 @@
+//! How many vectors a bounded sum has, and whether these are too many.
+//!
+//! The two greatest bounds stand in no row: a row has the number of vectors within the other bounds for each sum, and
+//! the pairs of the two are counted by a formula. The count rises up to half the sum of all bounds and falls after it,
+//! so two counts decide: at the lesser of n and that half, and at n. Where n and three bounds are 44,720 or more these
+//! three alone have too many vectors, and no row is made: so rows are short.
 ghost use Rattle.std.specs.Prelude.{◌≡◌, ◌+◌, ◌-◌, ◌/◌, ◌<◌, ◌≤◌, ◌^◌, ◌++◌, ◌⊎◌, ℕ, List, [], ◌∷◌, All, length, take, sum, min, slice_index, nat_lt, nat_le, true, false, IfOk, IfErr, IfSome, IfNone};
 ghost use Rattle.std.specs.List.{list_any};
 ghost use Rattle.sgb_vec.specs.Limits.{most_dimensions, most_vertices};

@@ -1,3 +1,8 @@
+//! How many vectors a bounded sum has, counted with no memory.
+//!
+//! The triples within the three greatest bounds are counted in closed form, the vectors within the other bounds in a
+//! row of 2,048 counts. Where that is too short there is no count, and vectors are walked in its place. No sum that
+//! `SumFamily::new` accepts needs a longer row; that is not proved.
 ghost use Rattle.std.specs.Prelude.{◌≡◌, ◌+◌, ◌≤◌, ◌<◌, ℕ, List, ◌∷◌, All, length, sum, min, IfSome};
 ghost use Rattle.std.specs.Bool.{OnTrue};
 ghost use Rattle.sgb_vec.specs.Limits.{most_dimensions, most_vertices};

@@ -1,4 +1,8 @@
 //! The lists of a board's vertices, one after another.
+//!
+//! They have their displacements in common, with their opposites. Where these are more than the table takes, or there
+//! is no memory, they are walked for each vertex. A body that built the whole graph would meet the contracts, which do
+//! not speak of room; the checks from outside see it (`great`).
 ghost use Rattle.std.specs.Prelude.{◌≡◌, [], ◌++◌, length, reverse, nat_abs, Contains, OnOk, OnErr, IsOkUnless};
 ghost use Rattle.sgb_vec.specs.Boxes.{box};
 ghost use Rattle.sgb_vec.specs.Lexicographic.{IsBelow};

@@ -1,4 +1,12 @@
 //! The number of arcs of a board's graph, with no list made.
+//!
+//! It goes by displacements. Where all sides that one moves on wrap around, each place has as many moves by it as there
+//! are lengths before a rider is home. Where one side does not, the places from which it moves so far fall by equal
+//! steps from length to length, and are added by a formula. Where two or more do not, it goes length by length, of
+//! which there are at most 31,622.
+//!
+//! A board that wraps around in hundreds of dimensions has more arcs than 128 bits count. The answer is out of memory
+//! then, and exactly then (`great`): such a listing could never be written.
 ghost use Rattle.std.specs.Prelude.{◌≡◌, ◌≢◌, ◌≤◌, ◌<◌, ◌==◌, ℕ, ◌+◌, ◌-◌, ◌*◌, ◌%◌, ◌*ℤ◌, ◌^◌, true, false, length, min, pos, IfOk, IfErr, IfSome, IfNone, IsOkUnless};
 ghost use Rattle.sgb_graph.specs.Made.{graph_described};
 ghost use Rattle.sgb_vec.specs.Boxes.{box, product_of};

@@ -1,4 +1,11 @@
 //! The list of one vector of a board.
+//!
+//! Of the moves by one displacement some start at the vector, and others lead to it; these are found by the opposite
+//! displacement. Where the first side on which it moves does not wrap around they come in order by themselves, the
+//! farthest start first (`push_in_order`). Else they are put into the order of their starts: two of a leaper by one
+//! comparison (`push_leaps`), those of a rider by a sort (`push_sorted`).
+//!
+//! Displacements come in order and not backwards. So a list without a table is made oldest arc first, and turned round.
 ghost use Rattle.std.specs.Prelude.{◌≡◌, ◌≤◌, ◌<◌, [], ◌++◌, ◌==◌, ℕ, List, true, false, length, map, reverse, nat_abs, None, Some, if◌then◌else◌, All, Contains, OnOk, OnErr, IsOkUnless};
 ghost use Rattle.std.specs.Bool.{OnTrue, OnFalse};
 ghost use Rattle.sgb_vec.specs.Boxes.{box};

@@ -1,4 +1,14 @@
 //! The list of a board's vertex where all displacements lead onward from it, run by run: no list is kept.
+//!
+//! By each displacement there are so many arcs ahead and so many back. A contract says that the arcs that are left are
+//! those of the run and then those that are left after it, so no displacement is spoken of by its number. When `runs`
+//! has none no clause says: a body that never had any would list the same bytes by `arcs_at`, in more time.
+//!
+//! Around a torus a leaper's vertex that no side is near has such runs too: one step leads to the same place whether
+//! sides wrap around or not (`place_alike`), and back to an earlier vector. No side is near where each coordinate has
+//! as much room on both sides as the greatest entry of a displacement. All moves of length 1 then stay on the board,
+//! which is looked at once for the vertex. What a yes of `is_inside` and of `lead_onward` means is proved, and not when
+//! it comes.
 ghost use Rattle.std.specs.Prelude.{◌≡◌, ◌++◌, ◌<◌, ◌≤◌, ◌-◌, ◌&&◌, ◌||◌, ℕ, [], length, nat_abs, pos, true, All, Contains, IfSome, unwrap_or};
 ghost use Rattle.std.specs.Bool.{OnTrue};
 ghost use Rattle.sgb_vec.specs.Boxes.{box};

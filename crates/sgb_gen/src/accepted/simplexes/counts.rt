@@ -1,4 +1,11 @@
 //! The number of arcs of a simplex's graph, with no list made.
+//!
+//! Each pair of bounds makes a row of counts, as `SumFamily::new` does, and gives it back before the next one. It has 8
+//! bytes for each sum up to the lesser of n and the sum of all bounds but the two greatest. That is some 45,000 at
+//! most, since more bounds, or greater ones, have more than 1,000,000,000 vectors: about a megabyte while it grows.
+//!
+//! There are fewer than 2^64 moves, so a number that is too great is no cause to refuse. No clause says so: it would
+//! speak of counts that were not made.
 ghost use Rattle.std.specs.Prelude.{◌≡◌, ◌≤◌, ◌<◌, ◌*◌, ◌+◌, length, slice_index, Contains, IfOk, IfErr, IfSome, IsOkUnless};
 ghost use Rattle.sgb_graph.specs.Made.{graph_described};
 ghost use Rattle.sgb_vec.specs.Limits.{most_dimensions, most_vertices};
