@@ -1,10 +1,10 @@
 //! A graph that C holds: the pointer to it, and what it owns.
 //!
 //! An export may not take a `&Graph`, a pointer to one or a struct that holds one, since vectors can be read through a
-//! `&` (`also_shares`). So the pointer is one to nothing, and `Loose` says in `also_owns` what lies there. Its four
-//! functions are proved by hand, and all others are plain code: opening hands the handle a box, closing takes it out,
-//! and each call between is lent the graph where it lies. What C keeps may own and not be shared, so it is lent as a
-//! `&mut`, and a handle is handed over for writing also where a call reads.
+//! `&` (`also_shares`). So the pointer has no type, and `Loose` says in `also_owns` what lies there. Its four functions
+//! are proved by hand, and all others are plain code: opening hands the handle a box, closing takes it out, and each
+//! call between is lent the graph where it lies. What C keeps may own and not be shared, so it is lent as a `&mut`, and
+//! a handle is handed over for writing also where a call reads.
 ghost use Rattle.std.specs.Prelude.{◌≡◌, Option, Some, None, is_some, true};
 ghost use Rattle.sgb_c.specs.declared.handles.Held.{Held};
 

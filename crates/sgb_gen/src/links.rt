@@ -1,8 +1,8 @@
 //! The arcs of one vertex, with the vectors where they lead.
 //!
 //! The vectors stand one after another, and each is handed out as a slice: a vector for each arc would be a thousand
-//! bytes. What all lists of a board have in common is no part of it (`BoardLists`), since it is not that of the next
-//! board.
+//! bytes. What all lists of a board have in common stands elsewhere (`BoardLists`): links serve for list after list,
+//! also of another board.
 ghost use Rattle.std.specs.Prelude.{◌≡◌, ◌≢◌, ◌<◌, pos, true, [], ◌∷◌, ◌++◌, ◌*◌, ◌-◌, ◌≤◌, length, take, drop, reverse, slice_get, Some, All, OnOk, OnErr, IsOkUnless};
 ghost use Rattle.sgb_gen.specs.LocalLists.{LinksData, LocalArc};
 ghost use Rattle.sgb_gen.specs.inner.LocalArcs.{rows_turned};
