@@ -1,6 +1,6 @@
-//! The number of arcs of the subsets' graph, with no list made. Where the vectors are many and their sum is small, they are
-//! counted by pairs; else by the descent of the lists, which counts where that one puts arcs, from each vector down to the
-//! first. So each edge is found once, from the later one of its ends.
+//! The number of arcs of the subsets' graph, with no list made. Where the vectors are many and their sum is small, they
+//! are counted by pairs; else by the descent of the lists, which counts where that one puts arcs, from each vector down
+//! to the first. So each edge is found once, from the later one of its ends.
 //!
 //! A walk takes minutes for a thousand million vectors.
 ghost use Rattle.std.specs.Prelude.{◌≡◌, ◌+◌, ◌≤◌, ◌∷◌, length, reverse, sum, if◌then◌else◌};

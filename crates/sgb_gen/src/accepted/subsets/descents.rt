@@ -1,5 +1,5 @@
-//! The arcs of one vector of the subsets, by a descent: the vectors are taken entry by entry, the greatest entry first, and
-//! a beginning is left as soon as no vector that has it can have a wanted size in common.
+//! The arcs of one vector of the subsets, by a descent: the vectors are taken entry by entry, the greatest entry first,
+//! and a beginning is left as soon as no vector that has it can have a wanted size in common.
 //!
 //! So its time grows with the arcs and the bounds, and not with the vertices.
 ghost use Rattle.std.specs.Prelude.{◌≡◌, ◌+◌, ◌-◌, ◌^◌, ◌≤◌, ◌<◌, min, ℕ, List, Bool, false, [], ◌∷◌, length, reverse, sum, if◌then◌else◌, OnOk, IsOkUnless};
