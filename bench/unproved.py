@@ -40,8 +40,14 @@ TARGET = ["--target=x86_64-unknown-linux-gnu", "--no-default-config", "-no-canon
 OPTIONS = ["-march=x86-64", "-O2", "-fPIE", "-ffunction-sections", "-fdata-sections", "-mllvm", "-no-trap-after-noreturn",
            "-mllvm", "-trap-unreachable"]
 
-# clang, for rt: a small module is one of the toolchain's own
-CLANG = """#!{python}
+# clang, for rt, which optimizes nothing: for tests it does
+QUICKER = """#!{python}
+import os, sys
+os.execv({clang!r}, [{clang!r}, *("-O1" if word == "-O0" else word for word in sys.argv[1:])])
+"""
+
+# clang, for rt, where a module is wanted: a small one is the toolchain's own
+KEEPING = """#!{python}
 import os, shutil, sys
 if os.path.exists("module.bc") and os.path.getsize("module.bc") > 65536:
     shutil.copy("module.bc", {kept!r})
@@ -111,14 +117,20 @@ def shadow(kit, name):
         os.remove(os.path.join(folder, own))
         shutil.copy(os.path.join(kit, own), os.path.join(folder, own))
     script(os.path.join(folder, "bin/rattle"), "#!/bin/sh\nexit 0\n")
+    set_clang(kit, name, QUICKER)
     return os.path.join(folder, "bin/rt")
+
+
+def set_clang(kit, name, text, **more):
+    clang = os.path.join(kit, "toolchain/bin/clang")
+    script(os.path.join(PLACE, "kits", name, "toolchain/bin/clang"), text.format(python=sys.executable, clang=clang, **more))
+    return clang
 
 
 def module(kit, name, *words):
     """The module of a crate, as text, without what finds faults of memory."""
     rt, kept = shadow(kit, name), os.path.join(PLACE, name + ".bc")
-    clang = os.path.join(kit, "toolchain/bin/clang")
-    script(os.path.join(PLACE, "kits", name, "toolchain/bin/clang"), CLANG.format(python=sys.executable, kept=kept, clang=clang))
+    clang = set_clang(kit, name, KEEPING, kept=kept)
     got = ran([rt, "try", *words, "--steps", "1"], os.path.join(TREE, "crates", name))
     if not os.path.exists(kept):
         raise NotBuilt(f"{name}: rt try handed no module to clang: {got.stdout[-3000:]}")
