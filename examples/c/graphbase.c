@@ -125,18 +125,38 @@ static void list(Graph *g) {
     }
 }
 
+/* All of standard input, of whatever size, or null: where it fails, or there is no memory. */
+static char *whole_input(size_t *len) {
+    size_t size = 1 << 16, got = 0;
+    char *input = malloc(size);
+    *len = 0;
+    while (input && (got = fread(input + *len, 1, size - *len, stdin)) > 0) {
+        *len += got;
+        if (*len < size) continue;
+        char *more = realloc(input, size *= 2);
+        if (!more) free(input);
+        input = more;
+    }
+    if (input && ferror(stdin)) {
+        free(input);
+        input = NULL;
+    }
+    return input;
+}
+
 int main(int count, char **words) {
-    static char input[1 << 22];
+    char *input = NULL;
+    size_t input_len = 0;
     if (count != 2) {
         fprintf(stderr, "usage: graphbase EXPR\n");
         return 2;
     }
-    size_t input_len = strstr(words[1], "stdin") ? fread(input, 1, sizeof input, stdin) : 0;
-    if (input_len == sizeof input) {
-        fprintf(stderr, "graphbase: the input is too long\n");
+    if (strstr(words[1], "stdin") && !(input = whole_input(&input_len))) {
+        fprintf(stderr, "graphbase: the input could not be read\n");
         return 2;
     }
-    Graph *g = graph_of(words[1], input, input_len);
+    Graph *g = graph_of(words[1], input ? input : "", input_len);
+    free(input);
     if (!g) {
         fprintf(stderr, "Something went wrong (panic code %lu)!\n", panic_code);
         return 1;
