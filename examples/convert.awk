@@ -6,8 +6,11 @@
 #
 #   to=dot      Graphviz's DOT. The label of an edge is its length.
 #   to=edges    A line for each edge: two names and its length with tabs between them; an isolated vertex alone on a line.
-#               networkx reads it by read_edgelist("petersen.tsv", delimiter="\t"), or where there are lengths by
-#               read_weighted_edgelist, with create_using=networkx.DiGraph for arcs; it leaves isolated vertices out.
+#               networkx leaves that out, and reads the others by
+#                 read_edgelist("petersen.tsv", delimiter="\t", comments=None, create_using=networkx.MultiGraph)
+#               with data=[("weight", int)] where there are lengths, as networkx.MultiDiGraph where arcs are. (Without
+#               comments=None a name ends at a "#".) Names that are empty or have a space at an end are refused, since
+#               readers drop such spaces; numbers=1 writes numbers in the place of names.
 #   to=dimacs   DIMACS: "p edge" with a line "e 1 2" for each edge where all lengths are 1; else, and with directed=1,
 #               "p sp" with a line "a 1 2 LENGTH" for each arc, two for an edge.
 #   to=metis    METIS: a line with the neighbours of each vertex. It has no arcs, loops, parallel edges, or lengths below 1.
@@ -16,7 +19,8 @@
 #   to=graph6   graph6 of nauty. It has no arcs, loops or parallel edges, and no names and lengths: these are left out.
 #
 # Vertices without a name in the format have the number of their place, from 1, in GraphML from 0; comments or labels tell
-# their names. Lengths are not written where all are 1, unless lengths=1 asks for them.
+# their names. Lengths are not written where all are 1, unless lengths=1 asks for them. The title that `sgb queen` writes
+# before its listing is left out.
 #
 # A listing does not say whether its graph has edges or arcs. An edge stands on the lists of both its ends, a loop twice
 # on one. So without directed=1 the arcs have to come in such pairs, with equal lengths, and each pair is written once,
@@ -29,6 +33,7 @@
 # pairs; what the format does not have.
 #
 #   directed=1  the arcs are arcs, and are written as they stand
+#   numbers=1   edges of numbers: a vertex is the number of its place, from 1; `sgb names` writes the names in this order
 #   file=1      the graph is a file's (stdin): the number of arcs in the head is what the file says, and is not compared
 #   resumed=1   the listing was resumed (--after, --skip) and has no head: for dot and edges. What leads to a vertex that
 #               is not in it is written once. Whether vertices are missing, or arcs at its end, or whether what leads
@@ -41,6 +46,10 @@ BEGIN {
         fail("say what to write: -v to=dot, edges, dimacs, metis, mtx, graphml or graph6")
     else if (resumed && to != "dot" && to != "edges")
         fail("a resumed listing has not all vertices, and to=" to " needs them")
+    else if (numbers && to != "edges")
+        fail("numbers=1 is for to=edges")
+    else if (numbers && resumed)
+        fail("a resumed listing has not all vertices, and numbers=1 needs them")
     else if (directed && (to == "metis" || to == "graph6"))
         fail("to=" to " has no arcs")
     # Records end at ">" and not at the end of a line: so a last line that has no end is seen.
@@ -79,6 +88,8 @@ function fail(text) {
 # ---- reading: vertices and tips get numbers as they are met; order[i] is that of the vertex in place i, from 1
 
 function take(line,    at) {
+    if (is_title(line))
+        return
     if (++taken <= 4 && !resumed)
         head[taken] = line
     else if (vertices && substr(line, 1, 5) == "  -> " && (at = match(line, /, length -?[0-9]+$/)))
@@ -87,8 +98,15 @@ function take(line,    at) {
         take_vertex(line)
     if (taken == 4 && !resumed)
         take_head()
-    if (taken == 1 && resumed && line == "  The graph whose official name is")
+    if (taken == 1 && resumed && (titles || line == "  The graph whose official name is"))
         fail("the listing has its head: leave resumed=1 out")
+}
+
+# Whether the line is the title that stands before the head of the queens' listing, or the empty line after it.
+function is_title(line) {
+    if (taken || !(titles ? titles == 1 && line == "" : line ~ /^Queen Moves on a [0-9]+x[0-9]+ Board$/))
+        return 0
+    return ++titles
 }
 
 function take_head(    words) {
@@ -120,11 +138,11 @@ function take_arc(tip, len) {
 }
 
 function number(name) {
-    if (!(name in numbers)) {
-        numbers[name] = ++known
+    if (!(name in number_of)) {
+        number_of[name] = ++known
         names[known] = name
     }
-    return numbers[name]
+    return number_of[name]
 }
 
 # single[u, v, len] is how many more arcs there are from u to v than back; of loops, whether one is left over
@@ -152,6 +170,8 @@ function check() {
         check_arcs()
     if (!failed && (to == "metis" || to == "mtx" || to == "graph6"))
         check_form()
+    if (!failed && to == "edges" && !numbers)
+        check_names()
 }
 
 function check_arcs(    i, k, u, v, key) {
@@ -190,6 +210,14 @@ function check_form(    i, k, loops, met) {
     }
 }
 
+# Whether the names can stand between tabs: readers drop spaces at the ends of a line.
+function check_names(    k) {
+    for (k = 1; k <= known && !failed; k++)
+        if (names[k] == "" || names[k] ~ /^ / || names[k] ~ / $/)
+            fail("to=edges has no name that is empty or has a space at an end, as \"" names[k] \
+                "\" is: " (resumed ? "other forms have it" : "say -v numbers=1"))
+}
+
 # ---- what the formats have in common
 
 function len_of(k) { return k in lens ? lens[k] : "1" }
@@ -226,12 +254,14 @@ function write_edges(    i, k, is_tip) {
         is_tip[tips[k]] = 1
     for (i = 1; i <= vertices; i++) {
         if (first[i] == first[i + 1] && !(order[i] in is_tip))
-            print names[order[i]]
+            print in_edges(order[i])
         for (k = first[i]; k < first[i + 1]; k++)
             if (is_written(i, k))
-                print names[order[i]] "\t" names[tips[k]] (lengths ? "\t" len_of(k) : "")
+                print in_edges(order[i]) "\t" in_edges(tips[k]) (lengths ? "\t" len_of(k) : "")
     }
 }
+
+function in_edges(vertex) { return numbers ? place[vertex] : names[vertex] }
 
 # A comment for each vertex: the name of its number, from 1.
 function write_names(sign,    i) {

@@ -17,26 +17,19 @@ import tempfile
 import xml.etree.ElementTree
 
 HERE = os.path.dirname(os.path.abspath(__file__))
+SCRIPT = os.path.join(HERE, "convert.awk")
 sys.path.insert(0, HERE)
 sys.dont_write_bytecode = True
 import sgb_graph
 
 FORMS = ["dot", "edges", "dimacs", "metis", "mtx", "graphml", "graph6"]
+# and edges of numbers
+READ_FORMS = [*FORMS, "numbers"]
 # the stored ones: edges of length 1, edges with lengths and a vertex that is alone, arcs and names that XML has to escape
 STORED = [
     ("petersen", "petersen()", False),
     ("lengths", "gunion(empty(6),board(5,0,0,0,-1,0,0),0,0)", False),
     ("arrows", "lines(cycle(4),1)", True),
-]
-READ = [(expression, directed) for _, expression, directed in STORED] + [
-    ("empty(3)", False), ("simplex(5,2,2,0,0,0,0)", False), ("complete(62)", False), ("circuit(63)", False),
-    ("circuit(64)", False), ("board(3,4,0,0,-1,3,0)", False), ("board(3,4,0,0,-1,0,0)", False),
-    ("board(1,0,0,0,1,1,0)", False), ("board(1,0,0,0,1,1,0)", True),
-    ("complement(empty(3),0,1,0)", False), ("complement(empty(3),0,1,1)", True), ("transitive(6)", True),
-    ("stdin", False), ("gunion(stdin,stdin,1,1)", True), ("complement(stdin,1,1,1)", True),
-    ("induced(stdin,[1,1,0],0,0,0)", False),
-    ("gunion(complete(5),circuit(5),1,0)", False), ("product(complete(3),circuit(4),0,0)", False),
-    ("board(4,4,0,0,-1,0,1)", True), ("lines(complete(4),0)", False),
 ]
 
 # a file for `stdin`: names that XML has to escape, a length below 1, a vertex with two loops, another without arcs
@@ -45,22 +38,50 @@ FILE = (
     b'"x & y < z",3,6\n* Vertices\n"a & <b>",A0\n"c;d",A1\n"loops",A5\n* Arcs\n'
     b"V1,0,-3\nV0,0,-3\nV2,0,1\nV2,A2,4\nV2,A3,4\nV2,A4,1\n* Checksum -1\n"
 )
+# others: a name begins with the sign of a comment or has it inside, and a length is no floating number; a name is empty, or
+# has a space at an end
+SIGNS = (
+    b"* GraphBase graph (util_types ZZZZZZZZZZZZZZ,5V,6A)\n"
+    b'"signs",5,6\n* Vertices\n"#a",A0\n"b # c",A4\n"%",A2\n"c 1",A5\n"#",0\n* Arcs\n'
+    b"V1,0,9007199254740993\nV0,0,9007199254740993\nV1,0,7\nV2,A1,7\nV3,A3,-1\nV1,0,-1\n* Checksum -1\n"
+)
+SPACES = (
+    b"* GraphBase graph (util_types ZZZZZZZZZZZZZZ,4V,6A)\n"
+    b'"spaces",4,6\n* Vertices\n"",A4\n" a",A1\n"b ",A3\n"c",A5\n* Arcs\n'
+    b"V2,0,1\nV0,A0,1\nV1,0,1\nV3,A2,1\nV1,0,1\nV2,0,1\n* Checksum -1\n"
+)
+ONES = SIGNS.replace(b'"signs"', b'"ones"').replace(b"9007199254740993", b"1").replace(b",7\n", b",1\n").replace(b",-1\n", b",1\n")
+
+# expressions, whether of arcs, and the file that is read
+READ = [(expression, directed, FILE) for _, expression, directed in STORED] + [
+    ("stdin", directed, given) for given in (SIGNS, ONES, SPACES) for directed in (False, True)
+] + [(expression, directed, FILE) for expression, directed in [
+    ("empty(3)", False), ("simplex(5,2,2,0,0,0,0)", False), ("complete(62)", False), ("circuit(63)", False),
+    ("circuit(64)", False), ("board(3,4,0,0,-1,3,0)", False), ("board(3,4,0,0,-1,0,0)", False),
+    ("board(1,0,0,0,1,1,0)", False), ("board(1,0,0,0,1,1,0)", True),
+    ("complement(empty(3),0,1,0)", False), ("complement(empty(3),0,1,1)", True), ("transitive(6)", True),
+    ("stdin", False), ("gunion(stdin,stdin,1,1)", True), ("complement(stdin,1,1,1)", True),
+    ("induced(stdin,[1,1,0],0,0,0)", False),
+    ("gunion(complete(5),circuit(5),1,0)", False), ("product(complete(3),circuit(4),0,0)", False),
+    ("board(4,4,0,0,-1,0,1)", True), ("lines(complete(4),0)", False),
+]]
 
 # What a form says: how many vertices, their names in order or None, and the edges or arcs by places from 0.
 Form = collections.namedtuple("Form", "n names edges")
 
 
-def graph_of(program, expression, directed):
-    names = [name for name, _ in sgb_graph.read(expression, FILE, program)]
+def graph_of(program, expression, directed, given=FILE):
+    names = [name for name, _ in sgb_graph.read(expression, given, program)]
     place = {name: at for at, name in enumerate(names)}
-    edges = sgb_graph.to_edges(sgb_graph.read(expression, FILE, program), directed)
+    edges = sgb_graph.to_edges(sgb_graph.read(expression, given, program), directed)
     return Form(len(names), names, sorted((place[u], place[v], length) for u, v, length in edges))
 
 
-def converted(program, expression, directed, form, awk=("awk",)):
-    listing = subprocess.run([program, "list", expression], input=FILE, capture_output=True, check=True).stdout
-    words = [*awk, "-v", f"to={form}", "-v", f"directed={int(directed)}", "-f", os.path.join(HERE, "convert.awk")]
-    return subprocess.run(words, input=listing, capture_output=True)
+def converted(program, expression, directed, form, given=FILE, awk=("awk",)):
+    listing = subprocess.run([program, "list", expression], input=given, capture_output=True, check=True).stdout
+    options = ["to=edges", "numbers=1"] if form == "numbers" else [f"to={form}"]
+    words = [word for option in [*options, f"directed={int(directed)}"] for word in ("-v", option)]
+    return subprocess.run([*awk, *words, "-f", SCRIPT], input=listing, capture_output=True)
 
 
 def fits(graph, form, directed):
@@ -69,6 +90,8 @@ def fits(graph, form, directed):
     if form in ("metis", "mtx", "graph6") and any(count > 1 for count in pairs.values()):
         return False
     if form in ("metis", "graph6") and (directed or any(u == v for u, v in pairs)):
+        return False
+    if form == "edges" and not all(name and name == name.strip() for name in graph.names):
         return False
     return form != "metis" or all(length > 0 for _, _, length in graph.edges)
 
@@ -113,6 +136,14 @@ def read_edges(text, graph, directed):
         if len(ends) == 2:
             edges.append((place[ends[0]], place[ends[1]], int(length[0])))
     return Form(len(met), None, edges)
+
+
+def read_numbers(text, graph, directed):
+    lines = [line.split("\t") for line in text.splitlines()]
+    met = {int(number) - 1 for line in lines for number in line[:2]}
+    assert met == set(range(graph.n)), text
+    return Form(len(met), None, [(int(u) - 1, int(v) - 1, int(*length or [1])) for u, v, *length in
+                                 (line for line in lines if len(line) > 1)])
 
 
 def read_dimacs(text, graph, directed):
@@ -180,6 +211,50 @@ def is_same(form, seen, graph, directed):
     return (seen.n, seen.names or graph.names, sorted_(seen.edges)) == (graph.n, graph.names, sorted_(graph.edges))
 
 
+# ---- the reader of edges that the head of convert.awk names, by the call that stands there
+
+
+def called(read_edgelist, kinds, path, graph, directed, **more):
+    """What the call gives, where `read_edgelist` has these kinds of graphs."""
+    with open(SCRIPT, encoding="utf-8") as file:
+        head = file.read().partition("\nBEGIN")[0]
+    call = re.search(r"^#\s+(read_edgelist\(.*\))$", head, re.M)[1].replace('"petersen.tsv"', "path")
+    if any(length != 1 for _, _, length in graph.edges):
+        call = call[:-1] + ", " + re.search(r"with (data=\[.*\]) where there are lengths", head)[1] + ")"
+    if directed:
+        call = call.replace("networkx.MultiGraph", re.search(r"as (networkx\.\w+) where arcs are", head)[1])
+    names = {"read_edgelist": read_edgelist, "networkx": kinds, "path": path, "more": more}
+    return eval(call[:-1] + ", **more)", names)
+
+
+class Kinds:
+    """Names of networkx's graphs with parallel edges."""
+    MultiGraph, MultiDiGraph = False, True
+
+
+def edgelist(is_stripped):
+    """How networkx reads lines of edges: before 3.0 spaces and tabs at both ends of a line were dropped first."""
+
+    def read_edgelist(path, comments="#", delimiter=None, create_using=None, data=()):
+        edges = []
+        with open(path, encoding="utf-8") as file:
+            for line in file:
+                line = line if comments is None else line.partition(comments)[0]
+                words = (line.strip() if is_stripped else line.rstrip("\n")).split(delimiter)
+                if len(words) > 1:
+                    assert len(words) == 2 + len(data), line
+                    edges.append((*words[:2], *(kind(word) for (_, kind), word in zip(data, words[2:]))))
+        return create_using, edges
+
+    def read(path, graph, directed):
+        is_directed, edges = called(read_edgelist, Kinds, path, graph, directed)
+        assert is_directed == directed
+        place = {name: at for at, name in enumerate(graph.names)}
+        return Form(graph.n, None, [(place[u], place[v], *(length or [1])) for u, v, *length in edges])
+
+    return read
+
+
 # ---- readers that may be installed: functions of a file, the graph and whether it is directed; None where one is not tried
 
 
@@ -191,11 +266,11 @@ def networkx_readers(networkx):
         return Form(len(place), names, edges)
 
     def edges(path, graph, directed):
-        kind = networkx.MultiDiGraph if directed else networkx.MultiGraph
-        with open(path, encoding="ascii") as file:
-            has_lengths = any(line.count("\t") == 2 for line in file)
-        read = networkx.read_weighted_edgelist if has_lengths else networkx.read_edgelist
-        return of(read(path, delimiter="\t", create_using=kind), graph, directed, graph.names)
+        return of(called(networkx.read_edgelist, networkx, path, graph, directed), graph, directed, graph.names)
+
+    def numbers(path, graph, directed):
+        found = called(networkx.read_edgelist, networkx, path, graph, directed, nodetype=int)
+        return of(networkx.relabel_nodes(found, lambda number: graph.names[number - 1]), graph, directed, graph.names)
 
     def graphml(path, graph, directed):
         found = networkx.read_graphml(path)
@@ -205,7 +280,7 @@ def networkx_readers(networkx):
     def graph6(path, graph, directed):
         return of(networkx.read_graph6(path), graph, directed)
 
-    return {"edges": edges, "graphml": graphml, "graph6": graph6}
+    return {"edges": edges, "numbers": numbers, "graphml": graphml, "graph6": graph6}
 
 
 def igraph_readers(igraph):
@@ -319,16 +394,16 @@ def main():
             path = os.path.join(HERE, "converted", f"{name}.{form}")
             check(os.path.exists(path) == fits(graph, form, directed), path, "is there and should not, or the other way")
             for awk in awks() if os.path.exists(path) else []:
-                got = converted(program, expression, directed, form, awk)
+                got = converted(program, expression, directed, form, awk=awk)
                 with open(path, "rb") as file:
                     check((got.returncode, got.stdout, got.stderr) == (0, file.read(), b""), path, "differs by", *awk)
     readers, missing = installed() if sys.argv[2:] != ["stored"] else ([], [])
     with tempfile.TemporaryDirectory() as folder:
-        for expression, directed in READ:
-            graph = graph_of(program, expression, directed)
-            for form in FORMS:
-                got = converted(program, expression, directed, form)
-                what = f"{form} of {expression}"
+        for expression, directed, given in READ:
+            graph = graph_of(program, expression, directed, given)
+            for form in READ_FORMS:
+                got = converted(program, expression, directed, form, given)
+                what = f"{form} of {expression}" + (" " + given.split(b'"')[1].decode()) * (expression == "stdin")
                 if not fits(graph, form, directed):
                     is_refused = got.returncode == 1 and not got.stdout and got.stderr.startswith(b"convert.awk: to=")
                     check(is_refused and got.stderr.count(b"\n") == 1, what, "was not refused:", got)
@@ -338,7 +413,11 @@ def main():
                 with open(path, "wb") as file:
                     file.write(got.stdout)
                 mine = lambda path, graph, directed: globals()[f"read_{form}"](got.stdout.decode(), graph, directed)
-                for name, _, reader in [("the test", form, mine), *(each for each in readers if each[1] == form)]:
+                own = [("the test", form, mine)]
+                if form == "edges":
+                    own += [(f"the call of the head, by {name}", form, edgelist(name == "older rules"))
+                            for name in ("older rules", "newer rules")]
+                for name, _, reader in own + [each for each in readers if each[1] == form]:
                     try:
                         seen = reader(path, graph, directed)
                     except Exception as fault:
