@@ -1,12 +1,13 @@
 """Checks of the scripts in examples/, made by bench/outside.py: that they give the right graph, and that they fail, with
 a status and a line and no wrong output, where a listing is cut off or refused, has no head, has a name twice, or is of
-arcs and not of edges."""
+arcs and not of edges; and of completion, in a terminal."""
 
 import os
 import re
 import shutil
 import subprocess
 import sys
+import zlib
 
 TOP = os.path.dirname(os.path.dirname(os.path.abspath(__file__)))
 SECONDS = int(os.environ.get("OUTSIDE_SECONDS", "60"))  # that one command may take
@@ -18,8 +19,14 @@ FILES = {
     "lengths.gb": '"lengths",2,2\n* Vertices\n"a",A0\n"b",A1\n* Arcs\nV1,0,5\nV0,0,6\n',
     "loops.gb": '"loops",2,4\n* Vertices\n"a",A3\n"b c",0\n* Arcs\nV0,0,1\nV0,A0,-2\nV0,A1,1\nV0,A2,-2\n',
     "loop.gb": '"loop",1,2\n* Vertices\n"a",A1\n* Arcs\nV0,0,1\nV0,A0,2\n',
+    "signs.gb": '"signs",4,4\n* Vertices\n"#a",A0\n"b # c",A3\n"#",A2\n"# d",0\n'
+    "* Arcs\nV1,0,5\nV0,0,5\nV1,0,7\nV2,A1,7\n",
+    "empty.gb": '"empty",3,2\n* Vertices\n"a",0\n"",A0\n"c",A1\n* Arcs\nV2,0,1\nV1,0,1\n',
+    "before.gb": '"before",2,2\n* Vertices\n"a",A0\n" b",A1\n* Arcs\nV1,0,1\nV0,0,1\n',
+    "behind.gb": '"behind",2,2\n* Vertices\n"a",A0\n"b ",A1\n* Arcs\nV1,0,1\nV0,0,1\n',
 }
 NO_HEAD = "no head of a listing: say -v resumed=1 where it was resumed"
+QUEENS = "gunion(board(3,4,0,0,-1,0,0),board(3,4,0,0,-2,0,0),0,0)"
 
 # what convert.awk has to refuse: where its input comes from, its options, its line
 REFUSED = [
@@ -38,7 +45,10 @@ REFUSED = [
     ('sgb list "petersen()" | head -n 3', "", NO_HEAD),
     ('sgb list "petersen()" --skip 3', "", NO_HEAD),
     ('sgb list "petersen()" --skip 10', "", NO_HEAD),
-    ("sgb queen", "", NO_HEAD),
+    ("sgb queen | head -n 2", "", NO_HEAD),
+    ("sgb queen | sed 3d", "", NO_HEAD),
+    ("sgb queen | head -n 40", "", "the head has 12 vertices, the listing "),
+    ("sgb queen", "-v resumed=1", "the listing has its head: leave resumed=1 out"),
     ('sgb list "petersen()"', "-v resumed=1", "the listing has its head: leave resumed=1 out"),
     ('sgb list "petersen()" | head -n 4', "", "the head has 10 vertices, the listing 0"),
     ('sgb list "petersen()" | head -n 24', "-v directed=1", "the head has 10 vertices, the listing 5"),
@@ -53,6 +63,20 @@ REFUSED = [
     ('sgb list "petersen()" | sed "6s/1.1.0.0.0/9/"', "", "no vertex has the name 9, but an arc leads there from 0.0"),
     ('sgb list "petersen()" | sed "6s/1.1.0.0.0/9/"', "-v directed=1", "no vertex has the name 9"),
     ('sgb list "petersen()" | sed "6s/length 1/length 2/"', "", "the arc from 0.0.0.1.1 to 1.1.0.0.0, length 2, is no"),
+]
+
+# the same of edges alone
+REFUSED_OF_EDGES = [
+    (f"sgb list {given}", options, f'to=edges has no name that is empty or has a space at an end, as "{name}" is: {line}')
+    for given, options, name, line in [
+        ("stdin < empty.gb", "", "", "say -v numbers=1"),
+        ("stdin < before.gb", "", " b", "say -v numbers=1"),
+        ("stdin < behind.gb", "-v directed=1", "b ", "say -v numbers=1"),
+        ("stdin --skip 1 < behind.gb", "-v resumed=1", "b ", "other forms have it"),
+    ]
+] + [
+    ('sgb list "petersen()" --skip 1', "-v numbers=1 -v resumed=1", "a resumed listing has not all vertices, and numbers=1 needs"),
+    ('sgb list "petersen()" --skip 1', "-v numbers=1", NO_HEAD),
 ]
 
 # whose edges or arcs convert.awk and sgb_graph.py, which share nothing, have to agree on
@@ -70,6 +94,40 @@ TURNED = (
     '"x",1,2,11,12,13,14,15,16\n* Vertices\n"a",A1,1,2,3,4,5,6\n* Arcs\n'
     "V0,0,5,7,8\nV0,A0,6,9,10\n0,0,7,-1,-2\n* Checksum -1\n"
 )
+
+
+# A library for C whose graph has one vertex: its name says how long its input was, and the input's Adler-32.
+COUNTING = r"""
+#include <stdio.h>
+#include <string.h>
+#include "sgb.h"
+static char name[64];
+uint64_t sgb_open(const char *text, size_t text_len, const char *input, size_t input_len, sgb_graph *graph) {
+    unsigned low = 1, high = 0;
+    for (size_t k = 0; k < input_len; k++) low = (low + (unsigned char)input[k]) % 65521, high = (high + low) % 65521;
+    snprintf(name, sizeof name, "%zu bytes, sum %u", input_len, high << 16 | low);
+    graph->is_open = true;
+    return text_len != strlen(text) || !input;
+}
+void sgb_close(sgb_graph *graph) { graph->is_open = false; }
+uint64_t sgb_sizes(sgb_graph *graph, sgb_graph_sizes *sizes) {
+    *sizes = (sgb_graph_sizes){1, 0, 0, strlen(name), 0};
+    return !graph->is_open;
+}
+uint64_t sgb_rows(sgb_graph *graph, uint64_t *starts, size_t n, uint32_t *tips, size_t m, int64_t *lengths, size_t l) {
+    starts[0] = starts[1] = 0;
+    return !graph->is_open || n != 2 || m != l || !tips || !lengths;
+}
+uint64_t sgb_names(sgb_graph *graph, uint64_t *starts, size_t n, char *bytes, size_t len) {
+    starts[0] = 0, starts[1] = len;
+    memcpy(bytes, name, len);
+    return !graph->is_open || n != 2;
+}
+uint64_t sgb_ints(sgb_graph *graph, uint32_t field, int64_t *values, size_t n) {
+    return graph->is_open && field < 6 && values && n == 1 ? SGB_NO_INTEGERS : 1;
+}
+uint64_t sgb_id(sgb_graph *graph, char *bytes, size_t len) { return !graph->is_open || !bytes || len; }
+"""
 
 
 class Shell:
@@ -126,7 +184,7 @@ def refused(program):
         """convert.awk gives a line and nothing else where a listing does not tell the graph."""
         shell = Shell(runs, program, "refused")
         for awk, to in [(awk, "edges") for awk in awks()] + [(awks()[0], "dot")]:
-            for given, options, line in REFUSED:
+            for given, options, line in REFUSED + REFUSED_OF_EDGES * (to == "edges"):
                 command = f"{given} | {awk} -v to={to} {options} -f examples/convert.awk"
                 status, out, err = shell.run(command)
                 is_right = err.startswith(f"convert.awk: {line}") and err.count("\n") == 1
@@ -136,6 +194,8 @@ def refused(program):
                 status, out, err = shell.run(command)
                 is_right = (status, out) == (1, "") and err.startswith("convert.awk: say what to write")
                 tally.check(is_right, "$", command, "gave", (status, out, err))
+            command = f'sgb list "petersen()" | {awk} -v to=dot -v numbers=1 -f examples/convert.awk'
+            tally.same(command, shell.run(command), (1, "", "convert.awk: numbers=1 is for to=edges\n"))
 
     return checks
 
@@ -175,9 +235,19 @@ def agreed(program):
                 ('"circuit(4)" --skip 2', "-v resumed=1", "2\t3\n2\t1\n3\t0\n"),
                 ('"circuit(4)" --skip 4', "-v resumed=1", ""),
                 ('"cycle(4)" --after 1', "-v resumed=1 -v directed=1", "2\t3\n3\t0\n"),
+                ("stdin < signs.gb", "", "#a\tb # c\t5\nb # c\t#\t7\n# d\n"),
+                ("stdin < signs.gb", "-v numbers=1", "1\t2\t5\n2\t3\t7\n4\n"),
+                ("stdin < empty.gb", "-v numbers=1", "1\n2\t3\n"),
+                ("stdin < behind.gb", "-v numbers=1 -v directed=1", "1\t2\n2\t1\n"),
             ]:
                 command = f"sgb list {given} | {awk} -v to=edges {options} -f examples/convert.awk"
                 tally.same(command, shell.run(command), (0, out, ""))
+            # the queens' listing, which has a title before it
+            for to in ("edges", "dimacs", "metis", "graphml"):
+                end = f"{awk} -v to={to} -v lengths=1 -f examples/convert.awk"
+                wanted = shell.run(f'sgb list "{QUEENS}" | {end}')
+                tally.check(wanted[0] == 0 and wanted[1].count("\n") > 12 and not wanted[2], to, "of queens gave", wanted)
+                tally.same(f"sgb queen | {end}", shell.run(f"sgb queen | {end}"), wanted)
 
     return checks
 
@@ -249,9 +319,21 @@ def parts(program):
             what = f"a part of a program that writes by {taken}, says {line!r} and ends with {status}"
             tally.same(what, (got, err), (said[0], sorted(said[1])))
             tally.check(out == wanted if taken == all_ else wanted.startswith(out), what, "gave", out)
+        # where no head comes: the program's own line, or that it writes no listing, also where it cannot write on
+        shell.write("queens", '#!/bin/sh\nexec sgb queen\n', 0o755)
+        shell.write("names", '#!/bin/sh\nexec sgb names "board(300,300,0,0,1,0,0)"\n', 0o755)
+        no_listing = "part.sh: no listing with its head, as sgb list EXPR begins, comes from the program"
+        for words, sgb, line in [
+            ('"board(2,-251,0,0,1,0,0)" 0 1', "sgb", "Something went wrong (panic code 30)!"),
+            ('"board(4,4" 0 1', "sgb", "sgb: bad expression at byte 9"),
+            ("queen 0 1", "sgb", "sgb: bad expression at byte 0"),
+            ("queen 0 1", "./queens", no_listing),
+            ("names 0 1", "./names", no_listing),
+        ]:
+            command = f"examples/part.sh {words}"
+            status, out, err = shell.run(command, SGB=sgb)
+            tally.check((status > 0, out, err) == (True, "", line + "\n"), "$", command, sgb, "gave", (status, out, err))
         for command, line in [
-            ('examples/part.sh "board(2,-251,0,0,1,0,0)" 0 1', "Something went wrong (panic code 30)!"),
-            ('examples/part.sh "board(4,4" 0 1', "sgb: bad expression at byte 9"),
             ('examples/part.sh "board(4,4,0,0,1,0,0)" 3 13', "blocks.awk: no vertex comes after 13 blocks"),
             ('examples/part.sh "board(4,4,0,0,1,0,0)" 3', "usage: part.sh"),
             ('examples/part.sh "board(4,4,0,0,1,0,0)" 3 x', "part.sh: no number: x"),
@@ -362,12 +444,7 @@ def clusters(program):
 def forms(program):
     def checks(runs, tally):
         """The forms that convert.awk writes: those that are stored, and more that are read again."""
-        tests = os.path.join(TOP, "examples", "convert_test.py")
-        got = subprocess.run([sys.executable, "-B", tests, program, "stored"], capture_output=True, timeout=SECONDS)
-        said = got.stdout.decode() + got.stderr.decode()
-        found = re.fullmatch("([0-9]+) passed, 0 failed", (said.splitlines() or [""])[-1])
-        tally.check(got.returncode == 0 and found, tests, "gave", said)
-        tally.passed += int(found[1]) - 1 if found else 0
+        counted(tally, os.path.join(TOP, "examples", "convert_test.py"), program, "stored")
 
     return checks
 
@@ -442,6 +519,35 @@ def gb(program):
     return checks
 
 
+def graphbase(program):
+    def checks(runs, tally):
+        """examples/c/graphbase.c reads an input of any size, whole; by the library for C where that is."""
+        shell = Shell(runs, program, "graphbase")
+        shell.write("counting.c", COUNTING)
+        compiled = f"cc -O2 -Wall -Wextra -Werror -I '{TOP}/include' '{TOP}/examples/c/graphbase.c'"
+        tally.same("cc graphbase.c", shell.run(f"{compiled} counting.c -o counting"), (0, "", ""))
+        for size in (0, 1, 65_535, 65_536, 65_537, (1 << 22) - 1, 1 << 22, (1 << 22) + 1, 9_000_001):
+            data = bytes(k * k % 251 for k in range(1009)) * (size // 1009 + 1)
+            with open(shell.file("input"), "wb") as file:
+                file.write(data[:size])
+            head = "  The graph whose official name is\n\n  has 1 vertices and 0 arcs:\n\n"
+            wanted = (0, f"{head}{size} bytes, sum {zlib.adler32(data[:size])}\n", "")
+            tally.same(f"an input of {size} bytes", shell.run("./counting stdin < input"), wanted)
+            tally.same(f"a pipe with {size} bytes", shell.run("cat input | ./counting stdin"), wanted)
+        tally.same("no input", shell.run("./counting empty"), (0, f"{head}0 bytes, sum 1\n", ""))
+        tally.same("a folder", shell.run("./counting stdin < ."), (2, "", "graphbase: the input could not be read\n"))
+        if not os.path.exists(os.path.join(TOP, "libsgb.a")):
+            print("  skipped, without libsgb.a: examples/c/graphbase.c on a file above 4 MiB")
+            return
+        tally.same("cc graphbase.c", shell.run(f"{compiled} '{TOP}/libsgb.a' -o graphbase"), (0, "", ""))
+        status, saved, _ = shell.run('sgb save "board(300,300,0,0,1,0,0)"')
+        tally.check(status == 0 and len(saved) > 1 << 22, "a board's file has", len(saved))
+        shell.write("board.gb", saved)
+        tally.same("a board's file", shell.run("./graphbase stdin < board.gb"), shell.run("sgb list stdin < board.gb"))
+
+    return checks
+
+
 def python(program):
     def checks(runs, tally):
         """The tests of sgb_graph.py."""
@@ -450,6 +556,23 @@ def python(program):
         tally.check(got.returncode == 0, tests, "gave", got.stderr.decode())
 
     return checks
+
+
+def completion(runs, tally):
+    """What bash makes of lines that are typed in a terminal."""
+    if not shutil.which("bash"):
+        print("  skipped, without bash: completions/sgb_test.py")
+        return
+    counted(tally, os.path.join(TOP, "completions", "sgb_test.py"))
+
+
+def counted(tally, *words):
+    """Runs a test of Python whose last line tells how many checks passed."""
+    got = subprocess.run([sys.executable, "-B", *words], stdin=subprocess.DEVNULL, capture_output=True, timeout=SECONDS)
+    said = got.stdout.decode() + got.stderr.decode()
+    found = re.fullmatch("([1-9][0-9]*) passed, 0 failed", (said.splitlines() or [""])[-1])
+    tally.check(got.returncode == 0 and found, *words, "gave", said)
+    tally.passed += int(found[1]) - 1 if found else 0
 
 
 def all_checks(program):
@@ -461,4 +584,6 @@ def all_checks(program):
     yield "scripts of parts", shards(program)
     yield "scripts of clusters", clusters(program)
     yield "scripts in C", gb(program)
+    yield "scripts in C on great files", graphbase(program)
     yield "scripts in Python", python(program)
+    yield "scripts of completion", completion
