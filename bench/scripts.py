@@ -2,6 +2,7 @@
 a status and a line and no wrong output, where a listing is cut off or refused, has no head, has a name twice, or is of
 arcs and not of edges; and of completion, in a terminal."""
 
+import math
 import os
 import re
 import shutil
@@ -66,8 +67,9 @@ REFUSED = [
 ]
 
 # the same of edges alone
+NO_SUCH_NAME = "to=edges has no name that is empty or has a space at an end"
 REFUSED_OF_EDGES = [
-    (f"sgb list {given}", options, f'to=edges has no name that is empty or has a space at an end, as "{name}" is: {line}')
+    (f"sgb list {given}", options, f'{NO_SUCH_NAME}, as "{name}" is: {line}')
     for given, options, name, line in [
         ("stdin < empty.gb", "", "", "say -v numbers=1"),
         ("stdin < before.gb", "", " b", "say -v numbers=1"),
@@ -75,7 +77,7 @@ REFUSED_OF_EDGES = [
         ("stdin --skip 1 < behind.gb", "-v resumed=1", "b ", "other forms have it"),
     ]
 ] + [
-    ('sgb list "petersen()" --skip 1', "-v numbers=1 -v resumed=1", "a resumed listing has not all vertices, and numbers=1 needs"),
+    ('sgb list "petersen()" --skip 1', "-v numbers=1 -v resumed=1", "a resumed listing has not all vertices, and n"),
     ('sgb list "petersen()" --skip 1', "-v numbers=1", NO_HEAD),
 ]
 
@@ -246,7 +248,8 @@ def agreed(program):
             for to in ("edges", "dimacs", "metis", "graphml"):
                 end = f"{awk} -v to={to} -v lengths=1 -f examples/convert.awk"
                 wanted = shell.run(f'sgb list "{QUEENS}" | {end}')
-                tally.check(wanted[0] == 0 and wanted[1].count("\n") > 12 and not wanted[2], to, "of queens gave", wanted)
+                is_right = wanted[0] == 0 and wanted[1].count("\n") > 12 and not wanted[2]
+                tally.check(is_right, to, "of queens gave", wanted)
                 tally.same(f"sgb queen | {end}", shell.run(f"sgb queen | {end}"), wanted)
 
     return checks
@@ -332,7 +335,8 @@ def parts(program):
         ]:
             command = f"examples/part.sh {words}"
             status, out, err = shell.run(command, SGB=sgb)
-            tally.check((status > 0, out, err) == (True, "", line + "\n"), "$", command, sgb, "gave", (status, out, err))
+            is_right = status and (out, err) == ("", line + "\n")
+            tally.check(is_right, "$", command, sgb, "gave", (status, out, err))
         for command, line in [
             ('examples/part.sh "board(4,4,0,0,1,0,0)" 3 13', "blocks.awk: no vertex comes after 13 blocks"),
             ('examples/part.sh "board(4,4,0,0,1,0,0)" 3', "usage: part.sh"),
@@ -437,6 +441,48 @@ def clusters(program):
         tally.check(is_right, job, "with a program that fails gave", (status, out, err))
         status, out, err = shell.run('examples/hosts.sh "board(3,3" 4 :')
         tally.check(status != 0 and not out and err, "examples/hosts.sh of no expression gave", (status, out, err))
+
+    return checks
+
+
+COUNTED = 1000  # arcs of a list that are counted at most
+# lists of one vertex: an expression, a vertex, the vectors on its list, the entries of each
+LISTS = [
+    ("disjoint_subsets(30,6)", 0, math.comb(24, 6), 30),
+    ("disjoint_subsets(30,6)", math.comb(30, 6) - 1, math.comb(24, 6), 30),
+    ("subsets(2,1,-199,0,0,0,0x1,0)", math.comb(200, 2) - 1, math.comb(198, 2), 200),
+    ("board(3000000,0,0,0,-1,1,0)", 2_999_999, 2 * 2_999_999, 1),
+]
+# and those of which none is kept, with so many arcs
+SHORT = [
+    ("board(3000000,0,0,0,-1,0,0)", 2_999_999, 2_999_999),
+    ("simplex(3,1,-199,0,0,0,0)", math.comb(200, 3) - 1, 3 * 197),
+]
+
+
+def lists(program):
+    def checks(runs, tally):
+        """What a listing keeps is as large as the pages say: by the address space in which a list is made or is not."""
+        shell = Shell(runs, program, "lists")
+
+        def arcs(expression, vertex, bytes_):
+            command = f"ulimit -v {bytes_ // 1024}; sgb list '{expression}' --skip {vertex}"
+            return int(shell.run(f"({command}) | head -n {COUNTED + 1} | grep -c '^  -> '")[1])
+
+        for expression, vertex, vectors, entries in LISTS:
+            size = vectors * (4 * entries + 4)
+            tally.same((expression, "in too little"), arcs(expression, vertex, size), 0)
+            tally.same((expression, "in enough"), arcs(expression, vertex, 2 * size + 8_000_000), min(vectors, COUNTED))
+        for expression, vertex, count in SHORT:
+            tally.same((expression, "in 8 MB"), arcs(expression, vertex, 8 << 20), min(count, COUNTED))
+        for page in ("docs/ERRORS.md", "examples/slurm.sh"):
+            with open(os.path.join(TOP, page), encoding="utf-8") as file:
+                text = re.sub("[\n #`]+", " ", file.read())
+            lists_of = r"disjoint_subsets\(40,8\) has lists of ([0-9,]+) vectors of ([0-9]+) entries"
+            found = re.search(lists_of + ", which take ([0-9.]+) GB", text)
+            numbers = found and (int(found[1].replace(",", "")), int(found[2]), float(found[3]))
+            size = math.comb(32, 8) * (4 * 40 + 4)
+            tally.same((page, "disjoint_subsets(40,8)"), numbers, (math.comb(32, 8), 40, round(size / 1e9, 1)))
 
     return checks
 
@@ -579,6 +625,7 @@ def all_checks(program):
     yield "scripts refusing", refused(program)
     yield "scripts agreeing", agreed(program)
     yield "scripts of forms", forms(program)
+    yield "scripts of long lists", lists(program)
     yield "scripts of blocks", blocks(program)
     yield "scripts of a part", parts(program)
     yield "scripts of parts", shards(program)

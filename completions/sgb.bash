@@ -2,10 +2,11 @@
 #
 #   source completions/sgb.bash
 #
-# `make install` puts it where bash-completion looks for it. An expression stands in quotes, since a shell takes parentheses
-# for its own: sgb list comp<TAB> begins with one. After a form's parenthesis the names of graphs are offered where a graph is
-# wanted. Where a number is, a second <TAB> shows what it is, with the whole form, and completes nothing. After a parenthesis
-# without a quote bash takes what follows for another command, and does not ask here.
+# `make install` puts it where bash-completion looks for it. An expression stands in quotes, since a shell takes
+# parentheses for its own: sgb list comp<TAB> begins with one. After a form's parenthesis the names of graphs are
+# offered where a graph is wanted. Where a number is, a second <TAB> shows what it is, with the whole form, and
+# completes nothing. After a parenthesis without a quote bash takes what follows for another command, and does not ask
+# here.
 
 _sgb_forms=(
     'stdin'
@@ -55,8 +56,8 @@ _sgb() {
     esac
 }
 
-# The words of the line up to the cursor, without their quotes and backslashes, into `words`; which quote the last one is in,
-# and whether it has a backslash. Bash's own words end at a parenthesis, a colon and an equals sign too.
+# The words of the line up to the cursor, without their quotes and backslashes, into `words`; which quote the last one
+# is in, and whether it has a backslash. Bash's own words end at a parenthesis, a colon and an equals sign too.
 _sgb_split() {
     local line=${COMP_LINE:0:COMP_POINT} under_way='' is_begun='' place character
     words=() quote='' is_escaped=''
@@ -102,8 +103,8 @@ _sgb_expression() {
     [[ -n $is_whole ]] || compopt -o nospace 2> /dev/null
 }
 
-# Where the text ends: in the name or number that is begun there; what is wanted in its place, which is EXPR, the name of a
-# number, [..] or nothing; which form that is an argument of, if any; whether the text is a whole expression.
+# Where the text ends: in the name or number that is begun there; what is wanted in its place, which is EXPR, the name
+# of a number, [..] or nothing; which form that is an argument of, if any; whether the text is a whole expression.
 _sgb_place() {
     local text=$1 depth=0 place character form
     local -a left=(EXPR) forms=('')

@@ -1,14 +1,15 @@
 #!/usr/bin/env bash
 # What the function of sgb.bash offers for lines that are under way: completions/sgb_test.bash
 #
-# sgb_test.py beside it types lines in a terminal. Here the function is called as bash calls it, also by other ways to complete.
+# sgb_test.py beside it types lines in a terminal. Here the function is called as bash calls it, also by other ways to
+# complete.
 set -u
 cd "$(dirname "$0")" || exit 1
 source ./sgb.bash
 passed=0 failed=0 COMP_TYPE=9
 
-# offered WORDS.. = OFFERS..: the last of the words is under way; a quote at its beginning is not part of what is completed.
-# COMP_TYPE is the way to complete: 9 for a tab, 37 where what is offered is put into the line in turn.
+# offered WORDS.. = OFFERS..: the last of the words is under way; a quote at its beginning is not part of what is
+# completed. COMP_TYPE is the way to complete: 9 for a tab, 37 where what is offered is put into the line in turn.
 offered() {
     local wanted
     COMP_WORDS=()

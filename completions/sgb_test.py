@@ -1,8 +1,8 @@
 #!/usr/bin/env python3
 """What sgb.bash does in a terminal: completions/sgb_test.py [SGB.BASH].
 
-It starts bash in a terminal of its own, types the beginning of a line and tabs, and reads what stands in the line then, and
-what bash has shown as possible. Nothing is run: no program sgb is wanted.
+It starts bash in a terminal of its own, types the beginning of a line and tabs, and reads what stands in the line then,
+and what bash has shown as possible. Nothing is run: no program sgb is wanted.
 """
 
 import fcntl

@@ -19,8 +19,8 @@
 #   to=graph6   graph6 of nauty. It has no arcs, loops or parallel edges, and no names and lengths: these are left out.
 #
 # Vertices without a name in the format have the number of their place, from 1, in GraphML from 0; comments or labels tell
-# their names. Lengths are not written where all are 1, unless lengths=1 asks for them. The title that `sgb queen` writes
-# before its listing is left out.
+# their names. Lengths are not written where all are 1, unless lengths=1 asks for them. The title that `sgb queen`
+# writes before its listing is left out.
 #
 # A listing does not say whether its graph has edges or arcs. An edge stands on the lists of both its ends, a loop twice
 # on one. So without directed=1 the arcs have to come in such pairs, with equal lengths, and each pair is written once,
@@ -33,7 +33,7 @@
 # pairs; what the format does not have.
 #
 #   directed=1  the arcs are arcs, and are written as they stand
-#   numbers=1   edges of numbers: a vertex is the number of its place, from 1; `sgb names` writes the names in this order
+#   numbers=1   edges of numbers: a vertex is the number of its place, from 1; `sgb names` has the names in this order
 #   file=1      the graph is a file's (stdin): the number of arcs in the head is what the file says, and is not compared
 #   resumed=1   the listing was resumed (--after, --skip) and has no head: for dot and edges. What leads to a vertex that
 #               is not in it is written once. Whether vertices are missing, or arcs at its end, or whether what leads

@@ -38,8 +38,8 @@ FILE = (
     b'"x & y < z",3,6\n* Vertices\n"a & <b>",A0\n"c;d",A1\n"loops",A5\n* Arcs\n'
     b"V1,0,-3\nV0,0,-3\nV2,0,1\nV2,A2,4\nV2,A3,4\nV2,A4,1\n* Checksum -1\n"
 )
-# others: a name begins with the sign of a comment or has it inside, and a length is no floating number; a name is empty, or
-# has a space at an end
+# others: a name begins with the sign of a comment or has it inside, and a length is no floating number; a name is
+# empty, or has a space at an end
 SIGNS = (
     b"* GraphBase graph (util_types ZZZZZZZZZZZZZZ,5V,6A)\n"
     b'"signs",5,6\n* Vertices\n"#a",A0\n"b # c",A4\n"%",A2\n"c 1",A5\n"#",0\n* Arcs\n'
@@ -50,7 +50,7 @@ SPACES = (
     b'"spaces",4,6\n* Vertices\n"",A4\n" a",A1\n"b ",A3\n"c",A5\n* Arcs\n'
     b"V2,0,1\nV0,A0,1\nV1,0,1\nV3,A2,1\nV1,0,1\nV2,0,1\n* Checksum -1\n"
 )
-ONES = SIGNS.replace(b'"signs"', b'"ones"').replace(b"9007199254740993", b"1").replace(b",7\n", b",1\n").replace(b",-1\n", b",1\n")
+ONES = re.sub(b",(9007199254740993|7|-1)\n", b",1\n", SIGNS).replace(b'"signs"', b'"ones"')
 
 # expressions, whether of arcs, and the file that is read
 READ = [(expression, directed, FILE) for _, expression, directed in STORED] + [

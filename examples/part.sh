@@ -5,9 +5,9 @@
 #   examples/part.sh "board(30,30,0,0,1,0,0)" 225 225 > part.2
 #
 # There has to be a vertex after them: blocks.awk looks for it, since it shows that the last block is whole, and closes
-# the pipe then. That the program could not write on is no fault, and that line of its is left out; so is what blocks.awk
-# says of a head that is not there where the program has said why. All else that either of them says is shown, and makes
-# the status of this command. SGB names the program, if it is not the one on the path.
+# the pipe then. That the program could not write on is no fault, and that line of its is left out; so is what
+# blocks.awk says of a head that is not there where the program has said why. All else that either of them says is
+# shown, and makes the status of this command. SGB names the program, if it is not the one on the path.
 set -u
 [ $# -eq 3 ] || { echo "usage: part.sh EXPR FROM COUNT" >&2; exit 2; }
 for number in "$2" "$3"; do
