@@ -119,8 +119,11 @@ _sgb_place() {
                 done
                 form=${forms[depth]#*\(}
                 left[depth]=${form%\)} begun='' ;;
-            # each entry of a list is a number or an expression
-            '[') depth=$((depth + 1)) left[depth]=EXPR,.. forms[depth]='' begun='' ;;
+            '[')
+                # each entry of a list is a number or an expression
+                form=''
+                [[ ${left[depth]} != '[..]'* ]] || form=EXPR,..
+                depth=$((depth + 1)) left[depth]=$form forms[depth]='' begun='' ;;
             ',')
                 begun=''
                 case ${left[depth]} in

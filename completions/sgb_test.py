@@ -90,6 +90,8 @@ TYPED = [
     ('sgb list "gunion(petersen()\t\t', 'sgb list "gunion(petersen()', []),
     ('sgb list "induced(complete(2),\t', 'sgb list "induced(complete(2),[', []),
     ('sgb list "induced(stdin,[1,\t\t', 'sgb list "induced(stdin,[1,', forms("induced(stdin,[1,")),
+    ('sgb list "[\t\t', 'sgb list "[', []),
+    ('sgb list "lines([p\t\t', 'sgb list "lines([p', []),
     ('sgb list "induced(stdin,[1,pet\t', 'sgb list "induced(stdin,[1,petersen()', []),
     ('sgb list "induced(stdin,[1,1\t\t', 'sgb list "induced(stdin,[1,1', []),
     ('sgb list "induced(stdin,[1,1],\t\t', 'sgb list "induced(stdin,[1,1],', ["<self_loops>", INDUCED]),
