@@ -472,7 +472,8 @@ def lists(program):
         for expression, vertex, vectors, entries in LISTS:
             size = vectors * (4 * entries + 4)
             tally.same((expression, "in too little"), arcs(expression, vertex, size), 0)
-            tally.same((expression, "in enough"), arcs(expression, vertex, 2 * size + 8_000_000), min(vectors, COUNTED))
+            room = 2 * (size + 8 * vectors * expression.startswith("board")) + 8_000_000
+            tally.same((expression, "in enough"), arcs(expression, vertex, room), min(vectors, COUNTED))
         for expression, vertex, count in SHORT:
             tally.same((expression, "in 8 MB"), arcs(expression, vertex, 8 << 20), min(count, COUNTED))
         for page in ("docs/ERRORS.md", "examples/slurm.sh"):

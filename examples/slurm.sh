@@ -10,7 +10,8 @@
 # A task whose part is not whole fails. The array has to begin with 1 and to leave no number out.
 #
 # 200 MB are ample for a simplex, and for a board on which no side wraps around. Else a task keeps the longest list of
-# one vertex: for each vector on it 4 bytes for each of its entries and 4 more, and up to twice that while it grows.
+# one vertex: for each vector on it 4 bytes for each of its entries and 4 more (of a board 12), and up to twice that
+# while it grows.
 # Lists of subsets, and of pieces that ride around a board, may be as long as there are vertices, or twice as long:
 # disjoint_subsets(40,8) has lists of 10,518,300 vectors of 40 entries, which take 1.7 GB. A greater --mem at the
 # command goes before the one above: sbatch --mem=4G --array=1-PARTS examples/slurm.sh EXPR FILES
