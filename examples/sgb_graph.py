@@ -9,18 +9,20 @@
 
     graph = sgb_graph.to_networkx(sgb_graph.read("board(3,3,0,0,1,0,0)"))
 
-It needs the program alone, and is for those, and for listings of any length. The package in python/ makes whole graphs as
-arrays by the library for C, in a tenth of the time.
+It needs the program alone, and is for those, and for listings of any length. The package in python/ makes whole graphs
+as arrays by the library for C, in a tenth of the time.
 
 `read` parses the listing as the program writes it, so a listing of any length takes the memory of one vertex's arcs. A
-listing can be gone through once; `close`, or a `with`, ends the program of one that is not gone through to its end. Needs
-Python's library alone; `to_networkx` needs networkx.
+listing is a stream that is read once: it can be gone through once, or handed once to `to_edges` or `to_networkx`. What
+comes after that is refused, also where the first pass was cut short. `close`, or a `with`, ends the program of one that
+is not gone through to its end. Needs Python's library alone; `to_networkx` needs networkx.
 
-A refusal is a Fault. A listing that does not tell what was asked for is a ValueError: where it has another number of
-vertices or arcs than its head says, as where a vertex's name, in a file, looks like the line of an arc; and in `to_edges`
-and `to_networkx` also where two vertices have one name, since a listing has names alone (a line graph of parallel edges is
-such), where an arc leads to no vertex, and where arcs do not come in pairs as edges do, unless `directed` says that they
-are arcs. These two give nothing before all of the listing was read and found right.
+A refusal is a Fault. A listing that does not tell what was asked for is a ValueError: where it was begun before, or is
+closed; where it has another number of vertices or arcs than its head says, as where a vertex's name, in a file, looks
+like the line of an arc; and in `to_edges` and `to_networkx` also where two vertices have one name, since a listing has
+names alone (a line graph of parallel edges is such), where an arc leads to no vertex, and where arcs do not come in
+pairs as edges do, unless `directed` says that they are arcs. These two give nothing before all of the listing was read
+and found right.
 """
 
 import collections
@@ -34,7 +36,17 @@ _CODE = re.compile(r"Something went wrong \(panic code ([0-9]+)\)!\Z")
 
 
 class Fault(Exception):
-    """A request that was refused, or stopped: the program's exit status, its line, and the panic code in it or None."""
+    """A request that was refused, or stopped. It can be pickled and copied.
+
+    Attributes
+    ----------
+    status : int
+        The program's exit status.
+    line : str
+        What it said.
+    code : int or None
+        The panic code in that line, if there is one.
+    """
 
     def __init__(self, status, line):
         super().__init__(line or "sgb ended with status %d" % status)
@@ -43,11 +55,23 @@ class Fault(Exception):
         found = _CODE.match(line)
         self.code = int(found.group(1)) if found else None
 
+    def __reduce__(self):
+        # what Python would make it of again are its words alone
+        return type(self), (self.status, self.line), self.__dict__
+
 
 class Listing:
-    """A listing under way: `id`, `n` vertices, `m` arcs; an iterator of pairs of a name and a list of (tip, length).
+    """A listing under way: it is iterated once, over pairs of a vertex's name and the list of its arcs (tip, length).
 
-    `m` is what the head says: where the expression is `stdin` this is what the file says, and it is not compared.
+    `iter` of a listing that was begun before, whether to its end or not, or that is closed, is a ValueError.
+
+    Attributes
+    ----------
+    id : str
+        The graph's official name.
+    n, m : int
+        The numbers of vertices and arcs, as the head says. Where the expression is `stdin`, m is what the file says,
+        and it is not compared.
     """
 
     def __init__(self, process, kept, is_file=False):
@@ -65,7 +89,15 @@ class Listing:
         self._blocks = self._read_blocks()
 
     def __iter__(self):
-        return self._blocks
+        if self._blocks is None:
+            raise ValueError("the listing was begun before, and is a stream that is read once: make another by read")
+        if self._process.stdout.closed:
+            raise ValueError("the listing is closed: make another by read")
+        blocks, self._blocks = self._blocks, None
+        return blocks
+
+    def __reduce__(self):
+        raise TypeError("a listing is a stream that is read once, and is not copied: make another by read")
 
     def __enter__(self):
         return self
@@ -118,10 +150,26 @@ class Listing:
 
 
 def read(expression, input=None, program="sgb"):
-    """The listing of an expression. `input` is what its `stdin` reads: bytes, or a binary file with a descriptor.
+    """The listing of an expression.
 
-    Raises Fault where the request is refused, and, while the listing is gone through, where it is cut off; ValueError
-    where what the program writes is no listing.
+    Parameters
+    ----------
+    expression : str
+    input : bytes, bytearray, binary file with a descriptor, or None
+        What `stdin` in the expression reads.
+    program : str
+        The program sgb.
+
+    Returns
+    -------
+    Listing
+
+    Raises
+    ------
+    Fault
+        Where the request is refused, and, while the listing is gone through, where it is cut off.
+    ValueError
+        Where what the program writes is no listing.
     """
     kept = None
     if isinstance(input, (bytes, bytearray)):
@@ -139,12 +187,31 @@ def read(expression, input=None, program="sgb"):
 
 
 def to_edges(listing, directed=False):
-    """An iterator of the arcs as (name, tip, length), in order; unless `directed`, of each edge once, at the end that comes
-    first.
+    """The edges of a listing, or its arcs. The whole listing is read and kept first.
 
-    An edge stands on the lists of both its ends, and a loop twice on its vertex's list, with one length: ValueError where
-    arcs do not come in such pairs, unless `directed`. (Where they do by chance they are taken for edges.) ValueError also
-    where two vertices have one name, or an arc leads to no vertex. The whole listing is read and kept first.
+    An edge stands on the lists of both its ends, and a loop twice on its vertex's list, with one length. Arcs that come
+    in such pairs by chance are taken for edges.
+
+    Parameters
+    ----------
+    listing : Listing
+        One that was not begun.
+    directed : bool
+        Whether arcs are meant.
+
+    Returns
+    -------
+    iterator of (name, tip, length)
+        Each arc, in order; unless `directed`, of each edge the arc that is on the list of the end that comes first, and
+        of a loop the first of two.
+
+    Raises
+    ------
+    ValueError
+        Where arcs do not come in pairs, unless `directed`; where two vertices have one name, or an arc leads to no
+        vertex; where the listing is not what its head says, or was begun before, or is closed.
+    Fault
+        Where the listing is cut off.
     """
     return iter(_edges(_lists(listing), directed))
 
@@ -152,8 +219,10 @@ def to_edges(listing, directed=False):
 def _lists(listing):
     """The arcs of each name."""
     lists = {}
+    # a listing that was begun before is refused, and stays open for who began it
+    blocks = iter(listing)
     with listing:
-        for name, arcs in listing:
+        for name, arcs in blocks:
             if name in lists:
                 raise ValueError("two vertices have the name %r, and a listing has names alone" % name)
             lists[name] = arcs
@@ -186,8 +255,25 @@ def _edges(lists, directed):
 
 
 def to_networkx(listing, directed=False):
-    """A networkx MultiGraph, or MultiDiGraph, with the lengths as `weight`, and the id as the graph's `name`; ValueError as
-    from `to_edges`."""
+    """The graph of a listing in networkx, with the lengths as `weight`, and the id as the graph's name.
+
+    Parameters
+    ----------
+    listing : Listing
+        One that was not begun.
+    directed : bool
+        Whether arcs are meant.
+
+    Returns
+    -------
+    networkx.MultiGraph, or MultiDiGraph where `directed`
+        Its nodes are the names of the vertices, in order, and its edges those of `to_edges`.
+
+    Raises
+    ------
+    ValueError, Fault
+        As from `to_edges`.
+    """
     lists = _lists(listing)
     edges = _edges(lists, directed)
     # a listing that is refused is refused where networkx is not there, too

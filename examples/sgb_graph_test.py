@@ -1,8 +1,10 @@
 #!/usr/bin/env python3
-"""Tests of sgb_graph.py: examples/sgb_graph_test.py [PROGRAM]. Graphs are also compared with networkx, if it is there."""
+"""Tests of sgb_graph.py: examples/sgb_graph_test.py [PROGRAM]. Graphs are compared with networkx's, if it is there."""
 
+import copy
 import itertools
 import os
+import pickle
 import sys
 import unittest
 
@@ -31,6 +33,22 @@ LIKE_AN_ARC = FILE.replace(b'"",A1', b'"  -> a b, length 3",A1')
 
 def read(expression, input=None):
     return sgb_graph.read(expression, input, PROGRAM)
+
+
+# what goes through a listing
+PASSES = {
+    "list": list,
+    "iter": iter,
+    "names": lambda listing: [name for name, _ in listing],
+    "in": lambda listing: ("0.0.0.1.1", []) in listing,
+    "edges": sgb_graph.to_edges,
+    "arcs": lambda listing: sgb_graph.to_edges(listing, directed=True),
+    "networkx": sgb_graph.to_networkx,
+    "networkx of arcs": lambda listing: sgb_graph.to_networkx(listing, directed=True),
+}
+# and what can have begun it, as far as it can be done here
+FIRST = {name: begin for name, begin in PASSES.items() if networkx or "networkx" not in name}
+FIRST.update(next=lambda listing: next(iter(listing)), three=lambda listing: list(itertools.islice(listing, 3)))
 
 
 class Listings(unittest.TestCase):
@@ -67,6 +85,10 @@ class Listings(unittest.TestCase):
                 read(expression)
             fault = raised.exception
             self.assertEqual((fault.status, fault.code, fault.line), (status, code, line))
+            fault.expression = expression
+            for made in (pickle.loads(pickle.dumps(fault)), copy.copy(fault), copy.deepcopy(fault)):
+                self.assertIs(type(made), sgb_graph.Fault)
+                self.assertEqual((str(made), made.args, vars(made)), (line, fault.args, vars(fault)))
 
     def test_loops_of_two_lengths(self):
         edges = list(sgb_graph.to_edges(read("stdin", LOOPS)))
@@ -106,6 +128,49 @@ class Listings(unittest.TestCase):
     def test_a_part_of_a_long_listing(self):
         with read("board(60,60,0,0,-1,0,0)") as listing:
             self.assertEqual([name for name, _ in itertools.islice(listing, 3)], ["0.0", "0.1", "0.2"])
+
+    def test_read_once(self):
+        """A second pass is refused, by each way in and after each first one, also after one that was cut short."""
+        for first, begin in FIRST.items():
+            for second, go_on in PASSES.items():
+                with self.subTest(first=first, second=second), read("petersen()") as listing:
+                    begun = begin(listing)
+                    with self.assertRaisesRegex(ValueError, "read once"):
+                        go_on(listing)
+                    del begun
+
+    def test_read_once_after_a_refusal(self):
+        for second, go_on in PASSES.items():
+            with self.subTest(second):
+                listing = read("cycle(4)")
+                with self.assertRaisesRegex(ValueError, "is no edge"):
+                    sgb_graph.to_edges(listing)
+                with self.assertRaisesRegex(ValueError, "read once"):
+                    go_on(listing)
+
+    def test_a_refused_pass_leaves_the_first(self):
+        for second, go_on in PASSES.items():
+            with self.subTest(second), read("petersen()") as listing:
+                blocks = iter(listing)
+                found = [next(blocks)]
+                with self.assertRaisesRegex(ValueError, "read once"):
+                    go_on(listing)
+                self.assertEqual(found + list(blocks), list(read("petersen()")))
+
+    def test_closed(self):
+        for name, go_on in PASSES.items():
+            with self.subTest(name):
+                with read("petersen()") as listing:
+                    pass
+                with self.assertRaisesRegex(ValueError, "is closed"):
+                    go_on(listing)
+
+    def test_copies(self):
+        with read("petersen()") as listing:
+            for make in (copy.copy, copy.deepcopy, pickle.dumps):
+                with self.assertRaisesRegex(TypeError, "is not copied"):
+                    make(listing)
+            self.assertEqual(len(list(listing)), 10)
 
     def test_networkx_of_arcs(self):
         # refused also where networkx is not there
