@@ -1,26 +1,32 @@
 #!/usr/bin/env python3
 """Tests of the package sgb: python/tests.py [PROGRAM], where PROGRAM is the program sgb, ./sgb if none is named.
 
-Its graphs are compared with what the program writes; with scipy's, networkx's and igraph's where these are installed. With
-SGB_WITHOUT_NUMPY=1 the package does without numpy.
+Its graphs are compared with what the program writes, also as examples/sgb_graph.py reads it; with scipy's, networkx's
+and igraph's where these are installed. With SGB_WITHOUT_NUMPY=1 the package does without numpy.
 """
 
 import collections
+import copy
 import gc
 import math
+import multiprocessing
 import os
+import pickle
 import subprocess
 import sys
 import threading
+import types
 import unittest
+import unittest.mock
 
 HERE = os.path.dirname(os.path.abspath(__file__))
 PROGRAM = os.path.abspath(sys.argv.pop(1)) if len(sys.argv) > 1 else os.path.join(os.path.dirname(HERE), "sgb")
-sys.path.insert(0, HERE)
+sys.path[:0] = [HERE, os.path.join(os.path.dirname(HERE), "examples")]
 if os.environ.get("SGB_WITHOUT_NUMPY") == "1":
     sys.modules["numpy"] = None
 
-import sgb  # noqa: E402  (the folder is put on the path above)
+import sgb  # noqa: E402  (the folders are put on the path above)
+import sgb_graph  # noqa: E402
 
 BOARD = "board(3,4,0,0,1,0,0)"
 GRAPHS = [
@@ -28,6 +34,14 @@ GRAPHS = [
     "simplex(3,-3,0,0,0,0,0)", "disjoint_subsets(6,3)", "gunion(complete(3),circuit(3),1,1)", "lines(complete(4),0)",
     "product(complete(2),complete(3),0,0)", "wheel(5,1,0)", "board(60,60,0,0,1,0,0)",
 ]
+# each edge by the numbers of its ends and its length: loops, parallel edges of several lengths and of one
+EDGES = {
+    "circuit(1)": [(0, 0, 1)],
+    "complement(empty(3),0,1,0)": [(0, 0, 1), (0, 1, 1), (0, 2, 1), (1, 1, 1), (1, 2, 1), (2, 2, 1)],
+    "board(3,0,0,0,-1,1,0)": [(0, 1, 1), (0, 1, 2), (0, 2, 1), (0, 2, 2), (1, 2, 1), (1, 2, 2)],
+    "gunion(complete(3),circuit(3),1,0)": [(0, 1, 1), (0, 1, 1), (0, 2, 1), (0, 2, 2), (1, 2, 1), (1, 2, 1)],
+}
+UNDIRECTED = [text for text in GRAPHS if text != "transitive(6)"] + list(EDGES)
 # those of generators: what else there is has to be built
 FAMILIES = [text for text in GRAPHS if text.split("(")[0] not in ("gunion", "lines", "product", "wheel")]
 FILE = b"""\
@@ -41,11 +55,30 @@ V1,0,7
 V0,0,-3
 * Checksum -1
 """
+LOOPS = b"""\
+* GraphBase graph (util_types ZZZZZZZZZZZZZZ,1V,4A)
+"loops",1,4
+* Vertices
+"one",A3
+* Arcs
+V0,0,1
+V0,A0,2
+V0,A1,1
+V0,A2,3
+* Checksum -1
+"""
+# arcs without one back; a loop alone; an arc and one back of two lengths; such loops; an arc too many
+NO_EDGES = [
+    ("transitive(3)", b""), ("transitive(6)", b""), ("cycle(4)", b""), ("board(1,0,0,0,1,1,1)", b""), ("stdin", FILE),
+    ("stdin", LOOPS), ("gunion(cycle(2),transitive(2),1,1)", b""),
+]
 ERRORS = [
     ("board(3,", b"", 1008, 8), ("", b"", 1000, 0), ("board(2,-251,0,0,1,0,0)", b"", 30, None),
     ("board(4294967296,0,0,0,1,0,0)", b"", 40, None), ("stdin", b"", 10, None), ("x" * 65_537, b"", 100, None),
     ("stdin", FILE[:-14], 11, None), ("stdin", FILE.replace(b"A0", b"B0"), 20, None),
 ]
+# how long another process is waited for
+SECONDS = 30
 
 
 def said(*words, given=b""):
@@ -68,6 +101,20 @@ def arcs(graph):
         for k in range(int(graph.starts[v]), int(graph.starts[v + 1])):
             found[v, int(graph.tips[k]), int(graph.lengths[k])] += 1
     return found
+
+
+def edges(graph):
+    """Each edge as sgb_graph.py finds it in the program's listing, by the numbers of its ends."""
+    place = {name: v for v, name in enumerate(graph.names)}
+    found = sgb_graph.to_edges(sgb_graph.read(graph.text, None, PROGRAM))
+    return [(place[u], place[v], length) for u, v, length in found]
+
+
+def handed(words):
+    """The arcs or edges in what igraph is handed."""
+    (name, lengths), = words["edge_attrs"].items()
+    assert name == "length" and len(lengths) == len(words["edges"]), words
+    return [(*ends, length) for ends, length in zip(words["edges"], lengths)]
 
 
 def installed(name):
@@ -147,6 +194,26 @@ class Arrays(unittest.TestCase):
         with self.assertRaises(sgb.GraphError) as why:
             sgb.graph("x" * 65_536)
         self.assertEqual(why.exception.byte, 0)
+
+    def test_copied_errors(self):
+        for code, byte in ((30, None), (107, None), (5, None), (1000, 0), (1008, 8)):
+            error = sgb.GraphError(code)
+            error.text = "what a caller adds"
+            made = [pickle.loads(pickle.dumps(error, k)) for k in range(pickle.HIGHEST_PROTOCOL + 1)]
+            for other in (*made, copy.copy(error), copy.deepcopy(error)):
+                self.assertIs(type(other), sgb.GraphError)
+                self.assertEqual((other.code, other.byte), (code, byte))
+                self.assertEqual((str(other), other.args, vars(other)), (str(error), error.args, vars(error)))
+
+    def test_processes(self):
+        """An error that another process raises is raised here, and is waited for so long at most."""
+        with multiprocessing.Pool(2) as pool:
+            self.assertEqual(pool.map_async(sgb.vertices, ["petersen()", BOARD]).get(SECONDS), [10, 12])
+            for text, code, byte in (("wheel(3,1,0)", 107, None), ("board(3,", 1008, 8)):
+                with self.assertRaises(sgb.GraphError) as why:
+                    pool.map_async(sgb.vertices, ["petersen()", text]).get(SECONDS)
+                self.assertEqual((why.exception.code, why.exception.byte), (code, byte))
+                self.assertEqual(str(why.exception), str(sgb.GraphError(code)))
 
     def test_flip(self):
         for start, skip, count, m in ((-314159, 0, 3, 0), (-314159, 2, 3, 0), (-314159, 2, 3, 1000), (7, 133, 5, 2**31), (5, 5, 0, 6)):
@@ -341,10 +408,9 @@ class Handles(unittest.TestCase):
             self.assertEqual((names, x), (shared.names, [k // 60 for k in range(3600)]))
 
     def test_copies(self):
-        import copy
-
-        with self.assertRaises(TypeError):
-            copy.copy(sgb.graph(BOARD))
+        for make in (copy.copy, copy.deepcopy, pickle.dumps):
+            with self.assertRaises(TypeError):
+                make(sgb.graph(BOARD))
 
 
 class Others(unittest.TestCase):
@@ -398,6 +464,78 @@ class Others(unittest.TestCase):
         with self.assertRaises(ValueError):
             graph.to_networkx(multi=True, names=True)
 
+    @unittest.skipUnless(installed("networkx"), "without networkx")
+    def test_networkx_edges(self):
+        import networkx
+
+        for text in UNDIRECTED:
+            graph = sgb.graph(text)
+            with self.subTest(text):
+                wanted = edges(graph)
+                is_simple = len({edge[:2] for edge in wanted}) == len(wanted)
+                for multi in (False, True):
+                    if not multi and not is_simple:
+                        with self.assertRaisesRegex(ValueError, "parallel edges"):
+                            graph.to_networkx(undirected=True)
+                        continue
+                    # the same graph, by the functions that all may call
+                    made = networkx.MultiGraph(name=graph.id) if multi else networkx.Graph(name=graph.id)
+                    made.add_nodes_from(range(graph.n))
+                    made.add_weighted_edges_from(wanted)
+                    seen = graph.to_networkx(multi, undirected=True)
+                    self.are_alike(seen, made)
+                    # both ends have the same edge: one that is changed or taken away is so on both sides
+                    for u, v, *key in list(seen.edges)[:1]:
+                        seen.edges[(u, v, *key)]["weight"] = 9
+                        self.assertEqual(seen.edges[(v, u, *key)]["weight"], 9)
+                        seen.remove_edge(u, v, *key)
+                        self.assertFalse(seen.has_edge(v, u, *key))
+                named = graph.to_networkx(multi=True, names=True, undirected=True)
+                self.are_alike(named, sgb_graph.to_networkx(sgb_graph.read(text, None, PROGRAM)))
+        petersen = sgb.graph("petersen()").to_networkx(undirected=True)
+        self.assertTrue(networkx.is_isomorphic(petersen, networkx.petersen_graph()))
+        self.assertTrue(gc.isenabled())
+
+    def are_alike(self, one, other):
+        """Two graphs of networkx of one class, with nodes, edges, keys and attributes alike, in one order."""
+        self.assertIs(type(one), type(other))
+        self.assertEqual((one.graph, list(one.nodes.items())), (other.graph, list(other.nodes.items())))
+        self.assertEqual(list(one.edges.items()), list(other.edges.items()))
+        self.assertEqual(one.adj, other.adj)
+
+    @unittest.skipUnless(installed("networkx"), "without networkx")
+    def test_networkx_no_edges(self):
+        for text, given in NO_EDGES:
+            graph = sgb.graph(text, given)
+            for words in ({}, {"multi": True}, {"names": True}, {"multi": True, "names": True}):
+                with self.subTest(text, **words), self.assertRaisesRegex(ValueError, "is no edge"):
+                    graph.to_networkx(undirected=True, **words)
+            self.assertEqual(graph.to_networkx(multi=True).number_of_edges(), len(graph.tips))
+        self.assertTrue(gc.isenabled())
+
+    def test_edges(self):
+        """The edges that igraph is handed, where it is not installed either: those of sgb_graph.py, in its order."""
+        with unittest.mock.patch.dict(sys.modules, igraph=types.SimpleNamespace(Graph=dict)):
+            for text in UNDIRECTED:
+                with self.subTest(text):
+                    graph = sgb.graph(text)
+                    made = graph.to_igraph(undirected=True)
+                    self.assertEqual((made["n"], made["directed"]), (graph.n, False))
+                    self.assertEqual(made["vertex_attrs"], {"name": graph.names})
+                    found = handed(made)
+                    self.assertEqual(found, edges(graph))
+                    self.assertEqual(sorted(found), EDGES.get(text, sorted(found)))
+                    # each stands for two arcs
+                    both = [(u, v, length) for a, b, length in found for u, v in ((a, b), (b, a))]
+                    self.assertEqual(collections.Counter(both), arcs(graph))
+                    self.assertEqual(collections.Counter(handed(graph.to_igraph())), arcs(graph))
+            for text, given in NO_EDGES:
+                with self.subTest(text):
+                    graph = sgb.graph(text, given)
+                    with self.assertRaisesRegex(ValueError, "is no edge"):
+                        graph.to_igraph(undirected=True)
+                    self.assertEqual(collections.Counter(handed(graph.to_igraph())), arcs(graph))
+
     @unittest.skipUnless(sgb.numpy and installed("scipy"), "without scipy")
     def test_scipy(self):
         for text in GRAPHS:
@@ -425,6 +563,13 @@ class Others(unittest.TestCase):
                 self.assertEqual(found, arcs(graph))
                 self.assertEqual(made.vs["name"] if graph.n else [], graph.names)
                 self.assertTrue(made.is_directed())
+        for text in UNDIRECTED:
+            graph = sgb.graph(text)
+            made = graph.to_igraph(undirected=True)
+            with self.subTest(text):
+                self.assertEqual([(*sorted(e.tuple), e["length"]) for e in made.es], edges(graph))
+                self.assertEqual(made.vs["name"] if graph.n else [], graph.names)
+                self.assertFalse(made.is_directed())
 
 
 if __name__ == "__main__":

@@ -12,9 +12,11 @@ A graph that is too great to be built is gone through in chunks of its vertices,
     for chunk in sgb.chunks("board(1000000000,0,0,0,1,0,0)"):
         chunk.first, chunk.n, chunk.starts, chunk.tips, chunk.lengths
 
-It calls the library for C, libsgb.so, which `make lib` leaves: the file that the variable SGB_LIBRARY names, else the one
-in the repository that this file stands in, else the one that the system finds. It needs Python's own library alone; where
-numpy is installed, arrays are numpy's, else memory views. Both look at the same memory: nothing is copied.
+It calls the library for C, libsgb.so, which `make lib` leaves: the file that the variable SGB_LIBRARY names, else the
+one in the repository that this file stands in, else the one that the system finds. It needs Python's own library alone;
+where numpy is installed, arrays are numpy's, else memory views. Both look at the same memory: nothing is copied.
+
+A refusal is a GraphError, which is a ValueError, and want of memory a MemoryError.
 """
 
 import contextlib
@@ -53,8 +55,17 @@ ANSWERS = {
 
 
 class GraphError(ValueError):
-    """Why there is no graph: `code` is the library's answer, GraphBase's panic code where it is below 100. Of a bad
-    expression `byte` is the length of the longest prefix that begins one, else it is None."""
+    """Why there is no graph.
+
+    It can be pickled and copied, so that it comes out of another process as it was raised there.
+
+    Attributes
+    ----------
+    code : int
+        The library's answer: GraphBase's panic code where it is below 100.
+    byte : int or None
+        Of a bad expression the length of the longest prefix that begins one, else None.
+    """
 
     def __init__(self, code):
         self.code = code
@@ -63,6 +74,10 @@ class GraphError(ValueError):
             super().__init__(f"{ANSWERS.get(code, 'something went wrong')} (code {code})")
         else:
             super().__init__(f"bad expression at byte {self.byte}")
+
+    def __reduce__(self):
+        # an exception is made again from its `args`, which are its words: this one is made from its code
+        return type(self), (self.code,), self.__dict__
 
 
 class _Sizes(ctypes.Structure):
@@ -122,7 +137,7 @@ _lib = _library()
 
 @contextlib.contextmanager
 def _uncollected():
-    """Python's collector looks through all objects again and again while many are made: here none of them is garbage."""
+    """Python's collector looks through all objects again and again while many are made: here none is garbage."""
     was_on = gc.isenabled()
     gc.disable()
     try:
@@ -172,11 +187,38 @@ def _texts(begins, names):
 
 
 class Graph:
-    """A graph: its lists of arcs one after another, in `tips` and `lengths`; that of vertex v is what stands from starts[v]
-    up to starts[v + 1].
+    """A graph as arrays: its lists of arcs one after another, in the order of its vertices.
 
-    The library holds the graph until `close`, the end of a `with`, or the end of this object: names, integers and kinds are
-    fetched when they are asked for. What was fetched stays."""
+    The list of vertex v is what stands from starts[v] up to starts[v + 1] in `tips` and `lengths`.
+
+    The library holds the graph until `close`, the end of a `with`, or the end of this object: names, integers and kinds
+    are fetched when they are asked for. What was fetched stays.
+
+    Parameters
+    ----------
+    text : str
+        The expression.
+    input : bytes-like
+        The bytes of a .gb file, for the expression `stdin`.
+
+    Attributes
+    ----------
+    text, id : str
+        The expression, and the id: the graph's official name.
+    n, m : int
+        How many vertices it has, and how many arcs it counts. An edge is two arcs.
+    starts : uint64 array of shape (n + 1,)
+        Where the lists begin, and where the last one ends.
+    tips : uint32 array of shape (starts[n],)
+        Where the arcs lead: numbers of vertices.
+    lengths : int64 array of shape (starts[n],)
+        The lengths of the arcs.
+
+    Raises
+    ------
+    GraphError
+        Where the expression is bad or its graph is refused, or the .gb file is wrong.
+    """
 
     def __init__(self, text, input=b""):
         self._handle, self._lock, self._kept = _Handle(), threading.Lock(), {}
@@ -221,7 +263,10 @@ class Graph:
         raise TypeError("a graph is not copied: make it again from its text")
 
     def neighbors(self, v):
-        """Where the arcs of vertex v lead, in the order of its list."""
+        """Where the arcs of vertex v lead, in the order of its list, a part of `tips`.
+
+        IndexError where there is no such vertex.
+        """
         if not 0 <= v < self.n:
             raise IndexError(v)
         return self.tips[int(self.starts[v]) : int(self.starts[v + 1])]
@@ -236,7 +281,7 @@ class Graph:
 
     @property
     def names(self):
-        """The names of the vertices, a list that is made when it is asked for."""
+        """The names of the vertices, a list of n str that is made when it is asked for."""
         return self._fetched("names", self._fetch_names)
 
     def _fetch_names(self):
@@ -245,7 +290,24 @@ class Graph:
         return _texts(begins, names)
 
     def ints(self, field):
-        """The integers in a utility field of the vertices, "u" to "z": of a board x, y and z are the coordinates."""
+        """The integers in a utility field of the vertices. Those of a board are the coordinates.
+
+        Parameters
+        ----------
+        field : str
+            The field, "u" to "z".
+
+        Returns
+        -------
+        int64 array of shape (n,)
+
+        Raises
+        ------
+        GraphError
+            With code 102, where the field does not hold integers.
+        ValueError
+            Where `field` is none of these letters; where the graph is closed and they were not asked for before.
+        """
         if len(field) != 1 or field not in FIELDS:
             raise ValueError(f"no field {field!r}: one of u v w x y z")
         return self._fetched("integers " + field, lambda: self._fetch_ints(field))
@@ -257,8 +319,11 @@ class Graph:
 
     @property
     def kinds(self):
-        """What the utility fields hold, a letter of Z I V S A each: of vertices u v w x y z, of arcs a b, of the graph uu vv ww
-        xx yy zz. I is an integer, and Z a field that is not used."""
+        """What the utility fields hold, a str of 14 letters of Z I V S A.
+
+        Of vertices u v w x y z, of arcs a b, of the graph uu vv ww xx yy zz. I is an integer, and Z a field that is not
+        used.
+        """
         return self._fetched("kinds", self._fetch_kinds)
 
     def _fetch_kinds(self):
@@ -267,7 +332,7 @@ class Graph:
         return bytes(letters.seen()).decode()
 
     def save(self):
-        """The bytes of the graph's .gb file."""
+        """The bytes of the graph's .gb file. ValueError where the graph is closed."""
         with self._lock:
             if not self._handle.is_open:
                 raise ValueError("the graph is closed, and cannot be saved")
@@ -278,64 +343,203 @@ class Graph:
             return bytes(file.seen())
 
     def to_scipy(self):
-        """The matrix of lengths, a scipy.sparse.csr_array: row v is the list of vertex v, in its order. Parallel arcs are
-        entries of one place, which scipy adds where it makes one of them."""
+        """The matrix of lengths.
+
+        Returns
+        -------
+        scipy.sparse.csr_array of int64, shape (n, n)
+            Row v is the list of vertex v, in its order. Parallel arcs are entries of one place, which scipy adds where
+            it makes one of them.
+        """
         import scipy.sparse
 
         return scipy.sparse.csr_array((self.lengths, self.tips, self.starts), shape=(self.n, self.n))
 
-    def to_networkx(self, multi=False, names=False):
-        """A networkx.DiGraph whose nodes are the vertices' numbers, or with `names` their names, and whose edges have the
-        lengths as `weight`; with `multi` a MultiDiGraph, which parallel arcs need. An edge of GraphBase is two arcs:
-        to_undirected makes one of them."""
+    def to_networkx(self, multi=False, names=False, undirected=False):
+        """The graph in networkx, with the lengths as `weight` and the id as its name.
+
+        Parameters
+        ----------
+        multi : bool
+            Whether it is a multigraph, which has room for parallel arcs or edges.
+        names : bool
+            Whether the nodes are the names of the vertices; otherwise they are their numbers, 0 to n - 1.
+        undirected : bool
+            Whether it has an edge for each edge of the graph; otherwise it has each arc on the lists, two for an edge
+            and two for a loop. (What `to_undirected` of networkx makes of these has two loops for one.)
+
+        Returns
+        -------
+        networkx.DiGraph, MultiDiGraph, Graph or MultiGraph
+            Its nodes are in the order of the vertices, its arcs in that of the lists. An edge comes as it stands on the
+            list of the end that is first, and a loop as the first of its two arcs.
+
+        Raises
+        ------
+        ValueError
+            Without `multi`, where there are parallel arcs or edges. With `names`, where two vertices have one name.
+            With `undirected`, where the arcs are no edges: an edge is two arcs of one length, there and back, and so
+            is a loop. (Arcs that by chance come so are taken for edges.)
+        """
         import networkx
 
         nodes = self.names if names else range(self.n)
         if names and len(set(nodes)) != self.n:
             raise ValueError("two vertices have one name: without names=True the nodes are numbers")
-        starts, tips, lengths = self.starts.tolist(), self.tips.tolist(), self.lengths.tolist()
-        if names:
-            tips = list(map(nodes.__getitem__, tips))
-        made = networkx.MultiDiGraph() if multi else networkx.DiGraph()
+        if undirected:
+            made = networkx.MultiGraph(name=self.id) if multi else networkx.Graph(name=self.id)
+        else:
+            made = networkx.MultiDiGraph(name=self.id) if multi else networkx.DiGraph(name=self.id)
         made.add_nodes_from(nodes)
-        # what add_edges_from leaves in the dictionaries of these classes, without its questions at each arc
-        leaving, entering = made._succ, made._pred
         with _uncollected():
-            for v, a, b in zip(nodes, starts, starts[1:]):
-                ends = leaving[v]
-                for tip, length in zip(tips[a:b], lengths[a:b]):
-                    if not multi:
-                        ends[tip] = entering[tip][v] = {"weight": length}
-                    elif tip in ends:
-                        ends[tip][len(ends[tip])] = {"weight": length}
-                    else:
-                        ends[tip] = entering[tip][v] = {0: {"weight": length}}
-                if not multi and len(ends) != b - a:
-                    raise ValueError("the graph has parallel arcs: multi=True keeps them")
+            if undirected:
+                self._add_edges(made, nodes)
+            else:
+                self._add_arcs(made, nodes)
         return made
 
-    def to_igraph(self):
-        """A directed igraph.Graph with the names of the vertices and the lengths of the arcs."""
+    def _add_arcs(self, made, nodes):
+        multi = made.is_multigraph()
+        starts, tips, lengths = self.starts.tolist(), self.tips.tolist(), self.lengths.tolist()
+        if nodes != range(self.n):
+            tips = list(map(nodes.__getitem__, tips))
+        # what add_edges_from leaves in the dictionaries of these classes, without its questions at each arc
+        leaving, entering = made._succ, made._pred
+        for v, a, b in zip(nodes, starts, starts[1:]):
+            ends = leaving[v]
+            for tip, length in zip(tips[a:b], lengths[a:b]):
+                if not multi:
+                    ends[tip] = entering[tip][v] = {"weight": length}
+                elif tip in ends:
+                    ends[tip][len(ends[tip])] = {"weight": length}
+                else:
+                    ends[tip] = entering[tip][v] = {0: {"weight": length}}
+            if not multi and len(ends) != b - a:
+                raise ValueError("the graph has parallel arcs: multi=True keeps them")
+
+    def _add_edges(self, made, nodes):
+        multi = made.is_multigraph()
+        # as in _add_arcs, what add_edges_from leaves
+        near = made._adj
+        for v, tip, length in self._edges():
+            v, tip = nodes[v], nodes[tip]
+            ends = near[v]
+            if tip not in ends:
+                ends[tip] = near[tip][v] = {0: {"weight": length}} if multi else {"weight": length}
+            elif multi:
+                ends[tip][len(ends[tip])] = {"weight": length}
+            else:
+                raise ValueError("the graph has parallel edges: multi=True keeps them")
+
+    def to_igraph(self, undirected=False):
+        """The graph in igraph, with the names of the vertices as `name` and the lengths as `length`.
+
+        Parameters
+        ----------
+        undirected : bool
+            Whether it has an edge for each edge of the graph; otherwise it has each arc on the lists.
+
+        Returns
+        -------
+        igraph.Graph
+            Its vertices are in order, its arcs or edges as in `to_networkx`.
+
+        Raises
+        ------
+        ValueError
+            With `undirected`, where arcs are no edges, as in `to_networkx`.
+        """
         import igraph
 
-        starts = self.starts.tolist()
-        tails = [v for v, a, b in zip(range(self.n), starts, starts[1:]) for _ in range(a, b)]
+        arcs = self._edges() if undirected else list(self._arcs())
         return igraph.Graph(
-            n=self.n, edges=list(zip(tails, self.tips.tolist())), directed=True,
-            vertex_attrs={"name": self.names}, edge_attrs={"length": self.lengths.tolist()},
+            n=self.n, edges=[(v, tip) for v, tip, _ in arcs], directed=not undirected,
+            vertex_attrs={"name": self.names}, edge_attrs={"length": [length for _, _, length in arcs]},
         )
+
+    def _arcs(self):
+        """The arcs (v, tip, length) in the order of the lists."""
+        starts = self.starts.tolist()
+        tails = (v for v, a, b in zip(range(self.n), starts, starts[1:]) for _ in range(a, b))
+        return zip(tails, self.tips.tolist(), self.lengths.tolist())
+
+    def _edges(self):
+        """Of each edge the arc that comes first: the one of its first end, and the first of the two of a loop."""
+        # waiting: the arcs that were met without one back so far, and how often each
+        edges, waiting = [], {}
+        for arc in self._arcs():
+            v, tip, length = arc
+            back = tip, v, length
+            if back not in waiting:
+                edges.append(arc)
+                waiting[arc] = waiting.get(arc, 0) + 1
+            elif waiting[back] > 1:
+                waiting[back] -= 1
+            else:
+                del waiting[back]
+        if waiting:
+            raise _no_edge(next(iter(waiting)))
+        return edges
+
+
+def _no_edge(arc):
+    said = "the arc from vertex %d to vertex %d, length %d, is no edge, since none leads back: "
+    return ValueError(said % arc + "without undirected=True arcs are kept as they are")
 
 
 def graph(text, input=b""):
-    """The graph that an expression names. `input` are the bytes of a .gb file, for the expression `stdin`."""
+    """The graph that an expression names.
+
+    Parameters
+    ----------
+    text : str
+        The expression.
+    input : bytes-like
+        The bytes of a .gb file, for the expression `stdin`.
+
+    Returns
+    -------
+    Graph
+
+    Raises
+    ------
+    GraphError
+        Where the expression is bad or its graph is refused, or the .gb file is wrong.
+    """
     return Graph(text, input)
 
 
 class Chunk:
     """Some vertices of a graph that is not built: `n` of them, one after another from vertex `first` on.
 
-    Their lists of arcs stand one after another in `tips` and `lengths`: that of vertex first + k is what stands from starts[k]
-    up to starts[k + 1]. Tips are vertices of the whole graph. The library holds nothing of a chunk."""
+    The list of vertex first + k is what stands from starts[k] up to starts[k + 1] in `tips` and `lengths`. The library
+    holds nothing of a chunk.
+
+    Parameters
+    ----------
+    text : str
+        A generator's call, as for `chunks`.
+    first, n : int
+        The first vertex, and how many there are.
+
+    Attributes
+    ----------
+    text, first, n
+        As they were given.
+    starts : uint64 array of shape (n + 1,)
+        Where the lists begin, and where the last one ends.
+    tips : uint32 array of shape (starts[n],)
+        Where the arcs lead: numbers of vertices of the whole graph.
+    lengths : int64 array of shape (starts[n],)
+        The lengths of the arcs.
+
+    Raises
+    ------
+    GraphError
+        Where the text is no generator's call or its graph is refused, or there are not so many vertices.
+    IndexError
+        Where `first` or `n` is not from 0 to 2**32 - 1.
+    """
 
     def __init__(self, text, first, n):
         first, n = operator.index(first), operator.index(n)
@@ -359,7 +563,10 @@ class Chunk:
         return f"sgb.Chunk({self.text!r}, {self.first}, {self.n})"
 
     def neighbors(self, v):
-        """Where the arcs of vertex v of the graph lead, in the order of its list. It has to be one of the chunk."""
+        """Where the arcs of vertex v of the graph lead, in the order of its list, a part of `tips`.
+
+        IndexError where the vertex is not in the chunk.
+        """
         k = v - self.first
         if not 0 <= k < self.n:
             raise IndexError(v)
@@ -367,7 +574,7 @@ class Chunk:
 
     @property
     def names(self):
-        """The names of the chunk's vertices, a list that is made when it is asked for."""
+        """The names of the chunk's vertices, a list of n str that is made when it is asked for."""
         if self._kept is None:
             begins, names = _Array("Q", self.n + 1), _Array("B", self._named)
             _must(_lib.sgb_chunk_names(*self._asked, *begins.words, *names.words))
@@ -376,10 +583,31 @@ class Chunk:
 
 
 def chunks(text, size=65536, first=0, count=None):
-    """The vertices of a generator's graph in chunks of `size`, the last of which may be smaller: each a Chunk that is made when
-    its turn comes. The graph is not built. With `first` and `count` so many vertices from that one on; without, all of them.
+    """The vertices of a generator's graph, in chunks. The graph is not built.
 
-    A generator's graph is board, simplex or subsets with its parameters, or a name for one, as complete(5) or petersen()."""
+    Parameters
+    ----------
+    text : str
+        A generator's call: board, simplex or subsets with its parameters, or a name for one, as complete(5).
+    size : int
+        How many vertices a chunk has; the last one may have fewer.
+    first, count : int
+        The first vertex, and how many vertices there are in all chunks: without `count`, all from that one on.
+
+    Returns
+    -------
+    iterator of Chunk
+        Each is made when its turn comes.
+
+    Raises
+    ------
+    GraphError
+        Where the text is no generator's call, or its graph is refused.
+    ValueError
+        Where `size` is less than 1.
+    IndexError
+        Where the graph does not have these vertices.
+    """
     size, first = operator.index(size), operator.index(first)
     if size < 1:
         raise ValueError(f"no chunks of {size} vertices")
@@ -394,13 +622,18 @@ def chunks(text, size=65536, first=0, count=None):
 
 
 def vertices(text):
-    """How many vertices a generator's graph has. It is not built."""
+    """How many vertices a generator's graph has, an int.
+
+    The graph is not built. GraphError as from `chunks`.
+    """
     return _counted(_lib.sgb_family_vertices, text)
 
 
 def arcs(text):
-    """How many arcs a generator's graph has, where an edge counts as two: 2**64 - 1 also where there are more. It is not built,
-    and the arcs are counted without their lists."""
+    """How many arcs a generator's graph has, an int: 2**64 - 1 also where there are more. An edge counts as two.
+
+    The graph is not built, and the arcs are counted without their lists. GraphError as from `chunks`.
+    """
     return _counted(_lib.sgb_family_arcs, text)
 
 
@@ -411,8 +644,30 @@ def _counted(call, text):
 
 
 def flip(start, skip=0, count=1, m=0):
-    """Random numbers of GB_FLIP: of a generator started from `start`, after `skip` draws that are left out, `count` draws;
-    uniform ones below m where that is not 0."""
+    """Random numbers of GB_FLIP.
+
+    Parameters
+    ----------
+    start : int
+        What the generator is started from, of 64 bits with its sign.
+    skip : int
+        How many draws are left out first, below 2**64.
+    count : int
+        How many are drawn.
+    m : int
+        The bound of uniform draws, 1 to 2**31; 0 for plain draws, which are below 2**31.
+
+    Returns
+    -------
+    uint32 array of shape (count,)
+
+    Raises
+    ------
+    GraphError
+        With code 103, where the bound is above 2**31.
+    ValueError
+        Where a number is not of its bits, or `count` is below 0.
+    """
     if not -(2**63) <= start < 2**63 or not 0 <= skip < 2**64 or not 0 <= m < 2**32 or count < 0:
         raise ValueError("a start of 64 bits with its sign, a skip of 64 and a bound of 32 bits, and a count from 0 on")
     out = _Array("I", count)
