@@ -569,7 +569,7 @@ def gb(program):
 def graphbase(program):
     def checks(runs, tally):
         """examples/c/graphbase.c reads an input of any size, whole; by the library for C where that is."""
-        shell = Shell(runs, program, "graphbase")
+        shell = Shell(runs, program, "great files in C")
         shell.write("counting.c", COUNTING)
         compiled = f"cc -O2 -Wall -Wextra -Werror -I '{TOP}/include' '{TOP}/examples/c/graphbase.c'"
         tally.same("cc graphbase.c", shell.run(f"{compiled} counting.c -o counting"), (0, "", ""))
