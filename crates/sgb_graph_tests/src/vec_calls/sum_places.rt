@@ -1,6 +1,5 @@
-use sgb_vec::{Family, Panic, SumFamily, Vector, Vectors};
+use sgb_vec::{Family, SumFamily, Vector, Vectors};
 use std::alloc::Global;
-use std::test::Fail;
 
 // Sums and bounds, even and uneven, of no vector, of one and of many.
 static FAMILIES: [(i64, &[u32]); 44] = [
@@ -71,13 +70,24 @@ fn is_found(family: &SumFamily, vector: &[u32], place: u32, there: &mut Vector) 
     family.place_of(vector) == place
 }
 
-// Whether each vector that a walk comes to is found, and there is none after all.
-fn all_found(alloc: Global, total: i64, bounds: &[u32]) -> Result<bool, Panic> {
+// Whether the vectors of the bounded sum have their places: all of them by a walk, or those at the ends and in the
+// middle.
+fn have_places(alloc: Global, total: i64, bounds: &[u32], all: bool) -> bool {
     if bounds.len() > 251 {
-        return Ok(false);
+        return false;
     }
-    let family = SumFamily::new(alloc, total, bounds)?;
-    Ok(walk_found(&family) && none_past_the_end(&family))
+    match SumFamily::new(alloc, total, bounds) {
+        Ok(family) => are_found(&family, all) && none_past_the_end(&family),
+        Err(_) => false,
+    }
+}
+
+// Whether those of the family are found.
+fn are_found(family: &SumFamily, all: bool) -> bool {
+    if all {
+        return walk_found(family);
+    }
+    ends_found(family)
 }
 
 // Whether each vector of a walk is found.
@@ -102,21 +112,14 @@ fn none_past_the_end(family: &SumFamily) -> bool {
     !family.at(family.size(), &mut there) && !family.at(u32::MAX, &mut there) && there.len() == 1
 }
 
-// Whether the vectors at the ends, in the middle and beside them have these places.
-fn ends_found(alloc: Global, total: i64, bounds: &[u32]) -> Result<bool, Panic> {
-    if bounds.len() > 251 {
-        return Ok(false);
-    }
-    let family = SumFamily::new(alloc, total, bounds)?;
+// Whether the vectors at the ends, in the middle and beside it have their places.
+fn ends_found(family: &SumFamily) -> bool {
     let last = family.size().saturating_sub(1);
     let middle = last / 2;
-    Ok(
-        goes_back(&family, 0)
-            && goes_back(&family, middle)
-            && goes_back(&family, middle.saturating_add(1))
-            && goes_back(&family, last)
-            && none_past_the_end(&family),
-    )
+    goes_back(family, 0)
+        && goes_back(family, middle)
+        && goes_back(family, middle.saturating_add(1))
+        && goes_back(family, last)
 }
 
 // Whether the vector at this place has the place.
@@ -129,27 +132,11 @@ fn goes_back(family: &SumFamily, place: u32) -> bool {
 }
 
 #[test]
-fn walked_vectors_are_found(rt: HostRuntime) -> Result<(), Fail> {
+fn vectors_have_their_places(rt: HostRuntime) {
     for (total, bounds) in &FAMILIES {
-        assert!(rt; all_found(rt.alloc(), *total, bounds)?);
+        assert!(rt; have_places(rt.alloc(), *total, bounds, true));
     }
-    Ok(())
-}
-
-#[test]
-fn vectors_of_great_families_have_their_places(rt: HostRuntime) -> Result<(), Fail> {
     for (total, bounds) in &GREAT_FAMILIES {
-        assert!(rt; ends_found(rt.alloc(), *total, bounds)?);
+        assert!(rt; have_places(rt.alloc(), *total, bounds, false));
     }
-    Ok(())
-}
-
-#[test]
-fn the_middle_of_a_great_simplex(rt: HostRuntime) -> Result<(), Fail> {
-    let family = SumFamily::new(rt.alloc(), 44_000, &[44_000; 3])?;
-    let mut there = Vector::new();
-    assert!(rt; family.size() == 968_066_001);
-    assert!(rt; family.at(484_033_000, &mut there));
-    assert!(rt; there.as_slice() == [12_887, 23_054, 8_059].as_slice());
-    Ok(())
 }

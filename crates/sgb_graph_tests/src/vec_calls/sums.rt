@@ -1,72 +1,58 @@
-use super::walks::{are_members, ends_after, is_empty};
-use sgb_vec::{Family, Panic, SumFamily};
+use super::walks::{Asked, has};
+use sgb_vec::{Panic, SumFamily};
 use std::alloc::Global;
-use std::test::Fail;
 
-// The bounded sum, of bounds as many as there may be.
-fn family_of(alloc: Global, total: i64, bounds: &[u32]) -> Result<SumFamily, Panic> {
+// Whether it is so of the family, which has this sum.
+fn is_met(family: &SumFamily, total: i64, asked: Asked<'_>) -> bool {
+    i64::from(family.total()) == total && has(family, asked)
+}
+
+/// Whether it is so of the bounded sum. This function alone owns families of this kind.
+pub(crate) fn is_sum(alloc: Global, total: i64, bounds: &[u32], asked: Asked<'_>) -> bool {
     if bounds.len() > 251 {
-        return Err(Panic::Invalid);
+        return false;
     }
-    SumFamily::new(alloc, total, bounds)
-}
-
-#[test]
-fn two_within_2_2_2(rt: HostRuntime) -> Result<(), Fail> {
-    let family = family_of(rt.alloc(), 2, &[2, 2, 2])?;
-    assert!(rt; family.dims() == 3);
-    assert!(rt; family.size() == 6);
-    assert!(rt;
-        are_members(
-            &family,
-            &[
-                &[0, 0, 2],
-                &[0, 1, 1],
-                &[0, 2, 0],
-                &[1, 0, 1],
-                &[1, 1, 0],
-                &[2, 0, 0],
-            ]
-        )
-    );
-    let strangers: [&[u32]; 5] = [&[], &[0, 2], &[0, 0, 2, 0], &[0, 0, 1], &[1, 1, 1]];
-    for stranger in strangers {
-        assert!(rt; !family.holds(stranger));
+    match SumFamily::new(alloc, total, bounds) {
+        Ok(family) => is_met(&family, total, asked),
+        Err(_) => false,
     }
-    Ok(())
 }
 
+// Sums and bounds, with their vectors, and with some that are none of them.
+static SUMS: [(i64, &[u32], &[&[u32]], &[&[u32]]); 8] = [
+    (
+        2,
+        &[2, 2, 2],
+        &[
+            &[0, 0, 2],
+            &[0, 1, 1],
+            &[0, 2, 0],
+            &[1, 0, 1],
+            &[1, 1, 0],
+            &[2, 0, 0],
+        ],
+        &[&[], &[0, 2], &[0, 0, 2, 0], &[0, 0, 1], &[1, 1, 1]],
+    ),
+    (
+        3,
+        &[1, 2, 1],
+        &[&[0, 2, 1], &[1, 1, 1], &[1, 2, 0]],
+        &[&[3, 0, 0], &[0, 3, 0], &[0, 0, 3], &[0, 1, 2]],
+    ),
+    (4, &[2, 3], &[&[1, 3], &[2, 2]], &[]),
+    (3, &[3], &[&[3]], &[]),
+    (0, &[0, 0], &[&[0, 0]], &[]),
+    (0, &[], &[&[]], &[]),
+    (5, &[2, 3], &[&[2, 3]], &[]),
+    (4, &[1, 1], &[], &[]),
+];
+
 #[test]
-fn three_within_1_2_1(rt: HostRuntime) -> Result<(), Fail> {
-    let family = family_of(rt.alloc(), 3, &[1, 2, 1])?;
-    assert!(rt; are_members(&family, &[&[0, 2, 1], &[1, 1, 1], &[1, 2, 0]]));
-    for stranger in [[3, 0, 0], [0, 3, 0], [0, 0, 3], [0, 1, 2]] {
-        assert!(rt; !family.holds(&stranger));
+fn the_vectors_of_sums(rt: HostRuntime) {
+    for (total, bounds, members, strangers) in &SUMS {
+        let asked = Asked::Members(bounds.len(), members, strangers);
+        assert!(rt; is_sum(rt.alloc(), *total, bounds, asked));
     }
-    Ok(())
-}
-
-#[test]
-fn one_vector(rt: HostRuntime) -> Result<(), Fail> {
-    assert!(rt; are_members(&family_of(rt.alloc(), 3, &[3])?, &[&[3]]));
-    assert!(rt; are_members(&family_of(rt.alloc(), 0, &[0, 0])?, &[&[0, 0]]));
-    assert!(rt; are_members(&family_of(rt.alloc(), 0, &[])?, &[&[]]));
-    assert!(rt; are_members(&family_of(rt.alloc(), 5, &[2, 3])?, &[&[2, 3]]));
-    Ok(())
-}
-
-#[test]
-fn no_vector(rt: HostRuntime) -> Result<(), Fail> {
-    let family = family_of(rt.alloc(), 4, &[1, 1])?;
-    assert!(rt; family.dims() == 2);
-    assert!(rt; is_empty(&family));
-    Ok(())
-}
-
-// How many vectors the sum has, or why it is refused.
-fn count_of(alloc: Global, n: i64, bounds: &[u32]) -> Result<u32, Panic> {
-    let family = family_of(alloc, n, bounds)?;
-    Ok(family.size())
 }
 
 // Sums and bounds, with the number of their vectors.
@@ -81,14 +67,6 @@ static COUNTED: [(i64, &[u32], u32); 9] = [
     (3, &[3], 1),
     (1_000_000_000, &[1], 0),
 ];
-
-#[test]
-fn vectors_of_a_sum_are_counted(rt: HostRuntime) -> Result<(), Fail> {
-    for (n, bounds, count) in &COUNTED {
-        assert!(rt; count_of(rt.alloc(), *n, bounds)? == *count);
-    }
-    Ok(())
-}
 
 // The same of great sums.
 static GREAT: [(i64, &[u32], u32); 15] = [
@@ -110,11 +88,13 @@ static GREAT: [(i64, &[u32], u32); 15] = [
 ];
 
 #[test]
-fn great_sums_are_counted(rt: HostRuntime) -> Result<(), Fail> {
-    for (n, bounds, count) in &GREAT {
-        assert!(rt; count_of(rt.alloc(), *n, bounds)? == *count);
+fn vectors_of_sums_are_counted(rt: HostRuntime) {
+    for (n, bounds, count) in &COUNTED {
+        assert!(rt; is_sum(rt.alloc(), *n, bounds, Asked::Size(bounds.len(), *count)));
     }
-    Ok(())
+    for (n, bounds, count) in &GREAT {
+        assert!(rt; is_sum(rt.alloc(), *n, bounds, Asked::Size(bounds.len(), *count)));
+    }
 }
 
 // Sums and bounds that are refused as wrong.
@@ -136,31 +116,31 @@ static VERY_BAD: [(i64, &[u32]); 12] = [
     (125, &[1; 251]),
 ];
 
+// Whether the sum is refused so.
+fn is_refused(alloc: Global, total: i64, bounds: &[u32], why: Panic) -> bool {
+    if bounds.len() > 251 {
+        return false;
+    }
+    match SumFamily::new(alloc, total, bounds) {
+        Ok(_) => false,
+        Err(panic) => panic == why,
+    }
+}
+
 #[test]
 fn sums_are_refused(rt: HostRuntime) {
     for (n, bounds) in &BAD {
-        assert!(rt; count_of(rt.alloc(), *n, bounds) == Err(Panic::Bad));
+        assert!(rt; is_refused(rt.alloc(), *n, bounds, Panic::Bad));
     }
-}
-
-#[test]
-fn great_sums_are_refused(rt: HostRuntime) {
     for (n, bounds) in &VERY_BAD {
-        assert!(rt; count_of(rt.alloc(), *n, bounds) == Err(Panic::VeryBad));
+        assert!(rt; is_refused(rt.alloc(), *n, bounds, Panic::VeryBad));
     }
 }
 
-// A member by its place; there is none past the end.
+// Members by their places; there is none past the end.
 #[test]
-fn members_at_places(rt: HostRuntime) -> Result<(), Fail> {
-    let family = family_of(rt.alloc(), 2, &[2, 1, 2])?;
-    assert!(rt; ends_after(&family, 3, &[1, 1, 0], 5));
-    Ok(())
-}
-
-#[test]
-fn a_sum_tells_what_its_vectors_add_to(rt: HostRuntime) -> Result<(), Fail> {
-    let family = family_of(rt.alloc(), 4, &[2, 3])?;
-    assert!(rt; family.total() == 4);
-    Ok(())
+fn members_at_places(rt: HostRuntime) {
+    assert!(rt; is_sum(rt.alloc(), 2, &[2, 1, 2], Asked::Place(3, &[1, 1, 0], 5)));
+    let middle = Asked::Place(484_033_000, &[12_887, 23_054, 8_059], 968_066_001);
+    assert!(rt; is_sum(rt.alloc(), 44_000, &[44_000; 3], middle));
 }

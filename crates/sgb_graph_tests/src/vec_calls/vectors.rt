@@ -1,145 +1,131 @@
-use sgb_vec::{BoxFamily, Family, SumFamily, Vectors};
-use std::test::Fail;
+use super::boxes::is_box;
+use super::sums::is_sum;
+use super::walks::Asked;
+use sgb_vec::{Family, Vector, Vectors};
 
-// Whether the vectors that are left are those of the list, taken from the front.
-fn are_left<F: Family>(mut vectors: Vectors<'_, F>, expected: &[&[u32]]) -> bool {
-    for entries in expected {
-        let Some(vector) = vectors.next() else {
-            return false;
-        };
-        if vector.as_slice() != *entries {
+/// A call of a walk, and the vector that it has to come to.
+#[derive(Clone, Copy)]
+pub(crate) enum Step {
+    /// The first one that is left, by `next`.
+    Next(&'static [u32]),
+    /// The last one that is left, by `next_back`.
+    NextBack(&'static [u32]),
+    /// The first one where it stands, by `front`, and then `advance`.
+    Advance(&'static [u32]),
+    /// The last one where it stands, by `back`, and then `retreat`.
+    Retreat(&'static [u32]),
+}
+
+// Whether the vector is there, and this one.
+fn is(taken: Option<Vector>, expected: &[u32]) -> bool {
+    match taken {
+        Some(vector) => vector.as_slice() == expected,
+        None => false,
+    }
+}
+
+// Whether the step comes to its vector.
+fn is_made<F: Family>(vectors: &mut Vectors<'_, F>, step: Step) -> bool {
+    match step {
+        Step::Next(vector) => is(vectors.next(), vector),
+        Step::NextBack(vector) => is(vectors.next_back(), vector),
+        Step::Advance(vector) => vectors.front() == Some(vector) && vectors.advance(),
+        Step::Retreat(vector) => vectors.back() == Some(vector) && vectors.retreat(),
+    }
+}
+
+// Whether no vector is left, whichever way it is asked for.
+fn is_at_end<F: Family>(vectors: &mut Vectors<'_, F>) -> bool {
+    vectors.front().is_none()
+        && !vectors.advance()
+        && vectors.back().is_none()
+        && !vectors.retreat()
+        && vectors.next().is_none()
+        && vectors.next_back().is_none()
+}
+
+/// Whether the steps come to their vectors, one after another, and then none is left.
+pub(crate) fn are_made<F: Family>(mut vectors: Vectors<'_, F>, steps: &[Step]) -> bool {
+    for step in steps {
+        if !is_made(&mut vectors, *step) {
             return false;
         }
     }
-    vectors.next().is_none() && vectors.next_back().is_none()
+    is_at_end(&mut vectors)
 }
 
-// The same from the back: the list has the last one first.
-fn are_left_back<F: Family>(mut vectors: Vectors<'_, F>, expected: &[&[u32]]) -> bool {
-    for entries in expected {
-        let Some(vector) = vectors.next_back() else {
-            return false;
-        };
-        if vector.as_slice() != *entries {
-            return false;
-        }
-    }
-    vectors.next_back().is_none() && vectors.next().is_none()
-}
-
-#[test]
-fn all_of_a_box(rt: HostRuntime) -> Result<(), Fail> {
-    let family = BoxFamily::new(&[2, 2])?;
-    assert!(rt; are_left(Vectors::all(&family), &[&[0, 0], &[0, 1], &[1, 0], &[1, 1]]));
-    assert!(rt; are_left_back(Vectors::all(&family), &[&[1, 1], &[1, 0], &[0, 1], &[0, 0]]));
-    Ok(())
-}
-
-// Whether the vectors after this one are those of the list.
-fn are_after(family: &BoxFamily, vector: &[u32], expected: &[&[u32]]) -> bool {
-    let Some(vectors) = Vectors::after(family, vector) else {
-        return false;
-    };
-    are_left(vectors, expected)
-}
+// All of the box of the sizes 2 and 2.
+const FROM_THE_FRONT: [Step; 4] = [
+    Step::Next(&[0, 0]),
+    Step::Next(&[0, 1]),
+    Step::Next(&[1, 0]),
+    Step::Next(&[1, 1]),
+];
 
 // The same from the back.
-fn are_after_back(family: &BoxFamily, vector: &[u32], expected: &[&[u32]]) -> bool {
-    let Some(vectors) = Vectors::after(family, vector) else {
-        return false;
-    };
-    are_left_back(vectors, expected)
-}
+const FROM_THE_BACK: [Step; 4] = [
+    Step::NextBack(&[1, 1]),
+    Step::NextBack(&[1, 0]),
+    Step::NextBack(&[0, 1]),
+    Step::NextBack(&[0, 0]),
+];
+
+// The last one, and then the others at the front, where they stand.
+const WHERE_THE_FRONT_STANDS: [Step; 4] = [
+    Step::NextBack(&[1, 1]),
+    Step::Advance(&[0, 0]),
+    Step::Advance(&[0, 1]),
+    Step::Advance(&[1, 0]),
+];
 
 #[test]
-fn those_after_one_of_a_box(rt: HostRuntime) -> Result<(), Fail> {
-    let family = BoxFamily::new(&[2, 3])?;
-    assert!(rt; are_after_back(&family, &[1, 0], &[&[1, 2], &[1, 1]]));
-    assert!(rt; are_after(&family, &[1, 1], &[&[1, 2]]));
-    assert!(rt; are_after(&family, &[1, 2], &[]));
-    let strangers: [&[u32]; 5] = [&[2, 0], &[0, 3], &[0], &[], &[0, 0, 0]];
-    for stranger in strangers {
-        assert!(rt; Vectors::after(&family, stranger).is_none());
+fn all_of_a_box(rt: HostRuntime) {
+    assert!(rt; is_box(&[2, 2], Asked::All(&FROM_THE_FRONT)));
+    assert!(rt; is_box(&[2, 2], Asked::All(&FROM_THE_BACK)));
+    assert!(rt; is_box(&[2, 2], Asked::All(&WHERE_THE_FRONT_STANDS)));
+    assert!(rt; is_box(&[2, 0], Asked::All(&[])));
+}
+
+// Those after 1, 0 in the box of the sizes 2 and 3, from the back.
+const AFTER_1_0: [Step; 2] = [Step::NextBack(&[1, 2]), Step::NextBack(&[1, 1])];
+
+// The one after 1, 1.
+const AFTER_1_1: [Step; 1] = [Step::Next(&[1, 2])];
+
+// Vectors that do not stand in that box.
+static STRANGERS: [&[u32]; 5] = [&[2, 0], &[0, 3], &[0], &[], &[0, 0, 0]];
+
+#[test]
+fn those_after_one_of_a_box(rt: HostRuntime) {
+    assert!(rt; is_box(&[2, 3], Asked::After(&[1, 0], &AFTER_1_0)));
+    assert!(rt; is_box(&[2, 3], Asked::After(&[1, 1], &AFTER_1_1)));
+    assert!(rt; is_box(&[2, 3], Asked::After(&[1, 2], &[])));
+    assert!(rt; is_box(&[2, 0], Asked::NoneAfter(&[0, 0])));
+    for stranger in &STRANGERS {
+        assert!(rt; is_box(&[2, 3], Asked::NoneAfter(stranger)));
     }
-    Ok(())
 }
 
-// Whether the vectors are those of the pairs, the first one of each taken from the front and the other from the back.
-fn are_pairs<F: Family>(mut vectors: Vectors<'_, F>, pairs: &[[&[u32]; 2]]) -> bool {
-    for [front, back] in pairs {
-        let Some(first) = vectors.next() else {
-            return false;
-        };
-        let Some(last) = vectors.next_back() else {
-            return false;
-        };
-        if first.as_slice() != *front || last.as_slice() != *back {
-            return false;
-        }
-    }
-    vectors.next().is_none()
-}
+// The vectors of the sum 2 within 2, 2 and 2, from both ends in turn.
+const FROM_BOTH_ENDS: [Step; 6] = [
+    Step::Next(&[0, 0, 2]),
+    Step::NextBack(&[2, 0, 0]),
+    Step::Next(&[0, 1, 1]),
+    Step::NextBack(&[1, 1, 0]),
+    Step::Next(&[0, 2, 0]),
+    Step::NextBack(&[1, 0, 1]),
+];
 
-#[test]
-fn both_ends_in_turn(rt: HostRuntime) -> Result<(), Fail> {
-    let family = SumFamily::new(rt.alloc(), 2, &[2, 2, 2])?;
-    assert!(rt;
-        are_pairs(
-            Vectors::all(&family),
-            &[
-                [&[0, 0, 2], &[2, 0, 0]],
-                [&[0, 1, 1], &[1, 1, 0]],
-                [&[0, 2, 0], &[1, 0, 1]],
-            ]
-        )
-    );
-    Ok(())
-}
+// Those of the sum 2 within 2 and 2, at the back, where they stand.
+const WHERE_THE_BACK_STANDS: [Step; 3] = [
+    Step::Retreat(&[2, 0]),
+    Step::Retreat(&[1, 1]),
+    Step::Retreat(&[0, 2]),
+];
 
 #[test]
-fn families_without_vectors(rt: HostRuntime) -> Result<(), Fail> {
-    let family = BoxFamily::new(&[2, 0])?;
-    assert!(rt; are_left(Vectors::all(&family), &[]));
-    assert!(rt; Vectors::after(&family, &[0, 0]).is_none());
-    let none = SumFamily::new(rt.alloc(), 4, &[1, 1])?;
-    assert!(rt; are_left_back(Vectors::all(&none), &[]));
-    Ok(())
-}
-
-// Whether the vectors of the list stand at the front one after another, and then there is none.
-fn stand_in_front<F: Family>(vectors: &mut Vectors<'_, F>, expected: &[&[u32]]) -> bool {
-    for vector in expected {
-        if vectors.front() != Some(*vector) || !vectors.advance() {
-            return false;
-        }
-    }
-    vectors.front().is_none() && !vectors.advance()
-}
-
-#[test]
-fn the_front_one_where_it_stands(rt: HostRuntime) -> Result<(), Fail> {
-    let family = BoxFamily::new(&[2, 2])?;
-    let mut vectors = Vectors::all(&family);
-    let last = vectors.next_back();
-    assert!(rt; last.is_some_and(|vector| vector.as_slice() == [1, 1].as_slice()));
-    assert!(rt; stand_in_front(&mut vectors, &[&[0, 0], &[0, 1], &[1, 0]]));
-    Ok(())
-}
-
-// Whether the vectors of the list stand at the back one after another, and then there is none.
-fn stand_at_the_back<F: Family>(vectors: &mut Vectors<'_, F>, expected: &[&[u32]]) -> bool {
-    for vector in expected {
-        if vectors.back() != Some(*vector) || !vectors.retreat() {
-            return false;
-        }
-    }
-    vectors.back().is_none() && !vectors.retreat()
-}
-
-#[test]
-fn the_back_one_where_it_stands(rt: HostRuntime) -> Result<(), Fail> {
-    let family = SumFamily::new(rt.alloc(), 2, &[2, 2])?;
-    let mut vectors = Vectors::all(&family);
-    assert!(rt; stand_at_the_back(&mut vectors, &[&[2, 0], &[1, 1], &[0, 2]]));
-    Ok(())
+fn all_of_a_sum(rt: HostRuntime) {
+    assert!(rt; is_sum(rt.alloc(), 2, &[2, 2, 2], Asked::All(&FROM_BOTH_ENDS)));
+    assert!(rt; is_sum(rt.alloc(), 2, &[2, 2], Asked::All(&WHERE_THE_BACK_STANDS)));
+    assert!(rt; is_sum(rt.alloc(), 4, &[1, 1], Asked::All(&[])));
 }

@@ -1,74 +1,120 @@
 //! Families walked from both ends, and by places: what boxes and sums have in common.
-use sgb_vec::{Family, Steps, Vector};
+use super::vectors::{Step, are_made};
+use sgb_vec::{Family, Steps, Vector, Vectors};
 
-/// Whether the family's vectors, of 251 entries at most, are those of the list, walked from the first one on and from the
-/// last one back. A step beyond an end leaves the vector as it is. No call visits fewer entries than it changes, or more
-/// than two for each.
-pub(crate) fn are_members<F: Family>(family: &F, expected: &[&[u32]]) -> bool {
-    family.dims() <= 251 && are_met(family, expected) && are_met_back(family, expected)
+/// What is asked of a family. It is asked of both kinds in one place, over a reference, so that each kind has one
+/// function that owns its families.
+#[derive(Clone, Copy)]
+pub(crate) enum Asked<'a> {
+    /// Whether its vectors, of so many entries, are those of the first list, and it holds none of the second.
+    Members(usize, &'a [&'a [u32]], &'a [&'a [u32]]),
+    /// Whether its vectors have so many entries, and there are so many.
+    Size(usize, u32),
+    /// Whether this vector is at this place, and the family has so many vectors.
+    Place(u32, &'a [u32], u32),
+    /// Whether a walk over all goes so.
+    All(&'a [Step]),
+    /// Whether one over those after this vector does.
+    After(&'a [u32], &'a [Step]),
+    /// Whether there is no walk after this vector.
+    NoneAfter(&'a [u32]),
 }
 
-/// Whether the family has no vector, and one that is handed in stays as it is.
-pub(crate) fn is_empty<F: Family>(family: &F) -> bool {
-    let mut vector = Vector::new();
-    vector.push(7);
-    if family.first(&mut vector, &mut Steps::new()) || vector.as_slice() != [7].as_slice() {
-        return false;
+/// Whether it is so.
+pub(crate) fn has<F: Family>(family: &F, asked: Asked<'_>) -> bool {
+    match asked {
+        Asked::Members(dims, members, strangers) => {
+            family.dims() == dims && are_members(family, members) && holds_none(family, strangers)
+        }
+        Asked::Size(dims, size) => family.dims() == dims && family.size() == size,
+        Asked::Place(place, vector, size) => ends_after(family, place, vector, size),
+        Asked::All(steps) => are_made(Vectors::all(family), steps),
+        Asked::After(vector, steps) => match Vectors::after(family, vector) {
+            Some(vectors) => are_made(vectors, steps),
+            None => false,
+        },
+        Asked::NoneAfter(vector) => Vectors::after(family, vector).is_none(),
     }
-    if family.last(&mut vector, &mut Steps::new()) {
-        return false;
-    }
-    family.size() == 0 && vector.as_slice() == [7].as_slice()
 }
 
-/// Whether the vector at this place is this one, and there is none at the place past the end, where one that is handed in
-/// stays as it is.
-pub(crate) fn ends_after<F: Family>(family: &F, place: u32, vector: &[u32], end: u32) -> bool {
+// Whether the family's vectors are those of the list, walked from the first one on and from the last one back. A step
+// beyond an end leaves the vector as it is, as does one where there is no vector. No call visits fewer entries than it
+// changes, or more than two for each.
+fn are_members<F: Family>(family: &F, expected: &[&[u32]]) -> bool {
+    if family.dims() > 251 || family.size() as usize != expected.len() {
+        return false;
+    }
+    are_met(family, expected, false) && are_met(family, expected, true)
+}
+
+// Whether none of the vectors is one of the family.
+fn holds_none<F: Family>(family: &F, strangers: &[&[u32]]) -> bool {
+    for stranger in strangers {
+        if family.holds(stranger) {
+            return false;
+        }
+    }
+    true
+}
+
+// Whether the vector at this place is this one, and there is none at the place past the end, where one that is handed
+// in stays as it is.
+fn ends_after<F: Family>(family: &F, place: u32, vector: &[u32], size: u32) -> bool {
     let mut there = Vector::new();
     if !family.at(place, &mut there) || there.as_slice() != vector {
         return false;
     }
-    !family.at(end, &mut there) && there.as_slice() == vector
+    family.size() == size && !family.at(size, &mut there) && there.as_slice() == vector
 }
 
-// Whether they are met on the way from the first one on.
-fn are_met<F: Family>(family: &F, expected: &[&[u32]]) -> bool {
+// Whether they are met on the way from the first one on, or back from the last one.
+fn are_met<F: Family>(family: &F, expected: &[&[u32]], back: bool) -> bool {
     let mut vector = Vector::new();
+    vector.push(7);
     let mut before: &[u32] = &[];
     let mut steps = Steps::new();
-    let mut more = family.first(&mut vector, &mut steps);
-    for entries in expected {
-        if !more || vector.as_slice() != *entries || !family.holds(vector.as_slice()) {
+    let mut more = begins(family, back, &mut vector, &mut steps);
+    for place in 0..expected.len() {
+        let entries = expected[if back { expected.len() - 1 - place } else { place }];
+        if !more || vector.as_slice() != entries || !family.holds(vector.as_slice()) {
             return false;
         }
         if !is_counted(family, &steps, changed(before, entries)) {
             return false;
         }
         before = entries;
-        steps = Steps::new();
-        more = family.next(&mut vector, &mut steps);
+        more = goes_on(family, back, &mut vector, &mut steps);
     }
-    !more && vector.as_slice() == before && is_counted(family, &steps, 0)
+    !more && is_left(&vector, expected, before) && is_counted(family, &steps, 0)
 }
 
-// Whether they are met on the way back from the last one.
-fn are_met_back<F: Family>(family: &F, expected: &[&[u32]]) -> bool {
-    let mut vector = Vector::new();
-    let mut before: &[u32] = &[];
-    let mut steps = Steps::new();
-    let mut more = family.last(&mut vector, &mut steps);
-    for entries in expected.iter().rev() {
-        if !more || vector.as_slice() != *entries || !family.holds(vector.as_slice()) {
-            return false;
-        }
-        if !is_counted(family, &steps, changed(before, entries)) {
-            return false;
-        }
-        before = entries;
-        steps = Steps::new();
-        more = family.prev(&mut vector, &mut steps);
+// Puts the first vector, or the last one, and counts its visits.
+fn begins<F: Family>(family: &F, back: bool, vector: &mut Vector, steps: &mut Steps) -> bool {
+    *steps = Steps::new();
+    if back {
+        return family.last(vector, steps);
     }
-    !more && vector.as_slice() == before && is_counted(family, &steps, 0)
+    family.first(vector, steps)
+}
+
+// Puts the next vector, or the one before, in the place of one of the family, and counts its visits.
+fn goes_on<F: Family>(family: &F, back: bool, vector: &mut Vector, steps: &mut Steps) -> bool {
+    *steps = Steps::new();
+    if !family.holds(vector.as_slice()) {
+        return false;
+    }
+    if back {
+        return family.prev(vector, steps);
+    }
+    family.next(vector, steps)
+}
+
+// Whether the vector is the last one that was met, or the one that was handed in where there was none to meet.
+fn is_left(vector: &Vector, expected: &[&[u32]], last: &[u32]) -> bool {
+    if expected.is_empty() {
+        return vector.as_slice() == [7].as_slice();
+    }
+    vector.as_slice() == last
 }
 
 // At how many places the two vectors have different entries.
