@@ -1,10 +1,4 @@
 use sgb_graph::{Id, compound_id, double_compound_id};
-use sgb_vec::Panic;
-
-// The id of these bytes with `f(` and `)` around it, to which an id of up to 157 bytes fits.
-fn in_f(bytes: &[u8]) -> Result<Id, Panic> {
-    Ok(compound_id(b"f(", &Id::new(bytes)?, b")"))
-}
 
 // Whether the id is these texts one after another.
 fn is_joined(id: &Id, texts: &[&[u8]]) -> bool {
@@ -18,144 +12,127 @@ fn is_joined(id: &Id, texts: &[&[u8]]) -> bool {
     rest.is_empty()
 }
 
+// Whether the id of these bytes with `f(` and `)` around it, to which an id of up to 157 bytes fits, is these texts.
+fn is_in_f(bytes: &[u8], texts: &[&[u8]]) -> bool {
+    match Id::new(bytes) {
+        Ok(id) => is_joined(&compound_id(b"f(", &id, b")"), texts),
+        Err(_) => false,
+    }
+}
+
+// Bytes of ids, each with the texts: the third one just fits, and the last one just does not.
+static IN_F: [(&[u8], &[&[u8]]); 4] = [
+    (b"board(1)", &[b"f(board(1))"]),
+    (b"", &[b"f()"]),
+    (&[b'a'; 157], &[b"f(", &[b'a'; 157], b")"]),
+    (&[b'a'; 158], &[b"f(", &[b'a'; 153], b"...)", b")"]),
+];
+
 #[test]
 fn an_id_stands_between_texts(rt: HostRuntime) {
-    assert!(rt; in_f(b"board(1)").is_ok_and(|id| id.bytes() == b"f(board(1))".as_slice()));
-    assert!(rt; in_f(b"").is_ok_and(|id| id.bytes() == b"f()".as_slice()));
-}
-
-#[test]
-fn an_id_that_just_fits_is_kept(rt: HostRuntime) {
-    assert!(rt;
-        in_f(&[b'a'; 157]).is_ok_and(|id| {
-            id.bytes().len() == 160 && is_joined(&id, &[b"f(", &[b'a'; 157], b")"])
-        })
-    );
-}
-
-#[test]
-fn an_id_that_just_does_not_fit_is_cut(rt: HostRuntime) {
-    assert!(rt;
-        in_f(&[b'a'; 158]).is_ok_and(|id| {
-            id.bytes().len() == 160 && is_joined(&id, &[b"f(", &[b'a'; 153], b"...)", b")"])
-        })
-    );
-}
-
-// The complement of the complement and so on, `times` times, of subsets(2,1,-4,0,0,0,0x1,0).
-fn complements(times: u32) -> Result<Id, Panic> {
-    let mut id = Id::new(b"subsets(2,1,-4,0,0,0,0x1,0)")?;
-    for _ in 0..times {
-        id = compound_id(b"complement(", &id, b",0,0,0)");
+    for (bytes, texts) in &IN_F {
+        assert!(rt; is_in_f(bytes, texts));
     }
-    Ok(id)
+}
+
+// Puts the complement of the complement and so on, eight times, in the place of the id.
+fn complement(id: &mut Id) {
+    for _ in 0..8 {
+        *id = compound_id(b"complement(", id, b",0,0,0)");
+    }
+}
+
+const START: &[u8] = b"complement(";
+
+const END: &[u8] = b",0,0,0)";
+
+// The eighth complement of subsets(2,1,-4,0,0,0,0x1,0), which is cut.
+const EIGHTH: [&[u8]; 16] = [
+    START,
+    START,
+    START,
+    START,
+    START,
+    START,
+    START,
+    START,
+    b"subsets(2,1,-4,0,0,0,0x1,0)",
+    END,
+    END,
+    END,
+    END,
+    b",0,0,0",
+    b"...)",
+    END,
+];
+
+// The union of two such ids, which are both cut.
+const UNION: [&[u8]; 17] = [
+    b"gunion(", START, START, START, START, START, START, b"com...)", b",", START, START, START,
+    START, START, START, b"com...)", b",0,0)",
+];
+
+// Whether the eighth complement of this id, and the union of it with itself, are these texts.
+fn are_cut(bytes: &[u8], complement_texts: &[&[u8]], union_texts: &[&[u8]]) -> bool {
+    match Id::new(bytes) {
+        Ok(mut id) => {
+            complement(&mut id);
+            let union = double_compound_id(b"gunion(", &id, b",", &id, b",0,0)");
+            is_joined(&id, complement_texts) && is_joined(&union, union_texts)
+        }
+        Err(_) => false,
+    }
 }
 
 #[test]
 fn the_eighth_complement_is_cut(rt: HostRuntime) {
-    let start: &[u8] = b"complement(";
-    let end: &[u8] = b",0,0,0)";
-    assert!(rt;
-        complements(8).is_ok_and(|id| {
-            id.bytes().len() == 160
-                && is_joined(
-                    &id,
-                    &[
-                        start,
-                        start,
-                        start,
-                        start,
-                        start,
-                        start,
-                        start,
-                        start,
-                        b"subsets(2,1,-4,0,0,0,0x1,0)",
-                        end,
-                        end,
-                        end,
-                        end,
-                        b",0,0,0",
-                        b"...)",
-                        end,
-                    ],
-                )
-        })
-    );
+    assert!(rt; are_cut(b"subsets(2,1,-4,0,0,0,0x1,0)", &EIGHTH, &UNION));
 }
 
-// The union of two graphs of this id.
-fn union_of_twins(id: &Id) -> Id {
-    double_compound_id(b"gunion(", id, b",", id, b",0,0)")
+// Whether the product of graphs of these ids, which fit where they have at most 146 bytes together, is these texts.
+fn is_product(first: &[u8], second: &[u8], texts: &[&[u8]]) -> bool {
+    let Ok(id) = Id::new(first) else {
+        return false;
+    };
+    match Id::new(second) {
+        Ok(other) => is_joined(
+            &double_compound_id(b"product(", &id, b",", &other, b",0,0)"),
+            texts,
+        ),
+        Err(_) => false,
+    }
 }
 
-#[test]
-fn both_ids_are_cut(rt: HostRuntime) {
-    let start: &[u8] = b"complement(";
-    assert!(rt;
-        complements(8).is_ok_and(|id| {
-            let union = union_of_twins(&id);
-            union.bytes().len() == 159
-                && is_joined(
-                    &union,
-                    &[
-                        b"gunion(", start, start, start, start, start, start, b"com...)", b",",
-                        start, start, start, start, start, start, b"com...)", b",0,0)",
-                    ],
-                )
-        })
-    );
-}
-
-// The product of graphs of these ids, which fit where they have at most 146 bytes together.
-fn product_of(first: &[u8], second: &[u8]) -> Result<Id, Panic> {
-    let id = Id::new(first)?;
-    Ok(double_compound_id(b"product(", &id, b",", &Id::new(second)?, b",0,0)"))
-}
+// Bytes of two ids, each with the texts: the second two just fit, the third just do not, and both are marked as cut, as
+// is a short one beside a long one.
+static PRODUCTS: [(&[u8], &[u8], &[&[u8]]); 4] = [
+    (b"one", b"two", &[b"product(one,two,0,0)"]),
+    (
+        &[b'a'; 100],
+        &[b'b'; 46],
+        &[b"product(", &[b'a'; 100], b",", &[b'b'; 46], b",0,0)"],
+    ),
+    (
+        &[b'a'; 70],
+        &[b'b'; 77],
+        &[
+            b"product(",
+            &[b'a'; 68],
+            b"...),",
+            &[b'b'; 69],
+            b"...),0,0)",
+        ],
+    ),
+    (
+        &[b'a'; 160],
+        b"two",
+        &[b"product(", &[b'a'; 68], b"...),two...),0,0)"],
+    ),
+];
 
 #[test]
 fn two_ids_stand_between_texts(rt: HostRuntime) {
-    assert!(rt;
-        product_of(b"one", b"two").is_ok_and(|id| {
-            id.bytes() == b"product(one,two,0,0)".as_slice()
-        })
-    );
-}
-
-#[test]
-fn two_ids_that_just_fit_are_kept(rt: HostRuntime) {
-    assert!(rt;
-        product_of(&[b'a'; 100], &[b'b'; 46]).is_ok_and(|id| {
-            is_joined(
-                &id,
-                &[b"product(", &[b'a'; 100], b",", &[b'b'; 46], b",0,0)"]
-            )
-        })
-    );
-}
-
-#[test]
-fn two_ids_that_just_do_not_fit_are_both_cut(rt: HostRuntime) {
-    assert!(rt;
-        product_of(&[b'a'; 70], &[b'b'; 77]).is_ok_and(|id| {
-            is_joined(
-                &id,
-                &[
-                    b"product(",
-                    &[b'a'; 68],
-                    b"...),",
-                    &[b'b'; 69],
-                    b"...),0,0)"
-                ]
-            )
-        })
-    );
-}
-
-#[test]
-fn a_short_id_is_marked_as_cut_too(rt: HostRuntime) {
-    assert!(rt;
-        product_of(&[b'a'; 160], b"two").is_ok_and(|id| {
-            is_joined(&id, &[b"product(", &[b'a'; 68], b"...),two...),0,0)"])
-        })
-    );
+    for (first, second, texts) in &PRODUCTS {
+        assert!(rt; is_product(first, second, texts));
+    }
 }

@@ -1,61 +1,101 @@
 use sgb_graph::Flip;
 
-// Whether these are the next draws.
-fn draws(flip: &mut Flip, expected: &[u32]) -> bool {
-    for number in expected {
-        if flip.draw() != *number {
+/// What is done with random numbers, and what has to come out.
+#[derive(Clone, Copy)]
+pub(crate) enum Step {
+    /// This number is drawn.
+    Draw(u32),
+    /// So many are drawn and left out, one by one.
+    Leave(u32),
+    /// So many are left out by a jump.
+    Jump(u64),
+    /// Of the numbers below the first one this is drawn.
+    Below(u32, u32),
+}
+
+// Throws so many draws away.
+fn leave(flip: &mut Flip, count: u32) {
+    for _draw in 0..count {
+        flip.draw();
+    }
+}
+
+// Whether this comes out.
+fn is_made(flip: &mut Flip, step: Step) -> bool {
+    match step {
+        Step::Draw(number) => flip.draw() == number,
+        Step::Leave(count) => {
+            leave(flip, count);
+            true
+        }
+        Step::Jump(count) => {
+            flip.skip(count);
+            true
+        }
+        Step::Below(m, number) => m > 0 && m <= 0x8000_0000 && flip.below(m) == number,
+    }
+}
+
+/// Whether the steps, one after another from this start, come out.
+pub(crate) fn are_made(start: i64, steps: &[Step]) -> bool {
+    let mut flip = Flip::new(start);
+    for step in steps {
+        if !is_made(&mut flip, *step) {
             return false;
         }
     }
     true
 }
 
-// Throws so many draws away.
-fn skip(flip: &mut Flip, count: u32) {
-    for _draw in 0..count {
-        flip.draw();
-    }
-}
+const PUBLISHED: [Step; 3] = [
+    Step::Draw(119318998),
+    Step::Leave(133),
+    Step::Below(1431655765, 748103812),
+];
 
 #[test]
 fn the_published_test_comes_out(rt: HostRuntime) {
-    let mut flip = Flip::new(-314159);
-    assert!(rt; flip.draw() == 119318998);
-    skip(&mut flip, 133);
-    assert!(rt; flip.below(1431655765) == 748103812);
+    assert!(rt; are_made(-314159, &PUBLISHED));
 }
 
-#[test]
-fn draws_go_on_over_cycles(rt: HostRuntime) {
-    let mut flip = Flip::new(7);
-    assert!(rt; draws(&mut flip, &[529181769, 719591340, 1610774012, 194604418]));
-    skip(&mut flip, 48);
-    assert!(rt;
-        draws(
-            &mut flip,
-            &[125987481, 918748022, 961367628, 167450015, 1314001595]
-        )
-    );
-    skip(&mut flip, 142);
-    assert!(rt; draws(&mut flip, &[2104716826]));
-}
+const OVER_CYCLES: [Step; 12] = [
+    Step::Draw(529181769),
+    Step::Draw(719591340),
+    Step::Draw(1610774012),
+    Step::Draw(194604418),
+    Step::Leave(48),
+    Step::Draw(125987481),
+    Step::Draw(918748022),
+    Step::Draw(961367628),
+    Step::Draw(167450015),
+    Step::Draw(1314001595),
+    Step::Leave(142),
+    Step::Draw(2104716826),
+];
+
+// A start counts modulo 2 to the 31.
+const FROM_SEVEN: [Step; 2] = [Step::Draw(529181769), Step::Draw(719591340)];
+
+// Great draws are thrown away.
+const BELOW_HALF: [Step; 3] = [
+    Step::Below(1073741825, 529181769),
+    Step::Below(1073741825, 719591340),
+    Step::Below(1073741825, 194604418),
+];
+
+const BELOW_ALL: [Step; 3] = [
+    Step::Below(10, 9),
+    Step::Below(1, 0),
+    Step::Below(0x8000_0000, 1610774012),
+];
 
 #[test]
-fn a_start_counts_modulo_2_to_the_31(rt: HostRuntime) {
-    assert!(rt; draws(&mut Flip::new(0), &[2029883356]));
-    assert!(rt; draws(&mut Flip::new(-1), &[2110032679]));
-    assert!(rt; draws(&mut Flip::new(0x7fff_ffff), &[2110032679]));
-    assert!(rt; draws(&mut Flip::new(0x8000_0007), &[529181769, 719591340]));
-}
-
-#[test]
-fn great_draws_are_thrown_away(rt: HostRuntime) {
-    let mut flip = Flip::new(7);
-    assert!(rt; flip.below(1073741825) == 529181769);
-    assert!(rt; flip.below(1073741825) == 719591340);
-    assert!(rt; flip.below(1073741825) == 194604418);
-    let mut flip = Flip::new(7);
-    assert!(rt; flip.below(10) == 9);
-    assert!(rt; flip.below(1) == 0);
-    assert!(rt; flip.below(0x8000_0000) == 1610774012);
+fn draws_come_out(rt: HostRuntime) {
+    assert!(rt; are_made(7, &OVER_CYCLES));
+    assert!(rt; are_made(0, &[Step::Draw(2029883356)]));
+    assert!(rt; are_made(-1, &[Step::Draw(2110032679)]));
+    assert!(rt; are_made(0x7fff_ffff, &[Step::Draw(2110032679)]));
+    assert!(rt; are_made(0x8000_0007, &FROM_SEVEN));
+    assert!(rt; are_made(7, &BELOW_HALF));
+    assert!(rt; are_made(7, &BELOW_ALL));
 }

@@ -5,7 +5,6 @@ use super::caller::without_arcs;
 use sgb_graph::{Graph, Id, Kind, Ref, Util, UtilRef};
 use sgb_vec::Panic;
 use std::alloc::Global;
-use std::test::Fail;
 
 // Whether the list of v has these arcs, each with its number, tip and length.
 pub(crate) fn has_list(graph: &Graph, v: u32, list: &[(usize, u32, i64)]) -> bool {
@@ -14,10 +13,10 @@ pub(crate) fn has_list(graph: &Graph, v: u32, list: &[(usize, u32, i64)]) -> boo
     }
     let mut expected = list.iter();
     for link in graph.arcs(v) {
-        let same = expected.next().is_some_and(|(number, tip, len)| {
-            link.number == *number && link.tip == *tip && link.len == *len
-        });
-        if !same {
+        let Some((number, tip, len)) = expected.next() else {
+            return false;
+        };
+        if link.number != *number || link.tip != *tip || link.len != *len {
             return false;
         }
     }
@@ -137,6 +136,11 @@ fn are(bytes: &[u8], expected: &[u8]) -> bool {
     bytes == expected
 }
 
+// Whether the fields are of these kinds.
+fn has_kinds(graph: &Graph, kinds: &[Kind; 14]) -> bool {
+    graph.kinds() == *kinds
+}
+
 // Whether this is a new graph of two vertices.
 fn is_new(graph: &Graph) -> bool {
     graph.n() == 2
@@ -144,7 +148,7 @@ fn is_new(graph: &Graph) -> bool {
         && are(graph.id().bytes(), b"gb_new_graph(2)")
         && are(graph.name(0).bytes(), b"a")
         && are(graph.name(1).bytes(), b"b")
-        && graph.kinds().iter().all(|kind| *kind == Kind::Z)
+        && has_kinds(graph, &[Kind::Z; 14])
         && matches!(graph.graph_util(5), Util::Nothing)
         && graph.vertex(1).arcs.is_none()
 }
@@ -164,34 +168,73 @@ fn holds(util: UtilRef<'_>, number: i64) -> bool {
     matches!(util, UtilRef::Int(held) if held == number)
 }
 
+// Whether it holds nothing.
+fn is_nothing(util: UtilRef<'_>) -> bool {
+    matches!(util, UtilRef::Nothing)
+}
+
 // Whether the vertex has these numbers in its fields x, y, z, and nothing in the others.
 pub(crate) fn has_numbers(graph: &Graph, v: u32, numbers: &[i64; 3]) -> bool {
     if v >= graph.n() {
         return false;
     }
     let fields = graph.vertex(v).util;
-    fields[..3]
-        .iter()
-        .all(|field| matches!(field, UtilRef::Nothing))
+    is_nothing(fields[0])
+        && is_nothing(fields[1])
+        && is_nothing(fields[2])
         && holds(fields[3], numbers[0])
         && holds(fields[4], numbers[1])
         && holds(fields[5], numbers[2])
 }
 
+// The kinds where x, y and z of the vertices hold integers.
+const NUMBERED: [Kind; 14] = [
+    Kind::Z,
+    Kind::Z,
+    Kind::Z,
+    Kind::I,
+    Kind::I,
+    Kind::I,
+    Kind::Z,
+    Kind::Z,
+    Kind::Z,
+    Kind::Z,
+    Kind::Z,
+    Kind::Z,
+    Kind::Z,
+    Kind::Z,
+];
+
 // Whether it has that id, three fields of integers, and zeros where no number was given.
 fn is_numbered(graph: &Graph) -> bool {
     are(graph.id().bytes(), b"numbered")
-        && graph.kinds()[2..7] == [Kind::Z, Kind::I, Kind::I, Kind::I, Kind::Z]
+        && has_kinds(graph, &NUMBERED)
         && has_numbers(graph, 0, &[0, 0, 0])
         && has_numbers(graph, 1, &[-3, 0, 907])
 }
 
+// The kinds where uu of the graph holds an integer.
+const OWN_NUMBER: [Kind; 14] = [
+    Kind::Z,
+    Kind::Z,
+    Kind::Z,
+    Kind::Z,
+    Kind::Z,
+    Kind::Z,
+    Kind::Z,
+    Kind::Z,
+    Kind::I,
+    Kind::Z,
+    Kind::Z,
+    Kind::Z,
+    Kind::Z,
+    Kind::Z,
+];
+
 // Whether -5 stands in the field uu alone.
 fn has_own_number(graph: &Graph) -> bool {
     graph.n() == 2
-        && graph.kinds()[..8].iter().all(|kind| *kind == Kind::Z)
-        && graph.kinds()[8] == Kind::I
-        && graph.kinds()[9..].iter().all(|kind| *kind == Kind::Z)
+        && has_kinds(graph, &OWN_NUMBER)
         && matches!(graph.graph_util(0), Util::Int(-5))
         && holds(graph.graph_util(0).seen(), -5)
         && matches!(graph.graph_util(1), Util::Nothing)
@@ -246,67 +289,47 @@ fn has_grown(graph: &Graph, growth: Growth) -> bool {
 }
 
 // Does this, and tells whether the graph is then as it should be.
-fn grows(graph: &mut Graph, growth: Growth) -> Result<bool, Panic>
+fn grows(graph: &mut Graph, growth: Growth) -> bool
     requires { HasPlainArcs graph.old }
 {
-    grow(graph, growth)?;
-    Ok(has_grown(graph, growth))
+    grow(graph, growth).is_ok() && has_grown(graph, growth)
 }
 
-// Whether a graph of vertices with these names is as it should be after this. It alone owns the graph, and no `?` drops it
-// here: that would take long to prove.
-fn is_met(alloc: Global, names: &[&[u8]], growth: Growth) -> Result<bool, Panic> {
-    let mut graph = without_arcs(alloc, names)?;
-    grows(&mut graph, growth)
-}
-
-#[test]
-fn a_new_graph_has_no_arcs(rt: HostRuntime) -> Result<(), Fail> {
-    assert!(rt; is_met(rt.alloc(), &[b"a", b"b"], Growth::Nothing)?);
-    Ok(())
+// Whether a graph of vertices with these names is as it should be after this. It alone owns the graph, and no `?` drops
+// it here: that would take long to prove.
+fn is_met(alloc: Global, names: &[&[u8]], growth: Growth) -> bool {
+    match without_arcs(alloc, names) {
+        Ok(mut graph) => grows(&mut graph, growth),
+        Err(_) => false,
+    }
 }
 
 #[test]
-fn later_arcs_come_first(rt: HostRuntime) -> Result<(), Fail> {
-    assert!(rt; is_met(rt.alloc(), &FOUR_NAMES, Growth::Four { directed: true })?);
-    Ok(())
+fn graphs_grow(rt: HostRuntime) {
+    let alloc = rt.alloc();
+    assert!(rt; is_met(alloc, &[b"a", b"b"], Growth::Nothing));
+    assert!(rt; is_met(alloc, &FOUR_NAMES, Growth::Four { directed: true }));
+    assert!(rt; is_met(alloc, &FOUR_NAMES, Growth::Four { directed: false }));
+    assert!(rt; is_met(alloc, &NINE_NAMES, Growth::To0));
+    assert!(rt; is_met(alloc, &[b"x"], Growth::Loop { directed: true }));
+    assert!(rt; is_met(alloc, &[b"x"], Growth::Loop { directed: false }));
+    assert!(rt; is_met(alloc, &[b"a", b"b"], Growth::Numbers));
+    assert!(rt; is_met(alloc, &[b"a", b"b"], Growth::OwnNumber));
 }
 
-#[test]
-fn an_edge_has_a_record_at_each_end(rt: HostRuntime) -> Result<(), Fail> {
-    assert!(rt; is_met(rt.alloc(), &FOUR_NAMES, Growth::Four { directed: false })?);
-    Ok(())
+// Whether the field, seen where it stands, holds this number.
+fn is_seen(field: &Util, number: i64) -> bool {
+    holds(field.seen(), number)
 }
 
-#[test]
-fn lists_are_counted_side_by_side(rt: HostRuntime) -> Result<(), Fail> {
-    assert!(rt; is_met(rt.alloc(), &NINE_NAMES, Growth::To0)?);
-    Ok(())
-}
-
-#[test]
-fn a_loop_has_one_record_or_two(rt: HostRuntime) -> Result<(), Fail> {
-    assert!(rt; is_met(rt.alloc(), &[b"x"], Growth::Loop { directed: true })?);
-    assert!(rt; is_met(rt.alloc(), &[b"x"], Growth::Loop { directed: false })?);
-    Ok(())
-}
-
-#[test]
-fn the_other_vertices_get_zeros(rt: HostRuntime) -> Result<(), Fail> {
-    assert!(rt; is_met(rt.alloc(), &[b"a", b"b"], Growth::Numbers)?);
-    Ok(())
-}
-
-#[test]
-fn the_graph_has_a_number_of_its_own(rt: HostRuntime) -> Result<(), Fail> {
-    assert!(rt; is_met(rt.alloc(), &[b"a", b"b"], Growth::OwnNumber)?);
-    Ok(())
+// Whether it holds vertex 7.
+fn is_vertex_7(field: &Util) -> bool {
+    matches!(field.seen(), UtilRef::Vertex(Ref::At(7)))
 }
 
 #[test]
 fn a_value_is_seen_where_it_stands(rt: HostRuntime) {
     let number = Util::Int(-5);
-    assert!(rt; holds(number.seen(), -5) && !holds(number.seen(), 5));
-    let vertex = Util::Vertex(Ref::At(7));
-    assert!(rt; matches!(vertex.seen(), UtilRef::Vertex(Ref::At(7))));
+    assert!(rt; is_seen(&number, -5) && !is_seen(&number, 5));
+    assert!(rt; is_vertex_7(&Util::Vertex(Ref::At(7))));
 }
