@@ -1,7 +1,7 @@
 //! What the tests ask of a text that is read.
 //!
 //! No function here has a contract, so that a test that calls one is proved with no more than what it does itself.
-use sgb_expr::{Expr, Unread, read_expr};
+use sgb_expr::{Expr, FlipParams, Unread, read_expr, read_flip};
 use std::alloc::{AllocError, Global};
 use std::process::Abort;
 
@@ -35,41 +35,82 @@ fn is_read_as_shown(alloc: Global, line: &str) -> Result<bool, AllocError> {
     Ok(found.as_str() == shown)
 }
 
-/// Whether the text is read, or refused for this reason.
-pub(crate) fn is_answer(alloc: Global, text: &[u8], refusal: Option<Unread>) -> bool {
-    read_expr(alloc, text).err() == refusal
+/// What a text is read as.
+#[derive(Clone, Copy)]
+pub(crate) enum Form {
+    /// An expression.
+    Expr,
+    /// A call of the random generator.
+    Flip,
 }
 
-/// Reads the text of each line, which has to go wrong at its mark: a line is a text that is no expression, with a `|` after
-/// its longest prefix that begins one.
-pub(crate) fn check_cut(
-    rt: &impl Abort,
-    alloc: Global,
-    lines: &'static str,
-) -> Result<(), AllocError> {
-    for line in lines.lines() {
-        assert!(rt; goes_wrong_at_mark(alloc, line)?, "at {line}");
+/// The integers that the text asks the random generator for, or why it is not read.
+pub(crate) fn flip_of(text: &[u8]) -> Result<FlipParams, Unread> {
+    read_flip(text)
+}
+
+/// Why the text is not of this form, if it is not.
+pub(crate) fn refusal(alloc: Global, form: Form, text: &[u8]) -> Option<Unread> {
+    match form {
+        Form::Expr => read_expr(alloc, text).err(),
+        Form::Flip => flip_of(text).err(),
+    }
+}
+
+/// A text that stands so many times one after another.
+#[derive(Clone, Copy)]
+pub(crate) struct Times(pub(crate) usize, pub(crate) &'static str);
+
+// Appends the text so often.
+fn repeat(text: &mut String, times: Times) -> Result<(), AllocError> {
+    let Times(count, part) = times;
+    for _ in 0..count {
+        text.push_str(part)?;
     }
     Ok(())
 }
 
-// Whether the text of the line is no expression, with the mark after its longest prefix that begins one.
-fn goes_wrong_at_mark(alloc: Global, line: &str) -> Result<bool, AllocError> {
+/// Appends the texts, one after another, each as often as it stands there.
+pub(crate) fn push_all(text: &mut String, parts: &[Times]) -> Result<(), AllocError> {
+    for times in parts {
+        repeat(text, *times)?;
+    }
+    Ok(())
+}
+
+/// Whether these texts, one after another, are of this form, or refused for this reason.
+pub(crate) fn is_answer(
+    alloc: Global,
+    form: Form,
+    parts: &[Times],
+    why: Option<Unread>,
+) -> Result<bool, AllocError> {
+    let mut text = String::new(alloc);
+    push_all(&mut text, parts)?;
+    Ok(refusal(alloc, form, text.as_bytes()) == why)
+}
+
+/// Reads the text of each line, which has to go wrong at its mark: a line is a text that is not of this form, with a
+/// `|` after its longest prefix that begins one that is.
+pub(crate) fn check_cut(
+    rt: &impl Abort,
+    alloc: Global,
+    form: Form,
+    lines: &'static str,
+) -> Result<(), AllocError> {
+    for line in lines.lines() {
+        assert!(rt; goes_wrong_at_mark(alloc, form, line)?, "at {line}");
+    }
+    Ok(())
+}
+
+// Whether the text of the line is not of this form, with the mark after its longest prefix that begins one that is.
+fn goes_wrong_at_mark(alloc: Global, form: Form, line: &str) -> Result<bool, AllocError> {
     let Some((begun, rest)) = line.split_once('|') else {
         return Ok(false);
     };
-    let text = joined(alloc, begun, rest)?;
-    Ok(goes_wrong_at(alloc, text.as_str(), begun.len()))
-}
-
-// Whether the text is no expression, and its longest prefix that begins one has so many bytes.
-fn goes_wrong_at(alloc: Global, text: &str, at: usize) -> bool {
-    matches!(read_expr(alloc, text.as_bytes()), Err(Unread::At(found)) if found as usize == at)
-}
-
-/// The one text, and then the other.
-pub(crate) fn joined(alloc: Global, begun: &str, rest: &str) -> Result<String, AllocError> {
     let mut text = String::from_str(alloc, begun)?;
     text.push_str(rest)?;
-    Ok(text)
+    let found = refusal(alloc, form, text.as_bytes());
+    Ok(matches!(found, Some(Unread::At(at)) if at as usize == begun.len()))
 }

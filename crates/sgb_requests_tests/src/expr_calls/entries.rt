@@ -1,4 +1,4 @@
-use super::cases::{check_cut, check_read, read};
+use super::cases::{Form, Times, check_cut, check_read, push_all, read};
 use sgb_expr::*;
 use std::alloc::{AllocError, Global};
 
@@ -8,11 +8,6 @@ induced(stdin,[],0,0,0) Induced { graph: Stdin, entries: Entries { list: [] }, s
 induced(stdin,[1,-2,wheel(5,1,0)],0,0,1) Induced { graph: Stdin, entries: Entries { list: [Number(1), Number(-2), Graph(Wheel { n: 5, n1: 1, directed: false })] }, self_loops: false, multi: false, directed: true }
 induced(wheel(5,1,0),[stdin,007,-999999999999999999],-1,0,0) Induced { graph: Wheel { n: 5, n1: 1, directed: false }, entries: Entries { list: [Graph(Stdin), Number(7), Number(-999999999999999999)] }, self_loops: true, multi: false, directed: false }
 induced(stdin,[induced(wheel(5,1,0),[3],0,1,0),-4],0,9,0) Induced { graph: Stdin, entries: Entries { list: [Graph(Induced { graph: Wheel { n: 5, n1: 1, directed: false }, entries: Entries { list: [Number(3)] }, self_loops: false, multi: true, directed: false }), Number(-4)] }, self_loops: false, multi: true, directed: false }";
-
-#[test]
-fn entries_are_read_in_order(rt: HostRuntime) -> Result<(), AllocError> {
-    check_read(&rt, rt.alloc(), INDUCED)
-}
 
 /// Texts that are no expressions, each with a `|` after its longest prefix that begins one.
 const CUT: &str = "\
@@ -39,19 +34,17 @@ induced(petersen(),[],0,0|)
 induced(petersen(),[],0,0,0|";
 
 #[test]
-fn entries_go_wrong_somewhere(rt: HostRuntime) -> Result<(), AllocError> {
-    check_cut(&rt, rt.alloc(), CUT)
+fn entries_are_read_in_order_or_go_wrong(rt: HostRuntime) -> Result<(), AllocError> {
+    check_read(&rt, rt.alloc(), INDUCED)?;
+    check_cut(&rt, rt.alloc(), Form::Expr, CUT)
 }
 
-// An induced graph of so many entries 1, and then -2.
-fn many_entries(alloc: Global, count: usize) -> Result<String, AllocError> {
-    let mut text = String::from_str(alloc, "induced(petersen(),[")?;
-    for _ in 0..count {
-        text.push_str("1,")?;
-    }
-    text.push_str("-2],0,0,0)")?;
-    Ok(text)
-}
+/// An induced graph of 30,000 entries 1, and then -2.
+const MANY: [Times; 3] = [
+    Times(1, "induced(petersen(),["),
+    Times(30_000, "1,"),
+    Times(1, "-2],0,0,0)"),
+];
 
 // Whether there are so many entries, of which the last is this number.
 fn end_with(entries: &Entries, count: usize, number: i64) -> bool {
@@ -70,7 +63,8 @@ fn has_entries(alloc: Global, text: &str, count: usize) -> bool {
 
 #[test]
 fn thirty_thousand_entries_are_read(rt: HostRuntime) -> Result<(), AllocError> {
-    let text = many_entries(rt.alloc(), 30_000)?;
+    let mut text = String::new(rt.alloc());
+    push_all(&mut text, &MANY)?;
     assert!(rt; has_entries(rt.alloc(), text.as_str(), 30_001));
     Ok(())
 }

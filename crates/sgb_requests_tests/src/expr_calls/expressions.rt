@@ -1,4 +1,4 @@
-use super::cases::{check_cut, check_read, is_answer};
+use super::cases::{Form, Times, check_cut, check_read, is_answer, refusal};
 use sgb_expr::*;
 use std::alloc::{AllocError, Global};
 
@@ -24,11 +24,6 @@ cycle(12) Generator(Board(BoardParams { n1: 12, n2: 0, n3: 0, n4: 0, piece: 1, w
 disjoint_subsets(-999999999999999998,3) Generator(Subsets(SubsetsParams { n: 3, n0: 1, n1: 999999999999999999, n2: 0, n3: 0, n4: 0, size_bits: 1, directed: false }))
 petersen() Generator(Subsets(SubsetsParams { n: 2, n0: 1, n1: -4, n2: 0, n3: 0, n4: 0, size_bits: 1, directed: false }))";
 
-#[test]
-fn generators_are_read(rt: HostRuntime) -> Result<(), AllocError> {
-    check_read(&rt, rt.alloc(), GENERATORS)
-}
-
 /// Operations, and standard input.
 const OPERATIONS: &str = "\
 stdin Stdin
@@ -43,11 +38,6 @@ product(stdin,wheel(5,1,0),2,1) Product { first: Stdin, second: Wheel { n: 5, n1
 product(wheel(5,1,0),stdin,-7,0) Product { first: Wheel { n: 5, n1: 1, directed: false }, second: Stdin, kind: -7, directed: false }
 bi_complete(2,-3,0) BiComplete { n1: 2, n2: -3, directed: false }
 intersection(gunion(stdin,petersen(),0,0),complement(stdin,0,1,0),1,1) Intersection { first: Gunion { first: Stdin, second: Generator(Subsets(SubsetsParams { n: 2, n0: 1, n1: -4, n2: 0, n3: 0, n4: 0, size_bits: 1, directed: false })), multi: false, directed: false }, second: Complement { graph: Stdin, copy: false, self_loops: true, directed: false }, multi: true, directed: true }";
-
-#[test]
-fn operations_are_read(rt: HostRuntime) -> Result<(), AllocError> {
-    check_read(&rt, rt.alloc(), OPERATIONS)
-}
 
 /// Texts that are no expressions, each with a `|` after its longest prefix that begins one.
 const WRONG_BOARDS: &str = "\
@@ -72,11 +62,6 @@ board(1,2,3,4,5,6,7|,
 board(1,2,3,4,5,6,7)|x
 board(1,2,3,4,5,6,7)|)";
 
-#[test]
-fn other_texts_go_wrong_somewhere(rt: HostRuntime) -> Result<(), AllocError> {
-    check_cut(&rt, rt.alloc(), WRONG_BOARDS)
-}
-
 /// Texts that are no expressions, each with a `|` after its longest prefix that begins one.
 const WRONG_BITS: &str = "\
 subsets(3,2,2,2,0,0,184467440737095516|15,0)
@@ -98,11 +83,6 @@ subsets(3,2,2,2,0,0,3|)
 subsets(3,2,2,2,0,0,3,1|,
 subsets(64,64,64,0,0,0,0x10000000000000000000000000000000|0,0)
 subsets(64,64,64,0,0,0,0x00000000000000000000000000000000|1,0)";
-
-#[test]
-fn bad_bits_go_wrong_somewhere(rt: HostRuntime) -> Result<(), AllocError> {
-    check_cut(&rt, rt.alloc(), WRONG_BITS)
-}
 
 /// Texts that are no expressions, each with a `|` after its longest prefix that begins one of some form.
 const WRONG_NAMES: &str = "\
@@ -128,11 +108,6 @@ petersen(|1)
 petersen|
 |Petersen()
 petersen()| ";
-
-#[test]
-fn the_longest_prefix_is_that_of_some_form(rt: HostRuntime) -> Result<(), AllocError> {
-    check_cut(&rt, rt.alloc(), WRONG_NAMES)
-}
 
 /// Texts that are no expressions, each with a `|` after its longest prefix that begins one.
 const WRONG_OPERATIONS: &str = "\
@@ -163,11 +138,6 @@ intersection(empty(1),complement(empty(1),1|),0,0)
 intersection|s(
 petersen()|,0,0)";
 
-#[test]
-fn operations_go_wrong_somewhere(rt: HostRuntime) -> Result<(), AllocError> {
-    check_cut(&rt, rt.alloc(), WRONG_OPERATIONS)
-}
-
 /// Texts that are no expressions, each with a `|` after its longest prefix that begins one.
 const WRONG_LINES: &str = "\
 l|
@@ -192,48 +162,47 @@ wheel(5,1|)
 wheel(5,1,0|,0)";
 
 #[test]
-fn lines_products_and_short_forms_go_wrong_somewhere(rt: HostRuntime) -> Result<(), AllocError> {
-    check_cut(&rt, rt.alloc(), WRONG_LINES)
-}
-
-/// So many complements one in another, the innermost of the petersen graph; without their ends if not `ended`.
-fn complements(alloc: Global, count: usize, ended: bool) -> Result<String, AllocError> {
-    let mut text = String::new(alloc);
-    for _ in 0..count {
-        text.push_str("complement(")?;
-    }
-    if !ended {
-        return Ok(text);
-    }
-    text.push_str("petersen()")?;
-    for _ in 0..count {
-        text.push_str(",0,0,0)")?;
-    }
-    Ok(text)
-}
-
-// Whether so many complements are read, or refused for this reason.
-fn is_answer_to_complements(
-    alloc: Global,
-    count: usize,
-    ended: bool,
-    refusal: Option<Unread>,
-) -> Result<bool, AllocError> {
-    let text = complements(alloc, count, ended)?;
-    Ok(is_answer(alloc, text.as_bytes(), refusal))
+fn expressions_are_read(rt: HostRuntime) -> Result<(), AllocError> {
+    check_read(&rt, rt.alloc(), GENERATORS)?;
+    check_read(&rt, rt.alloc(), OPERATIONS)
 }
 
 #[test]
-fn parentheses_are_open_at_most_64_deep(rt: HostRuntime) -> Result<(), AllocError> {
-    for (count, ended, refusal) in [
-        (63, true, None),
-        (64, true, Some(Unread::TooLarge)),
-        (64, false, Some(Unread::At(704))),
+fn other_texts_go_wrong_somewhere(rt: HostRuntime) -> Result<(), AllocError> {
+    for lines in [
+        WRONG_BOARDS,
+        WRONG_BITS,
+        WRONG_NAMES,
+        WRONG_OPERATIONS,
+        WRONG_LINES,
     ] {
-        assert!(rt; is_answer_to_complements(rt.alloc(), count, ended, refusal)?);
+        check_cut(&rt, rt.alloc(), Form::Expr, lines)?;
     }
     Ok(())
 }
+
+/// Texts about the limits, each with why it is not read, if it is not: parentheses are open at most 64 deep, of an
+/// expression, of one that has no end, and of a text that is none; and a text has at most 65536 bytes.
+const LIMITS: [([Times; 3], Option<Unread>); 9] = [
+    (
+        [Times(63, "complement("), Times(1, "petersen()"), Times(63, ",0,0,0)")],
+        None,
+    ),
+    (
+        [Times(64, "complement("), Times(1, "petersen()"), Times(64, ",0,0,0)")],
+        Some(Unread::TooLarge),
+    ),
+    (
+        [Times(64, "complement("), Times(0, ""), Times(0, "")],
+        Some(Unread::At(704)),
+    ),
+    ([Times(0, ")"), Times(64, "("), Times(0, "")], Some(Unread::At(0))),
+    ([Times(0, ")"), Times(65, "("), Times(0, "")], Some(Unread::TooLarge)),
+    ([Times(70, ")"), Times(134, "("), Times(0, "")], Some(Unread::At(0))),
+    ([Times(70, ")"), Times(135, "("), Times(0, "")], Some(Unread::TooLarge)),
+    ([Times(65_536, "x"), Times(0, ""), Times(0, "")], Some(Unread::At(0))),
+    ([Times(65_537, "x"), Times(0, ""), Times(0, "")], Some(Unread::TooLarge)),
+];
 
 /// The union of the graph with itself, with this text in place of its flags.
 fn doubled(alloc: Global, graph: &str, flags: &str) -> Result<String, AllocError> {
@@ -259,60 +228,20 @@ fn is_answer_to_doubled(
     alloc: Global,
     flags: &str,
     length: usize,
-    refusal: Option<Unread>,
+    why: Option<Unread>,
 ) -> Result<bool, AllocError> {
     let text = doubled_often(alloc, flags)?;
-    Ok(text.len() == length && is_answer(alloc, text.as_bytes(), refusal))
-}
-
-#[test]
-fn unions_of_65536_bytes_are_read(rt: HostRuntime) -> Result<(), AllocError> {
-    for (flags, length, refusal) in [
-        (",00000000000000,0)", 65_536, None),
-        (",000000000000000,0)", 65_537, Some(Unread::TooLarge)),
-    ] {
-        assert!(rt; is_answer_to_doubled(rt.alloc(), flags, length, refusal)?);
-    }
-    Ok(())
-}
-
-// Whether so many closing parentheses, and then so many opening ones, are refused for this reason.
-fn is_answer_to_parentheses(
-    alloc: Global,
-    closed: usize,
-    opened: usize,
-    why: Unread,
-) -> Result<bool, AllocError> {
-    let mut text = vec![in alloc; b')'; closed]?;
-    for _ in 0..opened {
-        text.push(b'(')?;
-    }
-    Ok(is_answer(alloc, &text, Some(why)))
-}
-
-#[test]
-fn parentheses_alone_are_not_read(rt: HostRuntime) -> Result<(), AllocError> {
-    for (closed, opened, why) in [
-        (0, 64, Unread::At(0)),
-        (0, 65, Unread::TooLarge),
-        (70, 134, Unread::At(0)),
-        (70, 135, Unread::TooLarge),
-    ] {
-        assert!(rt; is_answer_to_parentheses(rt.alloc(), closed, opened, why)?);
-    }
-    Ok(())
-}
-
-// Whether so many bytes `x` are refused for this reason.
-fn is_answer_to_letters(alloc: Global, count: usize, why: Unread) -> Result<bool, AllocError> {
-    let text = vec![in alloc; b'x'; count]?;
-    Ok(is_answer(alloc, &text, Some(why)))
+    Ok(text.len() == length && refusal(alloc, Form::Expr, text.as_bytes()) == why)
 }
 
 #[test]
 fn large_texts_are_not_read(rt: HostRuntime) -> Result<(), AllocError> {
-    for (count, why) in [(65_536, Unread::At(0)), (65_537, Unread::TooLarge)] {
-        assert!(rt; is_answer_to_letters(rt.alloc(), count, why)?);
+    let alloc = rt.alloc();
+    for (parts, why) in LIMITS {
+        assert!(rt; is_answer(alloc, Form::Expr, &parts, why)?);
     }
+    assert!(rt; is_answer_to_doubled(alloc, ",00000000000000,0)", 65_536, None)?);
+    let refused = Some(Unread::TooLarge);
+    assert!(rt; is_answer_to_doubled(alloc, ",000000000000000,0)", 65_537, refused)?);
     Ok(())
 }

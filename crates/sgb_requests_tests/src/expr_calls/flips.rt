@@ -1,6 +1,6 @@
-use super::cases::joined;
+use super::cases::{Form, Times, check_cut, flip_of, is_answer};
 use sgb_expr::*;
-use std::alloc::{AllocError, Global};
+use std::alloc::AllocError;
 
 /// The largest integer of 18 digits.
 const LONGEST: i64 = 999_999_999_999_999_999;
@@ -30,12 +30,7 @@ fn is_read_as(text: &str, numbers: [i64; 4]) -> bool {
         count,
         m,
     };
-    read_flip(text.as_bytes()) == Ok(wanted)
-}
-
-// Whether the text is not read, for this reason.
-fn is_refused(text: &[u8], why: Unread) -> bool {
-    read_flip(text) == Err(why)
+    flip_of(text.as_bytes()) == Ok(wanted)
 }
 
 #[test]
@@ -73,40 +68,18 @@ flip(123456789012345678|9,0,0,0)
 flip(1,2,3,000000000000000000|0)
 |petersen()";
 
-// Whether the text asks for nothing, and its longest prefix that begins one that does has so many bytes.
-fn goes_wrong_at(text: &[u8], at: usize) -> bool {
-    matches!(read_flip(text), Err(Unread::At(found)) if found as usize == at)
-}
-
-// Whether the text of the line asks for nothing, with the mark after its longest prefix that begins one that does.
-fn goes_wrong_at_mark(alloc: Global, line: &str) -> Result<bool, AllocError> {
-    let Some((begun, rest)) = line.split_once('|') else {
-        return Ok(false);
-    };
-    let text = joined(alloc, begun, rest)?;
-    Ok(goes_wrong_at(text.as_bytes(), begun.len()))
-}
+/// Texts that are too large, or just not: of parentheses that open, and of bytes.
+const LARGE: [([Times; 1], Unread); 4] = [
+    ([Times(64, "(")], Unread::At(0)),
+    ([Times(65, "(")], Unread::TooLarge),
+    ([Times(65_536, "f")], Unread::At(1)),
+    ([Times(65_537, "f")], Unread::TooLarge),
+];
 
 #[test]
 fn other_texts_go_wrong_somewhere(rt: HostRuntime) -> Result<(), AllocError> {
-    for line in CUT.lines() {
-        assert!(rt; goes_wrong_at_mark(rt.alloc(), line)?, "at {line}");
+    for (parts, why) in LARGE {
+        assert!(rt; is_answer(rt.alloc(), Form::Flip, &parts, Some(why))?);
     }
-    Ok(())
-}
-
-// Whether so many bytes `f` are refused for this reason.
-fn are_refused(alloc: Global, count: usize, why: Unread) -> Result<bool, AllocError> {
-    let text = vec![in alloc; b'f'; count]?;
-    Ok(is_refused(&text, why))
-}
-
-#[test]
-fn large_texts_are_not_read(rt: HostRuntime) -> Result<(), AllocError> {
-    let deep = [b'('; 65];
-    assert!(rt; is_refused(&deep[..64], Unread::At(0)));
-    assert!(rt; is_refused(&deep, Unread::TooLarge));
-    assert!(rt; are_refused(rt.alloc(), 65_536, Unread::At(1))?);
-    assert!(rt; are_refused(rt.alloc(), 65_537, Unread::TooLarge)?);
-    Ok(())
+    check_cut(&rt, rt.alloc(), Form::Flip, CUT)
 }

@@ -1,4 +1,4 @@
-use super::cases::{check_cut, read};
+use super::cases::{Form, check_cut, read};
 use sgb_expr::*;
 use std::alloc::{AllocError, Global};
 
@@ -39,28 +39,12 @@ fn has_stdin(alloc: Global, text: &str, want: bool) -> bool {
     }
 }
 
-#[test]
-fn stdin_is_found_wherever_it_stands(rt: HostRuntime) {
-    for row in &USES {
-        let (text, want) = *row;
-        assert!(rt; has_stdin(rt.alloc(), text, want), "at {text}");
-    }
-}
-
 // Whether one of the entries of the induced graph that the text names has `stdin`.
 fn entries_have_stdin(alloc: Global, text: &str) -> Option<bool> {
     match read(alloc, text) {
         Some(Expr::Induced { entries, .. }) => Some(have_stdin(entries.as_slice())),
         _ => None,
     }
-}
-
-#[test]
-fn stdin_is_found_among_entries(rt: HostRuntime) {
-    let operand = "induced(stdin,[1,2],0,0,0)";
-    let entry = "induced(petersen(),[1,lines(stdin,0)],0,0,0)";
-    assert!(rt; entries_have_stdin(rt.alloc(), operand) == Some(false));
-    assert!(rt; entries_have_stdin(rt.alloc(), entry) == Some(true));
 }
 
 /// Texts that are no expressions, each with a `|` after its longest prefix that begins one.
@@ -78,6 +62,15 @@ complement(stdin,0,0,0)|x
 induced(stdin,[stdin|1],0,0,0)";
 
 #[test]
-fn stdin_is_the_whole_word(rt: HostRuntime) -> Result<(), AllocError> {
-    check_cut(&rt, rt.alloc(), CUT)
+fn stdin_is_found_wherever_it_stands(rt: HostRuntime) -> Result<(), AllocError> {
+    for row in &USES {
+        let (text, want) = *row;
+        assert!(rt; has_stdin(rt.alloc(), text, want), "at {text}");
+    }
+    let operand = "induced(stdin,[1,2],0,0,0)";
+    let entry = "induced(petersen(),[1,lines(stdin,0)],0,0,0)";
+    assert!(rt; entries_have_stdin(rt.alloc(), operand) == Some(false));
+    assert!(rt; entries_have_stdin(rt.alloc(), entry) == Some(true));
+    // it is the whole word
+    check_cut(&rt, rt.alloc(), Form::Expr, CUT)
 }

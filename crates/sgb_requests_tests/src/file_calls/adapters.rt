@@ -4,7 +4,7 @@ use super::device_calls::{
 };
 use super::devices::{Device, LENGTHS, long_text, moves_long_text};
 use sgb_file::*;
-use std::alloc::Global;
+use std::alloc::{AllocError, Global};
 use std::io;
 use std::io::{ErrorKind, Read, Write};
 use std::test::Fail;
@@ -101,12 +101,6 @@ const GIVEN_BY_READER: [Given; 3] = [
     Given(Ok(0), b"cb"),
 ];
 
-#[test]
-fn a_reader_is_a_source(rt: HostRuntime) {
-    let mut source = FromRead::new(b"abc".as_slice());
-    assert!(rt; are_given(&mut source, &mut [0; 2], &GIVEN_BY_READER));
-}
-
 const WRITTEN: [Call; 4] = [
     Call::PutAll(b"abc", Ok(())),
     Call::Put(b"de", Ok(2)),
@@ -114,11 +108,18 @@ const WRITTEN: [Call; 4] = [
     Call::HasFailed(false),
 ];
 
+// Whether a vector, as a writer, answers the calls so, and has then these bytes.
+fn is_kept(alloc: Global, calls: &[Call], bytes: &[u8]) -> bool {
+    let mut written = Vec::new(alloc);
+    let is_met = are_answered(&mut ToWrite::new(&mut written), calls);
+    is_met && written.as_slice() == bytes
+}
+
 #[test]
-fn a_writer_is_a_sink(rt: HostRuntime) {
-    let mut written = Vec::new(rt.alloc());
-    let is_met = are_answered(&mut ToWrite::new(&mut written), &WRITTEN);
-    assert!(rt; is_met && written.as_slice() == b"abcde".as_slice());
+fn readers_are_sources_and_writers_are_sinks(rt: HostRuntime) {
+    let mut source = FromRead::new(b"abc".as_slice());
+    assert!(rt; are_given(&mut source, &mut [0; 2], &GIVEN_BY_READER));
+    assert!(rt; is_kept(rt.alloc(), &WRITTEN, b"abcde"));
 }
 
 /// Whether a slice, as a reader, gives the text at once.
@@ -136,15 +137,6 @@ pub(crate) fn is_read_once(buffer: &mut [u8]) -> bool {
     let len = buffer.len();
     let is_filled = FromRead::new(&mut reader).take(buffer) == Ok(len);
     is_filled && reader.reads == 1
-}
-
-#[test]
-fn long_texts_are_read_at_once(rt: HostRuntime) -> Result<(), Fail> {
-    for len in LENGTHS {
-        assert!(rt; moves_long_text(Device::Reader, rt.alloc(), len)?);
-        assert!(rt; moves_long_text(Device::CountedReader, rt.alloc(), len)?);
-    }
-    Ok(())
 }
 
 /// Whether a vector, as a writer, takes the text at once.
@@ -166,15 +158,6 @@ pub(crate) fn is_taken_by_counts(text: &[u8]) -> bool {
     is_taken && writer.has(2, 0, text.len().saturating_mul(2))
 }
 
-#[test]
-fn long_texts_are_written_at_once(rt: HostRuntime) -> Result<(), Fail> {
-    for len in LENGTHS {
-        assert!(rt; moves_long_text(Device::Writer, rt.alloc(), len)?);
-        assert!(rt; moves_long_text(Device::CountedWriter, rt.alloc(), len)?);
-    }
-    Ok(())
-}
-
 // Whether a writer of so many bytes a call takes the text, and then nothing, in so many calls.
 fn is_taken_in(writes: u32, most: usize, text: &[u8]) -> bool {
     let mut writer = Counts::new(most);
@@ -184,10 +167,30 @@ fn is_taken_in(writes: u32, most: usize, text: &[u8]) -> bool {
     is_put && writer.has(writes, 0, text.len())
 }
 
+// Whether a writer of a page a call takes a text in as few calls as it may.
+fn is_taken_in_pages(alloc: Global) -> Result<bool, AllocError> {
+    let text = long_text(alloc, 100_000)?;
+    Ok(is_taken_in(25, 4_096, &text))
+}
+
 #[test]
-fn a_text_is_written_in_as_few_calls_as_the_writer_takes(rt: HostRuntime) -> Result<(), Fail> {
-    let text = long_text(rt.alloc(), 100_000)?;
-    assert!(rt; is_taken_in(25, 4_096, &text));
+fn long_texts_are_read_at_once(rt: HostRuntime) -> Result<(), AllocError> {
+    for len in LENGTHS {
+        for device in [Device::MemSource, Device::Reader, Device::CountedReader] {
+            assert!(rt; moves_long_text(device, rt.alloc(), len)?);
+        }
+    }
+    Ok(())
+}
+
+#[test]
+fn long_texts_are_written_at_once(rt: HostRuntime) -> Result<(), AllocError> {
+    for len in LENGTHS {
+        for device in [Device::MemSink, Device::Writer, Device::CountedWriter] {
+            assert!(rt; moves_long_text(device, rt.alloc(), len)?);
+        }
+    }
+    assert!(rt; is_taken_in_pages(rt.alloc())?);
     Ok(())
 }
 
@@ -233,15 +236,6 @@ fn is_called(mut writer: Counts, calls: &[Call], writes: u32, flushes: u32) -> b
     is_met && writer.writes == writes && writer.flushes == flushes
 }
 
-#[test]
-fn the_first_failed_write_is_final(rt: HostRuntime) {
-    for kind in KINDS {
-        for at in 1..4 {
-            assert!(rt; is_called(Counts::failing(2, kind, at, 0), &FAILED_WRITES, at, 0));
-        }
-    }
-}
-
 const NOTHING_WRITTEN: [Call; 6] = [
     Call::Put(b"", Ok(0)),
     Call::HasFailed(false),
@@ -252,7 +246,13 @@ const NOTHING_WRITTEN: [Call; 6] = [
 ];
 
 #[test]
-fn a_write_of_nothing_is_final(rt: HostRuntime) {
+fn the_first_failed_write_is_final(rt: HostRuntime) {
+    for kind in KINDS {
+        for at in 1..4 {
+            assert!(rt; is_called(Counts::failing(2, kind, at, 0), &FAILED_WRITES, at, 0));
+        }
+    }
+    // a write of nothing is final too
     assert!(rt; is_called(Counts::new(0), &NOTHING_WRITTEN, 2, 0));
 }
 

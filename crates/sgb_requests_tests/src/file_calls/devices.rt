@@ -71,47 +71,11 @@ pub(crate) fn moves_long_text(
     Ok(moves(device, alloc, &text, &mut buffer))
 }
 
-#[test]
-fn a_memory_source_gives_long_texts_at_once(rt: HostRuntime) -> Result<(), AllocError> {
-    for len in LENGTHS {
-        assert!(rt; moves_long_text(Device::MemSource, rt.alloc(), len)?);
-    }
-    Ok(())
-}
-
-#[test]
-fn a_memory_sink_takes_long_texts_at_once(rt: HostRuntime) -> Result<(), AllocError> {
-    for len in LENGTHS {
-        assert!(rt; moves_long_text(Device::MemSink, rt.alloc(), len)?);
-    }
-    Ok(())
-}
-
 const GIVEN_BY_MEMORY: [Given; 3] = [
     Given(Ok(3), b"abc"),
     Given(Ok(2), b"dec"),
     Given(Ok(0), b"dec"),
 ];
-
-#[test]
-fn a_memory_source_gives_its_bytes_and_ends(rt: HostRuntime) {
-    let mut source = MemSource::new(b"abcde");
-    assert!(rt; are_given(&mut source, &mut [0; 3], &GIVEN_BY_MEMORY));
-}
-
-const KEPT_BY_MEMORY: [Call; 4] = [
-    Call::Put(b"abc", Ok(3)),
-    Call::PutAll(b"de", Ok(())),
-    Call::Flush(Ok(())),
-    Call::HasFailed(false),
-];
-
-#[test]
-fn a_memory_sink_keeps_all(rt: HostRuntime) {
-    let mut sink = MemSink::new(rt.alloc());
-    assert!(rt; are_answered(&mut sink, &KEPT_BY_MEMORY));
-    assert!(rt; sink.bytes() == b"abcde".as_slice());
-}
 
 const ALPHABET: &[u8] = b"abcdefghijklmnopqrstuvwxyz";
 
@@ -122,23 +86,30 @@ const GIVEN_UP_TO_6: [Given; 4] = [
     Given(Err(Failed), b"efcd\0"),
 ];
 
-#[test]
-fn a_cut_source_stops_at_its_limit(rt: HostRuntime) {
-    let mut source = CutSource::new(ALPHABET, 4, 6);
-    assert!(rt; are_given(&mut source, &mut [0; 5], &GIVEN_UP_TO_6));
-}
-
 const FAILED_AT_ITS_END: [Given; 2] = [Given(Ok(2), b"ab\0\0\0"), Given(Err(Failed), b"ab\0\0\0")];
 
 const GIVEN_WHOLE: [Given; 2] = [Given(Ok(2), b"ab\0\0\0"), Given(Ok(0), b"ab\0\0\0")];
 
-#[test]
-fn a_cut_source_fails_at_its_end_too(rt: HostRuntime) {
-    let mut source = CutSource::new(b"ab", 9, 2);
-    assert!(rt; are_given(&mut source, &mut [0; 5], &FAILED_AT_ITS_END));
-    let mut longer = CutSource::new(b"ab", 9, 3);
-    assert!(rt; are_given(&mut longer, &mut [0; 5], &GIVEN_WHOLE));
+// Whether a source of these bytes, so many a call and at most so many, gives this into a buffer of five bytes.
+fn cut_gives(bytes: &[u8], each: usize, limit: usize, all: &[Given]) -> bool {
+    each > 0 && are_given(&mut CutSource::new(bytes, each, limit), &mut [0; 5], all)
 }
+
+#[test]
+fn sources_give_their_bytes(rt: HostRuntime) {
+    assert!(rt; are_given(&mut MemSource::new(b"abcde"), &mut [0; 3], &GIVEN_BY_MEMORY));
+    // up to the limit, and failing at the end, unless the limit is beyond it
+    assert!(rt; cut_gives(ALPHABET, 4, 6, &GIVEN_UP_TO_6));
+    assert!(rt; cut_gives(b"ab", 9, 2, &FAILED_AT_ITS_END));
+    assert!(rt; cut_gives(b"ab", 9, 3, &GIVEN_WHOLE));
+}
+
+const KEPT_BY_MEMORY: [Call; 4] = [
+    Call::Put(b"abc", Ok(3)),
+    Call::PutAll(b"de", Ok(())),
+    Call::Flush(Ok(())),
+    Call::HasFailed(false),
+];
 
 // Whether the sink answers the calls so, and has then taken these bytes.
 fn takes<const N: usize>(mut sink: CutSink<N>, calls: &[Call], bytes: &[u8]) -> bool {
@@ -152,12 +123,6 @@ const TAKEN_UP_TO_10: [Call; 4] = [
     Call::Flush(Err(Failed)),
 ];
 
-#[test]
-fn a_cut_sink_holds_the_prefix_up_to_its_limit(rt: HostRuntime) {
-    let sink = CutSink::<64>::new(4, 10, false);
-    assert!(rt; takes(sink, &TAKEN_UP_TO_10, b"abcdefghij"));
-}
-
 const TAKEN_WHEN_FULL: [Call; 5] = [
     Call::Put(b"abcd", Ok(2)),
     Call::Put(b"cd", Ok(1)),
@@ -166,12 +131,6 @@ const TAKEN_WHEN_FULL: [Call; 5] = [
     Call::Put(b"d", Err(Failed)),
 ];
 
-#[test]
-fn a_cut_sink_fails_when_full(rt: HostRuntime) {
-    let sink = CutSink::<3>::new(2, 10, false);
-    assert!(rt; takes(sink, &TAKEN_WHEN_FULL, b"abc"));
-}
-
 const FAILED_AT_FLUSH: [Call; 4] = [
     Call::PutAll(b"abc", Ok(())),
     Call::Flush(Err(Failed)),
@@ -179,8 +138,17 @@ const FAILED_AT_FLUSH: [Call; 4] = [
     Call::Put(b"d", Err(Failed)),
 ];
 
+// Whether a sink over memory answers the calls so, and has then these bytes.
+fn is_kept(alloc: Global, calls: &[Call], bytes: &[u8]) -> bool {
+    let mut sink = MemSink::new(alloc);
+    are_answered(&mut sink, calls) && sink.bytes() == bytes
+}
+
 #[test]
-fn a_cut_sink_fails_at_its_flush(rt: HostRuntime) {
-    let sink = CutSink::<8>::new(8, 8, true);
-    assert!(rt; takes(sink, &FAILED_AT_FLUSH, b"abc"));
+fn sinks_take_their_bytes(rt: HostRuntime) {
+    assert!(rt; is_kept(rt.alloc(), &KEPT_BY_MEMORY, b"abcde"));
+    // those that are cut have what fits, and fail where they are full or at their flush
+    assert!(rt; takes(CutSink::<64>::new(4, 10, false), &TAKEN_UP_TO_10, b"abcdefghij"));
+    assert!(rt; takes(CutSink::<3>::new(2, 10, false), &TAKEN_WHEN_FULL, b"abc"));
+    assert!(rt; takes(CutSink::<8>::new(8, 8, true), &FAILED_AT_FLUSH, b"abc"));
 }

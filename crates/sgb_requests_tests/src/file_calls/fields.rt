@@ -20,72 +20,6 @@ enum Wanted<'a> {
     Id(&'a [u8]),
 }
 
-// An integer of the first vertex.
-const INTEGERS: &[(&str, Wanted)] = &[
-    ("5", Wanted::Integer(5)),
-    ("-5", Wanted::Integer(-5)),
-    ("-0", Wanted::Integer(0)),
-    ("007", Wanted::Integer(7)),
-    ("00000000000000000005", Wanted::Integer(5)),
-    ("000000000000000000005", Wanted::Refusal),
-    ("999999999999999999", Wanted::Integer(999999999999999999)),
-    ("1000000000000000000", Wanted::Integer(1000000000000000000)),
-    ("9223372036854775807", Wanted::Integer(9223372036854775807)),
-    ("9223372036854775808", Wanted::Refusal),
-    (
-        "-9223372036854775808",
-        Wanted::Integer(-9223372036854775808),
-    ),
-    ("-9223372036854775809", Wanted::Refusal),
-    ("99999999999999999999", Wanted::Refusal),
-    ("", Wanted::Refusal),
-    ("-", Wanted::Refusal),
-    ("+5", Wanted::Refusal),
-    ("5x", Wanted::Refusal),
-    (" 5", Wanted::Refusal),
-];
-
-// A vertex in a field of the first arc record.
-const REFS: &[(&str, Wanted)] = &[
-    ("V0", Wanted::Vertex(Ref::At(0))),
-    ("V002", Wanted::Vertex(Ref::At(2))),
-    ("V000000000000000002", Wanted::Vertex(Ref::At(2))),
-    ("V0000000000000000002", Wanted::Refusal),
-    ("V3", Wanted::Refusal),
-    ("V", Wanted::Refusal),
-    ("0", Wanted::Vertex(Ref::Null)),
-    ("1", Wanted::Vertex(Ref::One)),
-    ("00", Wanted::Refusal),
-    ("2", Wanted::Refusal),
-    ("", Wanted::Refusal),
-    ("A0", Wanted::Refusal),
-];
-
-// The first record of the first vertex.
-const RECORD_NUMBERS: &[(&str, Wanted)] = &[
-    ("A1", Wanted::First(Some(1))),
-    ("A2", Wanted::Refusal),
-    ("0", Wanted::First(None)),
-    ("1", Wanted::Refusal),
-    ("00", Wanted::Refusal),
-    ("", Wanted::Refusal),
-];
-
-// A string of the first vertex.
-const STRINGS: &[(&str, Wanted)] = &[
-    ("\"ab\"", Wanted::Text(b"ab")),
-    ("\"\"", Wanted::Text(b"")),
-    ("\"a\\\nb\"", Wanted::Text(b"ab")),
-    ("\"a\\\n\\\nb,\\\nc\"", Wanted::Text(b"ab,c")),
-    ("\"ab\",7", Wanted::Refusal),
-    ("\"a\nb\"", Wanted::Refusal),
-    ("\"a\\b\"", Wanted::Refusal),
-    ("\"a\\", Wanted::Refusal),
-    ("\"a", Wanted::Refusal),
-    ("a\"", Wanted::Refusal),
-    ("", Wanted::Refusal),
-];
-
 // A field of a file.
 #[derive(Clone, Copy)]
 enum Field {
@@ -95,6 +29,61 @@ enum Field {
     Text,
     Vertex,
 }
+
+// Texts of fields, each with what is to be read of it.
+const FIELDS: &[(Field, &str, Wanted)] = &[
+    // an integer of the first vertex
+    (Field::Integer, "5", Wanted::Integer(5)),
+    (Field::Integer, "-5", Wanted::Integer(-5)),
+    (Field::Integer, "-0", Wanted::Integer(0)),
+    (Field::Integer, "007", Wanted::Integer(7)),
+    (Field::Integer, "00000000000000000005", Wanted::Integer(5)),
+    (Field::Integer, "000000000000000000005", Wanted::Refusal),
+    (Field::Integer, "999999999999999999", Wanted::Integer(999999999999999999)),
+    (Field::Integer, "1000000000000000000", Wanted::Integer(1000000000000000000)),
+    (Field::Integer, "9223372036854775807", Wanted::Integer(9223372036854775807)),
+    (Field::Integer, "9223372036854775808", Wanted::Refusal),
+    (Field::Integer, "-9223372036854775808", Wanted::Integer(-9223372036854775808)),
+    (Field::Integer, "-9223372036854775809", Wanted::Refusal),
+    (Field::Integer, "99999999999999999999", Wanted::Refusal),
+    (Field::Integer, "", Wanted::Refusal),
+    (Field::Integer, "-", Wanted::Refusal),
+    (Field::Integer, "+5", Wanted::Refusal),
+    (Field::Integer, "5x", Wanted::Refusal),
+    (Field::Integer, " 5", Wanted::Refusal),
+    // a vertex in a field of the first arc record
+    (Field::Vertex, "V0", Wanted::Vertex(Ref::At(0))),
+    (Field::Vertex, "V002", Wanted::Vertex(Ref::At(2))),
+    (Field::Vertex, "V000000000000000002", Wanted::Vertex(Ref::At(2))),
+    (Field::Vertex, "V0000000000000000002", Wanted::Refusal),
+    (Field::Vertex, "V3", Wanted::Refusal),
+    (Field::Vertex, "V", Wanted::Refusal),
+    (Field::Vertex, "0", Wanted::Vertex(Ref::Null)),
+    (Field::Vertex, "1", Wanted::Vertex(Ref::One)),
+    (Field::Vertex, "00", Wanted::Refusal),
+    (Field::Vertex, "2", Wanted::Refusal),
+    (Field::Vertex, "", Wanted::Refusal),
+    (Field::Vertex, "A0", Wanted::Refusal),
+    // the first record of the first vertex
+    (Field::First, "A1", Wanted::First(Some(1))),
+    (Field::First, "A2", Wanted::Refusal),
+    (Field::First, "0", Wanted::First(None)),
+    (Field::First, "1", Wanted::Refusal),
+    (Field::First, "00", Wanted::Refusal),
+    (Field::First, "", Wanted::Refusal),
+    // a string of the first vertex
+    (Field::Text, "\"ab\"", Wanted::Text(b"ab")),
+    (Field::Text, "\"\"", Wanted::Text(b"")),
+    (Field::Text, "\"a\\\nb\"", Wanted::Text(b"ab")),
+    (Field::Text, "\"a\\\n\\\nb,\\\nc\"", Wanted::Text(b"ab,c")),
+    (Field::Text, "\"ab\",7", Wanted::Refusal),
+    (Field::Text, "\"a\nb\"", Wanted::Refusal),
+    (Field::Text, "\"a\\b\"", Wanted::Refusal),
+    (Field::Text, "\"a\\", Wanted::Refusal),
+    (Field::Text, "\"a", Wanted::Refusal),
+    (Field::Text, "a\"", Wanted::Refusal),
+    (Field::Text, "", Wanted::Refusal),
+];
 
 // The id, the first record, the integer and the string of the first vertex, and the vertex of the first arc record,
 // with this text in one of these fields.
@@ -188,45 +177,6 @@ fn is_field(
     Ok(is_read(alloc, file.as_bytes(), wanted))
 }
 
-#[test]
-fn integers_are_read(rt: HostRuntime) -> Result<(), AllocError> {
-    for (text, wanted) in INTEGERS {
-        assert!(rt;
-            is_field(rt.alloc(), Field::Integer, text, *wanted)?,
-            "at {text}"
-        );
-    }
-    Ok(())
-}
-
-#[test]
-fn vertices_and_arc_records_are_read(rt: HostRuntime) -> Result<(), AllocError> {
-    for (text, wanted) in REFS {
-        assert!(rt;
-            is_field(rt.alloc(), Field::Vertex, text, *wanted)?,
-            "at {text}"
-        );
-    }
-    for (text, wanted) in RECORD_NUMBERS {
-        assert!(rt;
-            is_field(rt.alloc(), Field::First, text, *wanted)?,
-            "at {text}"
-        );
-    }
-    Ok(())
-}
-
-#[test]
-fn strings_are_read(rt: HostRuntime) -> Result<(), AllocError> {
-    for (text, wanted) in STRINGS {
-        assert!(rt;
-            is_field(rt.alloc(), Field::Text, text, *wanted)?,
-            "at {text}"
-        );
-    }
-    Ok(())
-}
-
 // An id of 160 bytes.
 const LONGEST_ID: &str = "\
 xxxxxxxxxxxxxxxxxxxxxxxxxxxxxxxxxxxxxxxxxxxxxxxxxxxxxxxxxxxxxxxxxxxxxxxxxxxxxxxx\
@@ -238,7 +188,11 @@ xxxxxxxxxxxxxxxxxxxxxxxxxxxxxxxxxxxxxxxxxxxxxxxxxxxxxxxxxxxxxxxxxxxxxxxxxxxxxxxx
 xxxxxxxxxxxxxxxxxxxxxxxxxxxxxxxxxxxxxxxxxxxxxxxxxxxxxxxxxxxxxxxxxxxxxxxxxxxxxxxxx";
 
 #[test]
-fn an_id_has_at_most_160_bytes(rt: HostRuntime) -> Result<(), AllocError> {
+fn fields_are_read(rt: HostRuntime) -> Result<(), AllocError> {
+    for (field, text, wanted) in FIELDS {
+        assert!(rt; is_field(rt.alloc(), *field, text, *wanted)?, "at {text}");
+    }
+    // an id has at most 160 bytes
     let read = Wanted::Id(LONGEST_ID.as_bytes());
     assert!(rt; LONGEST_ID.len() == 160 && TOO_LONG_ID.len() == 161);
     assert!(rt; is_field(rt.alloc(), Field::Id, LONGEST_ID, read)?);

@@ -139,54 +139,25 @@ static VALID_WORDS: [(&[&str], Start); 14] = [
     (&[BOARD, "--after="], Start::After("")),
 ];
 
+// A request for these random numbers.
+const FOUR_NUMBERS: Wanted = Wanted::Flip(FlipParams {
+    start: -1,
+    skip: 2,
+    count: 3,
+    m: 4,
+});
+
 #[test]
 fn valid_command_lines(rt: HostRuntime) -> Result<(), Fail> {
+    let alloc = rt.alloc();
     for (words, start) in VALID_WORDS {
-        check(
-            &rt,
-            rt.alloc(),
-            &["sgb", "names"],
-            words,
-            Wanted::Names(start),
-        )?;
-        check(
-            &rt,
-            rt.alloc(),
-            &["sgb", "list"],
-            words,
-            Wanted::List(start),
-        )?;
+        check(&rt, alloc, &["sgb", "names"], words, Wanted::Names(start))?;
+        check(&rt, alloc, &["sgb", "list"], words, Wanted::List(start))?;
     }
-    Ok(())
-}
-
-#[test]
-fn save_takes_an_expression(rt: HostRuntime) -> Result<(), Fail> {
-    check(&rt, rt.alloc(), &["sgb", "save"], &[BOARD], Wanted::Save)
-}
-
-#[test]
-fn flip_takes_its_numbers(rt: HostRuntime) -> Result<(), Fail> {
-    let wanted = Wanted::Flip(FlipParams {
-        start: -1,
-        skip: 2,
-        count: 3,
-        m: 4,
-    });
-    check(
-        &rt,
-        rt.alloc(),
-        &["sgb", "flip"],
-        &["flip(-1,2,3,4)"],
-        wanted,
-    )?;
-    check(
-        &rt,
-        rt.alloc(),
-        &["sgb", "flip"],
-        &["--", "flip(-1,2,3,4)"],
-        wanted,
-    )
+    check(&rt, alloc, &["sgb", "save"], &[BOARD], Wanted::Save)?;
+    let flip = ["sgb", "flip"];
+    check(&rt, alloc, &flip, &["flip(-1,2,3,4)"], FOUR_NUMBERS)?;
+    check(&rt, alloc, &flip, &["--", "flip(-1,2,3,4)"], FOUR_NUMBERS)
 }
 
 #[test]

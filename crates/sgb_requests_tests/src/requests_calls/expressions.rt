@@ -12,13 +12,9 @@ fn is_read_as(alloc: Global, text: &[u8], wanted: &Expr) -> bool {
 }
 
 #[test]
-fn the_expression_that_a_text_is(rt: HostRuntime) {
-    let wanted = Expr::Generator(Generator::Board(complete(3)));
-    assert!(rt; is_read_as(rt.alloc(), b"complete(3)", &wanted));
-}
-
-#[test]
-fn the_flip_that_a_text_is(rt: HostRuntime) {
+fn the_expression_or_the_flip_that_a_text_is(rt: HostRuntime) {
+    let board = Expr::Generator(Generator::Board(complete(3)));
+    assert!(rt; is_read_as(rt.alloc(), b"complete(3)", &board));
     let wanted = FlipParams {
         start: -1,
         skip: 2,
