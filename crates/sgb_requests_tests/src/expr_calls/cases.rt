@@ -78,16 +78,26 @@ pub(crate) fn push_all(text: &mut String, parts: &[Times]) -> Result<(), AllocEr
     Ok(())
 }
 
-/// Whether these texts, one after another, are of this form, or refused for this reason.
-pub(crate) fn is_answer(
-    alloc: Global,
-    form: Form,
-    parts: &[Times],
-    why: Option<Unread>,
-) -> Result<bool, AllocError> {
+/// Texts that make up one, and why that is not of a form, if it is not.
+#[derive(Clone, Copy)]
+pub(crate) struct Limit(pub(crate) &'static [Times], pub(crate) Option<Unread>);
+
+// Whether the texts, one after another, are of this form, or refused for the reason.
+fn is_answer(alloc: Global, form: Form, limit: Limit) -> Result<bool, AllocError> {
+    let Limit(parts, why) = limit;
     let mut text = String::new(alloc);
     push_all(&mut text, parts)?;
     Ok(refusal(alloc, form, text.as_bytes()) == why)
+}
+
+/// Whether it is so of all.
+pub(crate) fn are_answers(alloc: Global, form: Form, all: &[Limit]) -> Result<bool, AllocError> {
+    for limit in all {
+        if !is_answer(alloc, form, *limit)? {
+            return Ok(false);
+        }
+    }
+    Ok(true)
 }
 
 /// Reads the text of each line, which has to go wrong at its mark: a line is a text that is not of this form, with a

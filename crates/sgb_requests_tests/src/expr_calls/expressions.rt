@@ -1,4 +1,4 @@
-use super::cases::{Form, Times, check_cut, check_read, is_answer, refusal};
+use super::cases::{Form, Limit, Times, are_answers, check_cut, check_read, refusal};
 use sgb_expr::*;
 use std::alloc::{AllocError, Global};
 
@@ -183,25 +183,30 @@ fn other_texts_go_wrong_somewhere(rt: HostRuntime) -> Result<(), AllocError> {
 
 /// Texts about the limits, each with why it is not read, if it is not: parentheses are open at most 64 deep, of an
 /// expression, of one that has no end, and of a text that is none; and a text has at most 65536 bytes.
-const LIMITS: [([Times; 3], Option<Unread>); 9] = [
-    (
-        [Times(63, "complement("), Times(1, "petersen()"), Times(63, ",0,0,0)")],
+const LIMITS: [Limit; 9] = [
+    Limit(
+        &[
+            Times(63, "complement("),
+            Times(1, "petersen()"),
+            Times(63, ",0,0,0)"),
+        ],
         None,
     ),
-    (
-        [Times(64, "complement("), Times(1, "petersen()"), Times(64, ",0,0,0)")],
+    Limit(
+        &[
+            Times(64, "complement("),
+            Times(1, "petersen()"),
+            Times(64, ",0,0,0)"),
+        ],
         Some(Unread::TooLarge),
     ),
-    (
-        [Times(64, "complement("), Times(0, ""), Times(0, "")],
-        Some(Unread::At(704)),
-    ),
-    ([Times(0, ")"), Times(64, "("), Times(0, "")], Some(Unread::At(0))),
-    ([Times(0, ")"), Times(65, "("), Times(0, "")], Some(Unread::TooLarge)),
-    ([Times(70, ")"), Times(134, "("), Times(0, "")], Some(Unread::At(0))),
-    ([Times(70, ")"), Times(135, "("), Times(0, "")], Some(Unread::TooLarge)),
-    ([Times(65_536, "x"), Times(0, ""), Times(0, "")], Some(Unread::At(0))),
-    ([Times(65_537, "x"), Times(0, ""), Times(0, "")], Some(Unread::TooLarge)),
+    Limit(&[Times(64, "complement(")], Some(Unread::At(704))),
+    Limit(&[Times(64, "(")], Some(Unread::At(0))),
+    Limit(&[Times(65, "(")], Some(Unread::TooLarge)),
+    Limit(&[Times(70, ")"), Times(134, "(")], Some(Unread::At(0))),
+    Limit(&[Times(70, ")"), Times(135, "(")], Some(Unread::TooLarge)),
+    Limit(&[Times(65_536, "x")], Some(Unread::At(0))),
+    Limit(&[Times(65_537, "x")], Some(Unread::TooLarge)),
 ];
 
 /// The union of the graph with itself, with this text in place of its flags.
@@ -237,9 +242,7 @@ fn is_answer_to_doubled(
 #[test]
 fn large_texts_are_not_read(rt: HostRuntime) -> Result<(), AllocError> {
     let alloc = rt.alloc();
-    for (parts, why) in LIMITS {
-        assert!(rt; is_answer(alloc, Form::Expr, &parts, why)?);
-    }
+    assert!(rt; are_answers(alloc, Form::Expr, &LIMITS)?);
     assert!(rt; is_answer_to_doubled(alloc, ",00000000000000,0)", 65_536, None)?);
     let refused = Some(Unread::TooLarge);
     assert!(rt; is_answer_to_doubled(alloc, ",000000000000000,0)", 65_537, refused)?);

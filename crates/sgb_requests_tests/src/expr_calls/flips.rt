@@ -1,4 +1,4 @@
-use super::cases::{Form, Times, check_cut, flip_of, is_answer};
+use super::cases::{Form, Limit, Times, are_answers, check_cut, flip_of};
 use sgb_expr::*;
 use std::alloc::AllocError;
 
@@ -69,17 +69,15 @@ flip(1,2,3,000000000000000000|0)
 |petersen()";
 
 /// Texts that are too large, or just not: of parentheses that open, and of bytes.
-const LARGE: [([Times; 1], Unread); 4] = [
-    ([Times(64, "(")], Unread::At(0)),
-    ([Times(65, "(")], Unread::TooLarge),
-    ([Times(65_536, "f")], Unread::At(1)),
-    ([Times(65_537, "f")], Unread::TooLarge),
+const LARGE: [Limit; 4] = [
+    Limit(&[Times(64, "(")], Some(Unread::At(0))),
+    Limit(&[Times(65, "(")], Some(Unread::TooLarge)),
+    Limit(&[Times(65_536, "f")], Some(Unread::At(1))),
+    Limit(&[Times(65_537, "f")], Some(Unread::TooLarge)),
 ];
 
 #[test]
 fn other_texts_go_wrong_somewhere(rt: HostRuntime) -> Result<(), AllocError> {
-    for (parts, why) in LARGE {
-        assert!(rt; is_answer(rt.alloc(), Form::Flip, &parts, Some(why))?);
-    }
+    assert!(rt; are_answers(rt.alloc(), Form::Flip, &LARGE)?);
     check_cut(&rt, rt.alloc(), Form::Flip, CUT)
 }

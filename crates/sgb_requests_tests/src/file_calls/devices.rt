@@ -148,7 +148,13 @@ fn is_kept(alloc: Global, calls: &[Call], bytes: &[u8]) -> bool {
 fn sinks_take_their_bytes(rt: HostRuntime) {
     assert!(rt; is_kept(rt.alloc(), &KEPT_BY_MEMORY, b"abcde"));
     // those that are cut have what fits, and fail where they are full or at their flush
-    assert!(rt; takes(CutSink::<64>::new(4, 10, false), &TAKEN_UP_TO_10, b"abcdefghij"));
+    assert!(rt;
+        takes(
+            CutSink::<64>::new(4, 10, false),
+            &TAKEN_UP_TO_10,
+            b"abcdefghij"
+        )
+    );
     assert!(rt; takes(CutSink::<3>::new(2, 10, false), &TAKEN_WHEN_FULL, b"abc"));
     assert!(rt; takes(CutSink::<8>::new(8, 8, true), &FAILED_AT_FLUSH, b"abc"));
 }

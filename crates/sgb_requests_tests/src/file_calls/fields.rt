@@ -20,127 +20,169 @@ enum Wanted<'a> {
     Id(&'a [u8]),
 }
 
-// A field of a file.
+// A field of a file of three vertices and two arc records: what stands before it, and what after it.
 #[derive(Clone, Copy)]
-enum Field {
-    Id,
-    First,
-    Integer,
-    Text,
-    Vertex,
-}
+struct Field(&'static str, &'static str);
 
-// Texts of fields, each with what is to be read of it.
-const FIELDS: &[(Field, &str, Wanted)] = &[
-    // an integer of the first vertex
-    (Field::Integer, "5", Wanted::Integer(5)),
-    (Field::Integer, "-5", Wanted::Integer(-5)),
-    (Field::Integer, "-0", Wanted::Integer(0)),
-    (Field::Integer, "007", Wanted::Integer(7)),
-    (Field::Integer, "00000000000000000005", Wanted::Integer(5)),
-    (Field::Integer, "000000000000000000005", Wanted::Refusal),
-    (Field::Integer, "999999999999999999", Wanted::Integer(999999999999999999)),
-    (Field::Integer, "1000000000000000000", Wanted::Integer(1000000000000000000)),
-    (Field::Integer, "9223372036854775807", Wanted::Integer(9223372036854775807)),
-    (Field::Integer, "9223372036854775808", Wanted::Refusal),
-    (Field::Integer, "-9223372036854775808", Wanted::Integer(-9223372036854775808)),
-    (Field::Integer, "-9223372036854775809", Wanted::Refusal),
-    (Field::Integer, "99999999999999999999", Wanted::Refusal),
-    (Field::Integer, "", Wanted::Refusal),
-    (Field::Integer, "-", Wanted::Refusal),
-    (Field::Integer, "+5", Wanted::Refusal),
-    (Field::Integer, "5x", Wanted::Refusal),
-    (Field::Integer, " 5", Wanted::Refusal),
-    // a vertex in a field of the first arc record
-    (Field::Vertex, "V0", Wanted::Vertex(Ref::At(0))),
-    (Field::Vertex, "V002", Wanted::Vertex(Ref::At(2))),
-    (Field::Vertex, "V000000000000000002", Wanted::Vertex(Ref::At(2))),
-    (Field::Vertex, "V0000000000000000002", Wanted::Refusal),
-    (Field::Vertex, "V3", Wanted::Refusal),
-    (Field::Vertex, "V", Wanted::Refusal),
-    (Field::Vertex, "0", Wanted::Vertex(Ref::Null)),
-    (Field::Vertex, "1", Wanted::Vertex(Ref::One)),
-    (Field::Vertex, "00", Wanted::Refusal),
-    (Field::Vertex, "2", Wanted::Refusal),
-    (Field::Vertex, "", Wanted::Refusal),
-    (Field::Vertex, "A0", Wanted::Refusal),
-    // the first record of the first vertex
-    (Field::First, "A1", Wanted::First(Some(1))),
-    (Field::First, "A2", Wanted::Refusal),
-    (Field::First, "0", Wanted::First(None)),
-    (Field::First, "1", Wanted::Refusal),
-    (Field::First, "00", Wanted::Refusal),
-    (Field::First, "", Wanted::Refusal),
-    // a string of the first vertex
-    (Field::Text, "\"ab\"", Wanted::Text(b"ab")),
-    (Field::Text, "\"\"", Wanted::Text(b"")),
-    (Field::Text, "\"a\\\nb\"", Wanted::Text(b"ab")),
-    (Field::Text, "\"a\\\n\\\nb,\\\nc\"", Wanted::Text(b"ab,c")),
-    (Field::Text, "\"ab\",7", Wanted::Refusal),
-    (Field::Text, "\"a\nb\"", Wanted::Refusal),
-    (Field::Text, "\"a\\b\"", Wanted::Refusal),
-    (Field::Text, "\"a\\", Wanted::Refusal),
-    (Field::Text, "\"a", Wanted::Refusal),
-    (Field::Text, "a\"", Wanted::Refusal),
-    (Field::Text, "", Wanted::Refusal),
-];
-
-// The id, the first record, the integer and the string of the first vertex, and the vertex of the first arc record,
-// with this text in one of these fields.
-fn texts(field: Field, text: &str) -> [&str; 5] {
-    match field {
-        Field::Id => [text, "A1", "5", "\"\"", "0"],
-        Field::First => ["x", text, "5", "\"\"", "0"],
-        Field::Integer => ["x", "A1", text, "\"\"", "0"],
-        Field::Text => ["x", "A1", "5", text, "0"],
-        Field::Vertex => ["x", "A1", "5", "\"\"", text],
-    }
-}
-
-// A file with these fields.
-fn file(alloc: Global, texts: [&str; 5]) -> Result<String, AllocError> {
-    let [id, first, integer, string, vertex] = texts;
-    format!(in alloc;
-        "* GraphBase graph (util_types IZZZZSZVZZZZZZ,3V,2A)
-\"{id}\",3,2
+// The id.
+const ID: Field = Field(
+    "* GraphBase graph (util_types IZZZZSZVZZZZZZ,3V,2A)
+\"",
+    "\",3,2
 * Vertices
-\"a\",{first},{integer},{string}
+\"a\",A1,5,\"\"
 \"b\",0,0,\"\"
 \"c\",0,0,\"\"
 * Arcs
-V2,0,5,{vertex}
+V2,0,5,0
 V1,A0,-7,0
 * Checksum -1
-"
-    )
+",
+);
+
+// The first record of the first vertex.
+const FIRST: Field = Field(
+    "* GraphBase graph (util_types IZZZZSZVZZZZZZ,3V,2A)
+\"x\",3,2
+* Vertices
+\"a\",",
+    ",5,\"\"
+\"b\",0,0,\"\"
+\"c\",0,0,\"\"
+* Arcs
+V2,0,5,0
+V1,A0,-7,0
+* Checksum -1
+",
+);
+
+// Its integer.
+const INTEGER: Field = Field(
+    "* GraphBase graph (util_types IZZZZSZVZZZZZZ,3V,2A)
+\"x\",3,2
+* Vertices
+\"a\",A1,",
+    ",\"\"
+\"b\",0,0,\"\"
+\"c\",0,0,\"\"
+* Arcs
+V2,0,5,0
+V1,A0,-7,0
+* Checksum -1
+",
+);
+
+// Its string.
+const STRING: Field = Field(
+    "* GraphBase graph (util_types IZZZZSZVZZZZZZ,3V,2A)
+\"x\",3,2
+* Vertices
+\"a\",A1,5,",
+    "
+\"b\",0,0,\"\"
+\"c\",0,0,\"\"
+* Arcs
+V2,0,5,0
+V1,A0,-7,0
+* Checksum -1
+",
+);
+
+// The vertex of the first arc record.
+const VERTEX: Field = Field(
+    "* GraphBase graph (util_types IZZZZSZVZZZZZZ,3V,2A)
+\"x\",3,2
+* Vertices
+\"a\",A1,5,\"\"
+\"b\",0,0,\"\"
+\"c\",0,0,\"\"
+* Arcs
+V2,0,5,",
+    "
+V1,A0,-7,0
+* Checksum -1
+",
+);
+
+// Texts of that integer, each with what is to be read of it.
+const INTEGERS: &[(&str, Wanted)] = &[
+    ("5", Wanted::Integer(5)),
+    ("-5", Wanted::Integer(-5)),
+    ("-0", Wanted::Integer(0)),
+    ("007", Wanted::Integer(7)),
+    ("00000000000000000005", Wanted::Integer(5)),
+    ("000000000000000000005", Wanted::Refusal),
+    ("999999999999999999", Wanted::Integer(999999999999999999)),
+    ("1000000000000000000", Wanted::Integer(1000000000000000000)),
+    ("9223372036854775807", Wanted::Integer(9223372036854775807)),
+    ("9223372036854775808", Wanted::Refusal),
+    (
+        "-9223372036854775808",
+        Wanted::Integer(-9223372036854775808),
+    ),
+    ("-9223372036854775809", Wanted::Refusal),
+    ("99999999999999999999", Wanted::Refusal),
+    ("", Wanted::Refusal),
+    ("-", Wanted::Refusal),
+    ("+5", Wanted::Refusal),
+    ("5x", Wanted::Refusal),
+    (" 5", Wanted::Refusal),
+];
+
+// Those of the vertex of the first arc record.
+const REFS: &[(&str, Wanted)] = &[
+    ("V0", Wanted::Vertex(Ref::At(0))),
+    ("V002", Wanted::Vertex(Ref::At(2))),
+    ("V000000000000000002", Wanted::Vertex(Ref::At(2))),
+    ("V0000000000000000002", Wanted::Refusal),
+    ("V3", Wanted::Refusal),
+    ("V", Wanted::Refusal),
+    ("0", Wanted::Vertex(Ref::Null)),
+    ("1", Wanted::Vertex(Ref::One)),
+    ("00", Wanted::Refusal),
+    ("2", Wanted::Refusal),
+    ("", Wanted::Refusal),
+    ("A0", Wanted::Refusal),
+];
+
+// Those of the first record of the first vertex.
+const RECORD_NUMBERS: &[(&str, Wanted)] = &[
+    ("A1", Wanted::First(Some(1))),
+    ("A2", Wanted::Refusal),
+    ("0", Wanted::First(None)),
+    ("1", Wanted::Refusal),
+    ("00", Wanted::Refusal),
+    ("", Wanted::Refusal),
+];
+
+// Those of its string.
+const STRINGS: &[(&str, Wanted)] = &[
+    ("\"ab\"", Wanted::Text(b"ab")),
+    ("\"\"", Wanted::Text(b"")),
+    ("\"a\\\nb\"", Wanted::Text(b"ab")),
+    ("\"a\\\n\\\nb,\\\nc\"", Wanted::Text(b"ab,c")),
+    ("\"ab\",7", Wanted::Refusal),
+    ("\"a\nb\"", Wanted::Refusal),
+    ("\"a\\b\"", Wanted::Refusal),
+    ("\"a\\", Wanted::Refusal),
+    ("\"a", Wanted::Refusal),
+    ("a\"", Wanted::Refusal),
+    ("", Wanted::Refusal),
+];
+
+// Whether the field holds this integer.
+fn holds_integer(field: UtilRef<'_>, number: i64) -> bool {
+    matches!(field, UtilRef::Int(held) if held == number)
 }
 
-// Whether the field holds this.
-fn holds(field: UtilRef<'_>, wanted: Wanted<'_>) -> bool {
-    match (field, wanted) {
-        (UtilRef::Int(number), Wanted::Integer(expected)) => number == expected,
-        (UtilRef::Vertex(vertex), Wanted::Vertex(expected)) => vertex == expected,
-        (UtilRef::Str(text), Wanted::Text(expected)) => text.bytes() == expected,
-        _ => false,
-    }
+// Whether it holds this vertex.
+fn holds_vertex(field: UtilRef<'_>, vertex: Ref) -> bool {
+    matches!(field, UtilRef::Vertex(held) if held == vertex)
 }
 
-// Whether the first field of the first vertex holds this.
-fn holds_first(graph: &Graph, wanted: Wanted<'_>) -> bool {
-    if graph.n() == 0 {
-        return false;
-    }
-    let fields = graph.vertex(0).util;
-    holds(fields[0], wanted)
-}
-
-// Whether its last field does.
-fn holds_last(graph: &Graph, wanted: Wanted<'_>) -> bool {
-    if graph.n() == 0 {
-        return false;
-    }
-    let fields = graph.vertex(0).util;
-    holds(fields[5], wanted)
+// Whether it holds this string.
+fn holds_text(field: UtilRef<'_>, text: &[u8]) -> bool {
+    matches!(field, UtilRef::Str(held) if held.bytes() == text)
 }
 
 // Whether the graph has this.
@@ -148,11 +190,12 @@ fn has(graph: &Graph, wanted: Wanted<'_>) -> bool {
     if graph.n() == 0 || graph.records_len() == 0 {
         return false;
     }
+    let fields = graph.vertex(0).util;
     match wanted {
         Wanted::Refusal => false,
-        Wanted::Integer(_) => holds_first(graph, wanted),
-        Wanted::Text(_) => holds_last(graph, wanted),
-        Wanted::Vertex(_) => holds(graph.arc_rec(0).b, wanted),
+        Wanted::Integer(number) => holds_integer(fields[0], number),
+        Wanted::Text(text) => holds_text(fields[5], text),
+        Wanted::Vertex(vertex) => holds_vertex(graph.arc_rec(0).b, vertex),
         Wanted::First(first) => graph.vertex(0).arcs == first,
         Wanted::Id(id) => graph.id().bytes() == id,
     }
@@ -166,6 +209,15 @@ fn is_read(alloc: Global, file: &[u8], wanted: Wanted<'_>) -> bool {
     }
 }
 
+// A file with this text in the field.
+fn file(alloc: Global, field: Field, text: &str) -> Result<String, AllocError> {
+    let Field(before, after) = field;
+    let mut file = String::from_str(alloc, before)?;
+    file.push_str(text)?;
+    file.push_str(after)?;
+    Ok(file)
+}
+
 // Whether a file with this text in the field is read so.
 fn is_field(
     alloc: Global,
@@ -173,7 +225,7 @@ fn is_field(
     text: &str,
     wanted: Wanted<'_>,
 ) -> Result<bool, AllocError> {
-    let file = file(alloc, texts(field, text))?;
+    let file = file(alloc, field, text)?;
     Ok(is_read(alloc, file.as_bytes(), wanted))
 }
 
@@ -189,13 +241,22 @@ xxxxxxxxxxxxxxxxxxxxxxxxxxxxxxxxxxxxxxxxxxxxxxxxxxxxxxxxxxxxxxxxxxxxxxxxxxxxxxxx
 
 #[test]
 fn fields_are_read(rt: HostRuntime) -> Result<(), AllocError> {
-    for (field, text, wanted) in FIELDS {
-        assert!(rt; is_field(rt.alloc(), *field, text, *wanted)?, "at {text}");
+    for (text, wanted) in INTEGERS {
+        assert!(rt; is_field(rt.alloc(), INTEGER, text, *wanted)?, "at {text}");
+    }
+    for (text, wanted) in REFS {
+        assert!(rt; is_field(rt.alloc(), VERTEX, text, *wanted)?, "at {text}");
+    }
+    for (text, wanted) in RECORD_NUMBERS {
+        assert!(rt; is_field(rt.alloc(), FIRST, text, *wanted)?, "at {text}");
+    }
+    for (text, wanted) in STRINGS {
+        assert!(rt; is_field(rt.alloc(), STRING, text, *wanted)?, "at {text}");
     }
     // an id has at most 160 bytes
     let read = Wanted::Id(LONGEST_ID.as_bytes());
     assert!(rt; LONGEST_ID.len() == 160 && TOO_LONG_ID.len() == 161);
-    assert!(rt; is_field(rt.alloc(), Field::Id, LONGEST_ID, read)?);
-    assert!(rt; is_field(rt.alloc(), Field::Id, TOO_LONG_ID, Wanted::Refusal)?);
+    assert!(rt; is_field(rt.alloc(), ID, LONGEST_ID, read)?);
+    assert!(rt; is_field(rt.alloc(), ID, TOO_LONG_ID, Wanted::Refusal)?);
     Ok(())
 }

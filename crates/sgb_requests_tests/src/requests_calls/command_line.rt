@@ -118,26 +118,42 @@ const BOARD: &str = "board(2,3,0,0,1,0,0)";
 
 const FLIP: &str = "flip(1,0,0,0)";
 
-// Words after a command's name, and where the answer begins by them.
-static VALID_WORDS: [(&[&str], Start); 14] = [
-    (&[BOARD], Start::Whole),
-    (&["--", BOARD], Start::Whole),
-    (&[BOARD, "--skip", "1799"], Start::Skip(1799)),
-    (&["--skip", "007", BOARD], Start::Skip(7)),
-    (&[BOARD, "--skip=5"], Start::Skip(5)),
-    (&["--skip", "3", BOARD], Start::Skip(3)),
-    (&[BOARD, "--skip", "0"], Start::Skip(0)),
+// Words after a command's name by which the answer is whole.
+static WHOLE: [&[&str]; 2] = [&[BOARD], &["--", BOARD]];
+
+// Words by which so many names or vertices are left out.
+static SKIPPED: [(&[&str], u64); 6] = [
+    (&[BOARD, "--skip", "1799"], 1799),
+    (&["--skip", "007", BOARD], 7),
+    (&[BOARD, "--skip=5"], 5),
+    (&["--skip", "3", BOARD], 3),
+    (&[BOARD, "--skip", "0"], 0),
     (
         &[BOARD, "--skip", "999999999999999999"],
-        Start::Skip(999_999_999_999_999_999),
+        999_999_999_999_999_999,
     ),
-    (&[BOARD, "--after", "1"], Start::After("1")),
-    (&["--after", "0.2", BOARD], Start::After("0.2")),
-    (&[BOARD, "--after=-x"], Start::After("-x")),
-    (&["--after=--skip", BOARD], Start::After("--skip")),
-    (&[BOARD, "--after", ""], Start::After("")),
-    (&[BOARD, "--after="], Start::After("")),
 ];
+
+// Words by which the answer begins after this name.
+static AFTER: [(&[&str], &str); 6] = [
+    (&[BOARD, "--after", "1"], "1"),
+    (&["--after", "0.2", BOARD], "0.2"),
+    (&[BOARD, "--after=-x"], "-x"),
+    (&["--after=--skip", BOARD], "--skip"),
+    (&[BOARD, "--after", ""], ""),
+    (&[BOARD, "--after="], ""),
+];
+
+// Says whether the names, or the listing, that the words ask for do not begin there.
+fn check_start(
+    rt: &impl Abort,
+    alloc: Global,
+    words: &[&str],
+    start: Start<'_>,
+) -> Result<(), Fail> {
+    check(rt, alloc, &["sgb", "names"], words, Wanted::Names(start))?;
+    check(rt, alloc, &["sgb", "list"], words, Wanted::List(start))
+}
 
 // A request for these random numbers.
 const FOUR_NUMBERS: Wanted = Wanted::Flip(FlipParams {
@@ -150,9 +166,14 @@ const FOUR_NUMBERS: Wanted = Wanted::Flip(FlipParams {
 #[test]
 fn valid_command_lines(rt: HostRuntime) -> Result<(), Fail> {
     let alloc = rt.alloc();
-    for (words, start) in VALID_WORDS {
-        check(&rt, alloc, &["sgb", "names"], words, Wanted::Names(start))?;
-        check(&rt, alloc, &["sgb", "list"], words, Wanted::List(start))?;
+    for words in &WHOLE {
+        check_start(&rt, alloc, words, Start::Whole)?;
+    }
+    for (words, count) in &SKIPPED {
+        check_start(&rt, alloc, words, Start::Skip(*count))?;
+    }
+    for (words, name) in &AFTER {
+        check_start(&rt, alloc, words, Start::After(name))?;
     }
     check(&rt, alloc, &["sgb", "save"], &[BOARD], Wanted::Save)?;
     let flip = ["sgb", "flip"];
@@ -223,7 +244,7 @@ static INVALID_COMMAND_LINES: [&[&str]; 50] = [
 
 #[test]
 fn invalid_command_lines(rt: HostRuntime) -> Result<(), Fail> {
-    for words in INVALID_COMMAND_LINES {
+    for words in &INVALID_COMMAND_LINES {
         check(&rt, rt.alloc(), words, &[], Wanted::Usage)?;
     }
     Ok(())
