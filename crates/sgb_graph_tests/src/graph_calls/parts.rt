@@ -256,7 +256,14 @@ fn chains_end_and_lists_lead_to_vertices(rt: HostRuntime) {
     let loop_of_one = Wanted::Lists(1, &[&[(0, 0, 1)]]);
     assert!(rt; are(alloc, &[Some(0)], &[(Ref::At(0), None)], loop_of_one));
     let records = [(Ref::At(1), None), (Ref::At(0), Some(0))];
-    assert!(rt; are(alloc, &[Some(0), Some(1)], &records, Wanted::Lists(2, &SHARED)));
+    assert!(rt;
+        are(
+            alloc,
+            &[Some(0), Some(1)],
+            &records,
+            Wanted::Lists(2, &SHARED)
+        )
+    );
     assert!(rt; are(alloc, &[None], &[(Ref::Null, None)], Wanted::Graph));
     for (firsts, records) in &REFUSED {
         assert!(rt; are(alloc, firsts, records, Wanted::Refusal));

@@ -75,7 +75,11 @@ fn are_met<F: Family>(family: &F, expected: &[&[u32]], back: bool) -> bool {
     let mut steps = Steps::new();
     let mut more = begins(family, back, &mut vector, &mut steps);
     for place in 0..expected.len() {
-        let entries = expected[if back { expected.len() - 1 - place } else { place }];
+        let entries = expected[if back {
+            expected.len() - 1 - place
+        } else {
+            place
+        }];
         if !more || vector.as_slice() != entries || !family.holds(vector.as_slice()) {
             return false;
         }
