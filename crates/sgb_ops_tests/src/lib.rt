@@ -4,6 +4,12 @@
 // `sgb_gen`
 #[cfg(test)]
 mod gen_calls;
+// graphs that are made of numbers, and what is known of a graph
+#[cfg(test)]
+mod graphs;
+// the operations as values, and cases
+#[cfg(test)]
+mod operations;
 // `sgb_ops`
 #[cfg(test)]
 mod ops_calls;

@@ -4,7 +4,6 @@ use sgb_gen::{Board, BoardLists, BoardParams, Links};
 use sgb_graph::Graph;
 use sgb_vec::{Family, Panic, Vectors};
 use std::alloc::Global;
-use std::test::Fail;
 
 // Parameters of boards whose lists are compared with those of the built graphs, each with both directions: leapers
 // and riders, with sides that wrap around and loops.
@@ -75,33 +74,24 @@ fn are_lists(alloc: Global, params: &BoardParams) -> Result<bool, Panic> {
 }
 
 #[test]
-fn lists_of_the_built_graph(rt: HostRuntime) -> Result<(), Fail> {
+fn lists_of_the_built_graph(rt: HostRuntime) {
     for numbers in &BOARDS {
         for directed in [false, true] {
-            assert!(rt; are_lists(rt.alloc(), &params_of(numbers, directed))?);
+            assert!(rt; are_lists(rt.alloc(), &params_of(numbers, directed)) == Ok(true));
         }
     }
-    Ok(())
 }
 
-// How many arcs lead from a place of this board; none where it has no such place.
-fn arcs_from(board: &Board, place: &[u32], links: &mut Links) -> Result<usize, Panic> {
+// How many arcs lead from a place of this board, as its lists have them. `None` where it has no such place.
+fn arcs_from(board: &Board, place: &[u32], links: &mut Links) -> Option<u64> {
     if !board.family().holds(place) {
-        return Ok(0);
+        return None;
     }
     let mut lists = board.lists(links);
-    lists.arcs_at(place, links)?;
-    Ok(links.len())
-}
-
-// 19 sides of two: the displacements of four units are too many for a table. From the least place they change four of the
-// 19 entries, which is C(19,4) places.
-#[test]
-fn a_list_by_many_displacements(rt: HostRuntime) -> Result<(), Fail> {
-    let board = board_of(&[2, -19, 0, 0, 4, 0], false)?;
-    let count = arcs_from(&board, &[0; 19], &mut Links::new(rt.alloc()))?;
-    assert!(rt; count == 3_876);
-    Ok(())
+    if lists.arcs_at(place, links).is_err() {
+        return None;
+    }
+    Some(links.len() as u64)
 }
 
 // How many arcs the list of a vertex has where it is had run by run. `None` where it is not, or `x` is no vertex.
@@ -138,38 +128,158 @@ fn entry_from(
     Some(runs.entry_at(k, amount, l))
 }
 
-// A move that a side does not stop, one that it stops, and one around a side.
-#[test]
-fn entries_along_runs(rt: HostRuntime) -> Result<(), Fail> {
-    let links = Links::new(rt.alloc());
-    let rooks = board_of(&[3, 5, 0, 0, -1, 0], false)?;
-    assert!(rt; entry_from(&rooks, &links, &[2, 1], (1, 1, 3)) == Some(4));
-    assert!(rt; entry_from(&rooks, &links, &[2, 1], (1, 1, 4)) == Some(0));
-    let torus = board_of(&[8, 8, 0, 0, 5, 3], false)?;
-    assert!(rt; entry_from(&torus, &links, &[2, 5], (1, 2, 2)) == Some(1));
-    Ok(())
+// What is expected at a place of a board.
+enum Wanted {
+    // So many arcs.
+    Arcs(u64),
+    // So many arcs, run by run.
+    Runs(u64),
+    // No runs.
+    NoRuns,
+    // The entry where this coordinate leads, by this amount for each unit of this length.
+    Entry((usize, i32, u32), u32),
 }
 
-// Knights of 8 by 8, which move to 2 places from a corner, 4 from a square on an edge and 8 from the middle; rooks of 3 by 5, of which
-// one moves 6 places. Where sides wrap around, the lists of leapers are had so that no side is near, and no others.
-#[test]
-fn arcs_run_by_run(rt: HostRuntime) -> Result<(), Fail> {
-    let links = Links::new(rt.alloc());
-    let knights = board_of(&[8, 8, 0, 0, 5, 0], false)?;
-    for (x, count) in [([0, 0], 2), ([0, 3], 4), ([4, 4], 8), ([1, 1], 4)] {
-        assert!(rt; arcs_of_runs(&knights, &links, &x) == Some(count));
+// A board, whether it is directed, a place, and what is expected there.
+struct Row {
+    numbers: [i64; 6],
+    directed: bool,
+    place: &'static [u32],
+    wanted: Wanted,
+}
+
+impl Row {
+    // Whether the board has it.
+    fn is_met_by(&self, board: &Board, links: &mut Links) -> bool {
+        match self.wanted {
+            Wanted::Arcs(count) => arcs_from(board, self.place, links) == Some(count),
+            Wanted::Runs(count) => arcs_of_runs(board, links, self.place) == Some(count),
+            Wanted::NoRuns => arcs_of_runs(board, links, self.place).is_none(),
+            Wanted::Entry(along, entry) => {
+                entry_from(board, links, self.place, along) == Some(entry)
+            }
+        }
     }
-    let onward = board_of(&[8, 8, 0, 0, 5, 0], true)?;
-    assert!(rt; arcs_of_runs(&onward, &links, &[4, 4]) == Some(4));
-    let rooks = board_of(&[3, 5, 0, 0, -1, 0], false)?;
-    assert!(rt; arcs_of_runs(&rooks, &links, &[2, 1]) == Some(6));
-    let circle = board_of(&[5, 0, 0, 0, 1, 1], false)?;
-    assert!(rt; arcs_of_runs(&circle, &links, &[2]) == Some(2));
-    assert!(rt; arcs_of_runs(&circle, &links, &[4]).is_none());
-    let around = board_of(&[5, 0, 0, 0, -1, 1], false)?;
-    assert!(rt; arcs_of_runs(&around, &links, &[2]).is_none());
-    let torus = board_of(&[8, 8, 0, 0, 5, 3], false)?;
-    assert!(rt; arcs_of_runs(&torus, &links, &[2, 5]) == Some(8));
-    assert!(rt; arcs_of_runs(&torus, &links, &[1, 4]).is_none());
-    Ok(())
+
+    // Whether it is met.
+    fn is_met(&self, alloc: Global) -> bool {
+        let Ok(board) = board_of(&self.numbers, self.directed) else {
+            return false;
+        };
+        self.is_met_by(&board, &mut Links::new(alloc))
+    }
+}
+
+const KNIGHTS: [i64; 6] = [8, 8, 0, 0, 5, 0];
+
+const ROOKS: [i64; 6] = [3, 5, 0, 0, -1, 0];
+
+const CIRCLE: [i64; 6] = [5, 0, 0, 0, 1, 1];
+
+const TORUS: [i64; 6] = [8, 8, 0, 0, 5, 3];
+
+static ROWS: [Row; 15] = [
+    // 19 sides of two: the displacements of four units are too many for a table. From the least place they change four of the
+    // 19 entries, which is C(19,4) places.
+    Row {
+        numbers: [2, -19, 0, 0, 4, 0],
+        directed: false,
+        place: &[0, 0, 0, 0, 0, 0, 0, 0, 0, 0, 0, 0, 0, 0, 0, 0, 0, 0, 0],
+        wanted: Wanted::Arcs(3_876),
+    },
+    // a move that a side does not stop, one that it stops, and one around a side
+    Row {
+        numbers: ROOKS,
+        directed: false,
+        place: &[2, 1],
+        wanted: Wanted::Entry((1, 1, 3), 4),
+    },
+    Row {
+        numbers: ROOKS,
+        directed: false,
+        place: &[2, 1],
+        wanted: Wanted::Entry((1, 1, 4), 0),
+    },
+    Row {
+        numbers: TORUS,
+        directed: false,
+        place: &[2, 5],
+        wanted: Wanted::Entry((1, 2, 2), 1),
+    },
+    // knights move to 2 places from a corner, 4 from a square on an edge and 8 from the middle
+    Row {
+        numbers: KNIGHTS,
+        directed: false,
+        place: &[0, 0],
+        wanted: Wanted::Runs(2),
+    },
+    Row {
+        numbers: KNIGHTS,
+        directed: false,
+        place: &[0, 3],
+        wanted: Wanted::Runs(4),
+    },
+    Row {
+        numbers: KNIGHTS,
+        directed: false,
+        place: &[4, 4],
+        wanted: Wanted::Runs(8),
+    },
+    Row {
+        numbers: KNIGHTS,
+        directed: false,
+        place: &[1, 1],
+        wanted: Wanted::Runs(4),
+    },
+    Row {
+        numbers: KNIGHTS,
+        directed: true,
+        place: &[4, 4],
+        wanted: Wanted::Runs(4),
+    },
+    // one rook moves 6 places
+    Row {
+        numbers: ROOKS,
+        directed: false,
+        place: &[2, 1],
+        wanted: Wanted::Runs(6),
+    },
+    // where sides wrap around, the lists of leapers are had so that no side is near, and no others
+    Row {
+        numbers: CIRCLE,
+        directed: false,
+        place: &[2],
+        wanted: Wanted::Runs(2),
+    },
+    Row {
+        numbers: CIRCLE,
+        directed: false,
+        place: &[4],
+        wanted: Wanted::NoRuns,
+    },
+    Row {
+        numbers: [5, 0, 0, 0, -1, 1],
+        directed: false,
+        place: &[2],
+        wanted: Wanted::NoRuns,
+    },
+    Row {
+        numbers: TORUS,
+        directed: false,
+        place: &[2, 5],
+        wanted: Wanted::Runs(8),
+    },
+    Row {
+        numbers: TORUS,
+        directed: false,
+        place: &[1, 4],
+        wanted: Wanted::NoRuns,
+    },
+];
+
+#[test]
+fn places_of_boards(rt: HostRuntime) {
+    for (k, row) in ROWS.iter().enumerate() {
+        assert!(rt; row.is_met(rt.alloc()), "row {k}");
+    }
 }

@@ -2,8 +2,6 @@ use sgb_gen::{
     BoardParams, SubsetsParams, circuit, complete, cycle, disjoint_subsets, empty, petersen,
     transitive,
 };
-use sgb_graph::Graph;
-use sgb_vec::Panic;
 
 fn line(n: i64, piece: i64, wrap: i64, directed: bool) -> BoardParams {
     BoardParams {
@@ -42,24 +40,4 @@ fn subsets_that_are_disjoint(rt: HostRuntime) {
     assert!(rt; petersen() == expected);
     let many = disjoint_subsets(-999_999_999_999_999_999, 3);
     assert!(rt; many.n1 == 1_000_000_000_000_000_000);
-}
-
-// Whether there is a graph, with this id and so many vertices.
-fn is_graph(answer: Result<Graph, Panic>, id: &[u8], n: u32) -> bool {
-    let Ok(graph) = answer else {
-        return false;
-    };
-    graph.id().bytes() == id && graph.n() == n
-}
-
-#[test]
-fn graphs_of_short_names(rt: HostRuntime) {
-    assert!(rt; is_graph(complete(5).graph(rt.alloc()), b"board(5,0,0,0,-1,0,0)", 5));
-    assert!(rt;
-        is_graph(
-            petersen().graph(rt.alloc()),
-            b"subsets(2,1,-4,0,0,0,0x1,0)",
-            10
-        )
-    );
 }

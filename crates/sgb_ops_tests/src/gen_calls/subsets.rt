@@ -1,21 +1,4 @@
-use super::subsets_counts::subsets_of;
-use sgb_gen::{Subsets, common};
-use sgb_vec::Family;
-use std::test::Fail;
-
-// Whether these are subsets of 4 of at most 3, 4, 3, and 4 elements, with arcs.
-fn is_known(subsets: &Subsets) -> bool {
-    subsets.family().dims() == 4
-        && subsets.family().size() == 33
-        && subsets.id().bytes() == b"subsets(4,3,4,-3,0,0,0xabc,1)".as_slice()
-}
-
-#[test]
-fn parts_of_subsets(rt: HostRuntime) -> Result<(), Fail> {
-    let subsets = subsets_of(rt.alloc(), &[4, 3, 9, -3, 7, 7], 0xabc, true)?;
-    assert!(rt; is_known(&subsets));
-    Ok(())
-}
+use sgb_gen::common;
 
 #[test]
 fn elements_in_common(rt: HostRuntime) {

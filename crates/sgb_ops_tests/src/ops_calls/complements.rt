@@ -1,25 +1,24 @@
-use super::cases::{CYCLE, Expected, Known, LOOP, Operand, PATH, RIDERS};
-use super::operations::{OfOne, answers, answers_at_last};
-use sgb_vec::Panic;
+use crate::graphs::{CYCLE, Expected, LOOP, Made, NOTHING, PATH, RIDERS};
+use crate::operations::{Case, Operation, check_all};
 
-/// Operands with the flags copy, self_loops and directed, each with the id of the complement and what is known of it.
-static COMPLEMENTS: [(Operand, [bool; 3], &str, Known); 10] = [
-    (
-        PATH,
-        [false, false, false],
-        "complement(board(3,0,0,0,1,0,0),0,0,0)",
-        (
+/// Complements of small graphs, with the flags copy, self_loops and directed.
+static COMPLEMENTS: [Case; 10] = [
+    Case {
+        of: PATH,
+        by: &[Operation::Complement([false, false, false])],
+        gives: Expected::Graph(
+            "complement(board(3,0,0,0,1,0,0),0,0,0)",
             3,
             2,
             &[(0, "0", &[(2, 1)]), (1, "1", &[]), (2, "2", &[(0, 1)])],
         ),
-    ),
+    },
     // loops, and arcs both ways
-    (
-        PATH,
-        [false, true, true],
-        "complement(board(3,0,0,0,1,0,0),0,1,1)",
-        (
+    Case {
+        of: PATH,
+        by: &[Operation::Complement([false, true, true])],
+        gives: Expected::Graph(
+            "complement(board(3,0,0,0,1,0,0),0,1,1)",
             3,
             5,
             &[
@@ -28,13 +27,13 @@ static COMPLEMENTS: [(Operand, [bool; 3], &str, Known); 10] = [
                 (2, "2", &[(2, 1), (0, 1)]),
             ],
         ),
-    ),
+    },
     // a copy without parallel edges
-    (
-        RIDERS,
-        [true, false, false],
-        "complement(board(3,0,0,0,-1,1,0),1,0,0)",
-        (
+    Case {
+        of: RIDERS,
+        by: &[Operation::Complement([true, false, false])],
+        gives: Expected::Graph(
+            "complement(board(3,0,0,0,-1,1,0),1,0,0)",
             3,
             6,
             &[
@@ -43,38 +42,44 @@ static COMPLEMENTS: [(Operand, [bool; 3], &str, Known); 10] = [
                 (2, "2", &[(1, 1), (0, 1)]),
             ],
         ),
-    ),
+    },
     // the loop of one vertex
-    (
-        LOOP,
-        [true, true, false],
-        "complement(board(1,0,0,0,1,1,0),1,1,0)",
-        (1, 2, &[(0, "0", &[(0, 1), (0, 1)])]),
-    ),
-    (
-        LOOP,
-        [true, true, true],
-        "complement(board(1,0,0,0,1,1,0),1,1,1)",
-        (1, 1, &[(0, "0", &[(0, 1)])]),
-    ),
-    (
-        LOOP,
-        [true, false, false],
-        "complement(board(1,0,0,0,1,1,0),1,0,0)",
-        (1, 0, &[]),
-    ),
-    (
-        LOOP,
-        [false, true, false],
-        "complement(board(1,0,0,0,1,1,0),0,1,0)",
-        (1, 0, &[]),
-    ),
+    Case {
+        of: LOOP,
+        by: &[Operation::Complement([true, true, false])],
+        gives: Expected::Graph(
+            "complement(board(1,0,0,0,1,1,0),1,1,0)",
+            1,
+            2,
+            &[(0, "0", &[(0, 1), (0, 1)])],
+        ),
+    },
+    Case {
+        of: LOOP,
+        by: &[Operation::Complement([true, true, true])],
+        gives: Expected::Graph(
+            "complement(board(1,0,0,0,1,1,0),1,1,1)",
+            1,
+            1,
+            &[(0, "0", &[(0, 1)])],
+        ),
+    },
+    Case {
+        of: LOOP,
+        by: &[Operation::Complement([true, false, false])],
+        gives: Expected::Graph("complement(board(1,0,0,0,1,1,0),1,0,0)", 1, 0, &[]),
+    },
+    Case {
+        of: LOOP,
+        by: &[Operation::Complement([false, true, false])],
+        gives: Expected::Graph("complement(board(1,0,0,0,1,1,0),0,1,0)", 1, 0, &[]),
+    },
     // a directed cycle, whose complement has an edge where the smaller end has no arc to the greater one
-    (
-        CYCLE,
-        [false, false, true],
-        "complement(board(3,0,0,0,1,1,1),0,0,1)",
-        (
+    Case {
+        of: CYCLE,
+        by: &[Operation::Complement([false, false, true])],
+        gives: Expected::Graph(
+            "complement(board(3,0,0,0,1,1,1),0,0,1)",
             3,
             3,
             &[
@@ -83,59 +88,70 @@ static COMPLEMENTS: [(Operand, [bool; 3], &str, Known); 10] = [
                 (2, "2", &[(1, 1)]),
             ],
         ),
-    ),
-    (
-        CYCLE,
-        [false, false, false],
-        "complement(board(3,0,0,0,1,1,1),0,0,0)",
-        (
+    },
+    Case {
+        of: CYCLE,
+        by: &[Operation::Complement([false, false, false])],
+        gives: Expected::Graph(
+            "complement(board(3,0,0,0,1,1,1),0,0,0)",
             3,
             2,
             &[(0, "0", &[(2, 1)]), (1, "1", &[]), (2, "2", &[(0, 1)])],
         ),
-    ),
-    (
-        Operand::Nothing,
-        [false, true, false],
-        "complement(simplex(5,2,2,0,0,0,0),0,1,0)",
-        (0, 0, &[]),
-    ),
+    },
+    Case {
+        of: NOTHING,
+        by: &[Operation::Complement([false, true, false])],
+        gives: Expected::Graph("complement(simplex(5,2,2,0,0,0,0),0,1,0)", 0, 0, &[]),
+    },
 ];
 
 #[test]
-fn complements_of_small_graphs(rt: HostRuntime) -> Result<(), Panic> {
-    for row in &COMPLEMENTS {
-        let (operand, flags, id, known) = *row;
-        let expected = Expected::Graph(id, known);
-        assert!(rt;
-            answers(rt.alloc(), operand, OfOne::Complement(flags), expected)?,
-            "at {id}"
-        );
-    }
-    Ok(())
+fn complements_of_small_graphs(rt: HostRuntime) {
+    check_all(&rt, rt.alloc(), &COMPLEMENTS);
+}
+
+// Riders have parallel edges.
+static PARALLEL: [Case; 1] = [Case {
+    of: RIDERS,
+    by: &[],
+    gives: Expected::Arcs(12),
+}];
+
+#[test]
+fn riders_have_parallel_edges(rt: HostRuntime) {
+    check_all(&rt, rt.alloc(), &PARALLEL);
 }
 
 // The complement of edges, with no loops and no copy.
-const PLAIN: OfOne = OfOne::Complement([false, false, false]);
+const PLAIN: Operation = Operation::Complement([false, false, false]);
+
+/// None, seven and eight complements of the petersen graph, one of the other.
+static MANY: [Case; 3] = [
+    Case {
+        of: Made::Petersen,
+        by: &[],
+        gives: Expected::Arcs(30),
+    },
+    Case {
+        of: Made::Petersen,
+        by: &[PLAIN, PLAIN, PLAIN, PLAIN, PLAIN, PLAIN, PLAIN],
+        gives: Expected::Arcs(60),
+    },
+    // the operand's id does not fit
+    Case {
+        of: Made::Petersen,
+        by: &[PLAIN, PLAIN, PLAIN, PLAIN, PLAIN, PLAIN, PLAIN, PLAIN],
+        gives: Expected::Graph(
+            "complement(complement(complement(complement(complement(complement(complement(complement(subsets(2,1,-4,0,0,0,0x1,0),0,0,0),0,0,0),0,0,0),0,0,0),0,0,0...),0,0,0)",
+            10,
+            30,
+            &[(9, "1.1.0.0.0", &[(2, 1), (1, 1), (0, 1)])],
+        ),
+    },
+];
 
 #[test]
-fn riders_have_parallel_edges(rt: HostRuntime) -> Result<(), Panic> {
-    assert!(rt; answers_at_last(rt.alloc(), RIDERS, PLAIN, 0, Expected::Arcs(12))?);
-    Ok(())
+fn eight_complements(rt: HostRuntime) {
+    check_all(&rt, rt.alloc(), &MANY);
 }
-
-#[test]
-fn eight_complements(rt: HostRuntime) -> Result<(), Panic> {
-    let last = Expected::Graph(EIGHT_COMPLEMENTS, PETERSEN);
-    for (count, expected) in [(0, Expected::Arcs(30)), (7, Expected::Arcs(60)), (8, last)] {
-        assert!(rt; answers_at_last(rt.alloc(), Operand::Petersen, PLAIN, count, expected)?);
-    }
-    Ok(())
-}
-
-/// What is known of the petersen graph.
-const PETERSEN: Known = (10, 30, &[(9, "1.1.0.0.0", &[(2, 1), (1, 1), (0, 1)])]);
-
-// The operand's id does not fit.
-const EIGHT_COMPLEMENTS: &str =
-    "complement(complement(complement(complement(complement(complement(complement(complement(subsets(2,1,-4,0,0,0,0x1,0),0,0,0),0,0,0),0,0,0),0,0,0),0,0,0...),0,0,0)";

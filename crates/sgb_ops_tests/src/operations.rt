@@ -1,0 +1,182 @@
+//! The operations as values, so that each is called in one place, and graphs by cases: one function owns them.
+use crate::graphs::{Expected, Made, is_answer};
+use sgb_graph::Graph;
+use sgb_ops::{Entry, complement, gunion, induced, induced_from, intersection, lines, product};
+use sgb_vec::Panic;
+use std::alloc::Global;
+use std::process::Abort;
+
+/// What stands for a vertex of the operand of induced.
+pub(crate) enum Place {
+    /// So many copies of it.
+    Copies(u32),
+    /// The merged vertex of this number.
+    Merged(u32),
+    /// A graph.
+    Graph(Made),
+}
+
+impl Place {
+    // The entry of the place.
+    fn entry(&self, alloc: Global) -> Result<Entry, Panic> {
+        match self {
+            Place::Copies(count) => Ok(Entry::Copies(*count)),
+            Place::Merged(number) => Ok(Entry::Merged(*number)),
+            Place::Graph(made) => Ok(Entry::Graph(made.graph(alloc)?)),
+        }
+    }
+}
+
+// Appends the entry of a place.
+fn push_entry(entries: &mut Vec<Entry>, alloc: Global, place: &Place) -> Result<(), Panic> {
+    let entry = place.entry(alloc)?;
+    entries.push(entry)?;
+    Ok(())
+}
+
+// Appends the entries of the places.
+fn push_entries(entries: &mut Vec<Entry>, alloc: Global, places: &[Place]) -> Result<(), Panic> {
+    for place in places {
+        push_entry(entries, alloc, place)?;
+    }
+    Ok(())
+}
+
+// The entries of the places.
+fn entries_of(alloc: Global, places: &[Place]) -> Result<Vec<Entry>, Panic> {
+    let mut entries = Vec::new(alloc);
+    push_entries(&mut entries, alloc, places)?;
+    Ok(entries)
+}
+
+/// An operation on a graph.
+pub(crate) enum Operation {
+    /// complement with the flags copy, self_loops and directed.
+    Complement([bool; 3]),
+    /// lines with the flag directed.
+    Lines(bool),
+    /// induced with the flags self_loops, multi and directed.
+    Induced(&'static [Place], [bool; 3]),
+    /// induced_from with these flags, which is handed the entries.
+    InducedFrom(&'static [Place], [bool; 3]),
+    /// gunion of the graph and itself, with edges and none of them parallel.
+    Twins,
+    /// gunion of the graph and this one, with the flags multi and directed.
+    Gunion(Made, [bool; 2]),
+    /// intersection with this one and these flags.
+    Intersection(Made, [bool; 2]),
+    /// product with this one, of this kind, with the flag directed.
+    Product(Made, i64, bool),
+}
+
+// What the entries induce, with the flags self_loops, multi and directed.
+fn induced_by(
+    alloc: Global,
+    graph: &Graph,
+    places: &[Place],
+    flags: &[bool; 3],
+) -> Result<Graph, Panic> {
+    let [self_loops, multi, directed] = *flags;
+    let entries = entries_of(alloc, places)?;
+    induced(alloc, graph, &entries, self_loops, multi, directed)
+}
+
+// The same of entries that are handed over.
+fn induced_from_all(
+    alloc: Global,
+    graph: &Graph,
+    places: &[Place],
+    flags: &[bool; 3],
+) -> Result<Graph, Panic> {
+    let [self_loops, multi, directed] = *flags;
+    let entries = entries_of(alloc, places)?;
+    induced_from(alloc, graph, entries, self_loops, multi, directed)
+}
+
+impl Operation {
+    // The graph that it has besides the one that it is of.
+    fn second(&self) -> Option<&Made> {
+        match self {
+            Operation::Gunion(second, _) => Some(second),
+            Operation::Intersection(second, _) => Some(second),
+            Operation::Product(second, _, _) => Some(second),
+            _ => None,
+        }
+    }
+
+    // What it answers of this graph and a second one.
+    fn of_two(&self, alloc: Global, first: &Graph, second: &Graph) -> Result<Graph, Panic> {
+        match self {
+            Operation::Complement([copy, self_loops, directed]) => {
+                complement(alloc, first, *copy, *self_loops, *directed)
+            }
+            Operation::Lines(directed) => lines(alloc, first, *directed),
+            Operation::Induced(places, flags) => induced_by(alloc, first, places, flags),
+            Operation::InducedFrom(places, flags) => induced_from_all(alloc, first, places, flags),
+            Operation::Twins => gunion(alloc, first, second, false, false),
+            Operation::Gunion(_, [multi, directed]) => {
+                gunion(alloc, first, second, *multi, *directed)
+            }
+            Operation::Intersection(_, [multi, directed]) => {
+                intersection(alloc, first, second, *multi, *directed)
+            }
+            Operation::Product(_, kind, directed) => {
+                product(alloc, first, second, *kind, *directed)
+            }
+        }
+    }
+
+    // What it answers of this graph.
+    fn of_one(&self, alloc: Global, graph: &Graph) -> Result<Graph, Panic> {
+        match self.second() {
+            None => self.of_two(alloc, graph, graph),
+            Some(made) => {
+                let second = made.graph(alloc)?;
+                self.of_two(alloc, graph, &second)
+            }
+        }
+    }
+}
+
+// Puts what the operation answers of the graph in its place.
+fn step(alloc: Global, graph: &mut Graph, operation: &Operation) -> Result<(), Panic> {
+    *graph = operation.of_one(alloc, graph)?;
+    Ok(())
+}
+
+// Makes these operations one after another, the first of this graph.
+fn steps(alloc: Global, graph: &mut Graph, operations: &[Operation]) -> Result<(), Panic> {
+    for operation in operations {
+        step(alloc, graph, operation)?;
+    }
+    Ok(())
+}
+
+/// A graph, the operations that are made one after another, the first of it, and what is expected in the end.
+pub(crate) struct Case {
+    pub(crate) of: Made,
+    pub(crate) by: &'static [Operation],
+    pub(crate) gives: Expected,
+}
+
+impl Case {
+    // What comes of it.
+    fn answer(&self, alloc: Global) -> Result<Graph, Panic> {
+        let mut graph = self.of.graph(alloc)?;
+        steps(alloc, &mut graph, self.by)?;
+        Ok(graph)
+    }
+
+    // Whether that is as expected.
+    fn is_met(&self, alloc: Global) -> bool {
+        let answer = self.answer(alloc);
+        is_answer(&answer, &self.gives)
+    }
+}
+
+/// Makes all cases, and says the place of one that is not met.
+pub(crate) fn check_all(rt: &impl Abort, alloc: Global, cases: &[Case]) {
+    for (k, case) in cases.iter().enumerate() {
+        assert!(rt; case.is_met(alloc), "case {k}");
+    }
+}
