@@ -4,9 +4,9 @@ ghost use Rattle.std.specs.Prelude.{◌≡◌, false};
 use crate::devices::Counted;
 use sgb::run_program;
 use sgb_file::{CutSource, Sink, Source};
+use sgb_vec::Panic;
 use std::alloc::Global;
 use std::process::Abort;
-use std::test::Fail;
 
 pub(crate) const USAGE: &str =
     "usage: sgb (names|list) EXPR [--after NAME|--skip K], sgb save EXPR, sgb queen, sgb flip EXPR\n";
@@ -34,7 +34,7 @@ pub(crate) const CODE_40: &str = "Something went wrong (panic code 40)!\n";
 pub(crate) const CODE_60: &str = "Something went wrong (panic code 60)!\n";
 
 // The words of a call after the program's name.
-pub(crate) fn words_of(alloc: Global, words: &[&str]) -> Result<Vec<String>, Fail> {
+pub(crate) fn words_of(alloc: Global, words: &[&str]) -> Result<Vec<String>, Panic> {
     let mut all = Vec::new(alloc);
     push_word(alloc, &mut all, "sgb")?;
     for word in words {
@@ -43,7 +43,7 @@ pub(crate) fn words_of(alloc: Global, words: &[&str]) -> Result<Vec<String>, Fai
     Ok(all)
 }
 
-pub(crate) fn push_word(alloc: Global, all: &mut Vec<String>, word: &str) -> Result<(), Fail> {
+pub(crate) fn push_word(alloc: Global, all: &mut Vec<String>, word: &str) -> Result<(), Panic> {
     let owned = String::from_str(alloc, word)?;
     all.push(owned)?;
     Ok(())
@@ -55,7 +55,7 @@ pub(crate) fn call<W: Sink, E: Sink>(
     words: &[&str],
     out: &mut W,
     errors: &mut E,
-) -> Result<u8, Fail>
+) -> Result<u8, Panic>
     requires { W.has_failed out.old ≡ false }
 {
     let mut source = CutSource::new(b"", 1, 0);
@@ -69,7 +69,7 @@ pub(crate) fn call_on<R: Source, W: Sink, E: Sink>(
     source: &mut R,
     out: &mut W,
     errors: &mut E,
-) -> Result<u8, Fail>
+) -> Result<u8, Panic>
     requires { W.has_failed out.old ≡ false }
 {
     let words = words_of(alloc, words)?;
@@ -110,6 +110,13 @@ impl Left {
         self.is("", line, status) && self.calls() == [0, 0, 1, 0]
     }
 
+    // Whether the call ended with a write fault with this line, at the first put or at the flush.
+    pub(crate) fn is_write_fault(&self, by_put: bool, line: &str) -> bool {
+        let puts = if by_put { 1 } else { self.out.puts() };
+        let flushes = if by_put { 0 } else { 1 };
+        self.has(line, 3) && self.calls() == [puts, flushes, 1, 0]
+    }
+
     // Whether the call was answered in full: also the empty answer ends with exactly one flush.
     pub(crate) fn is_answer(&self) -> bool {
         let puts = self.out.puts();
@@ -139,12 +146,12 @@ pub(crate) const NONE: Faults = Faults {
 };
 
 // Makes a call on this standard input, into sinks that fail there. A flush of standard error always fails.
-pub(crate) fn left_on<R: Source>(
+fn left_on<R: Source>(
     alloc: Global,
     words: &[&str],
     source: &mut R,
     faults: Faults,
-) -> Result<Left, Fail> {
+) -> Result<Left, Panic> {
     let mut out = Counted::new(alloc, faults.put, faults.flush);
     let mut errors = Counted::new(alloc, faults.deaf, true);
     let status = call_on(alloc, words, source, &mut out, &mut errors)?;
@@ -155,30 +162,78 @@ pub(crate) fn left_on<R: Source>(
     })
 }
 
-// Makes a call into sinks that fail there. Standard input would fail: no such call reads it.
-pub(crate) fn left_by(alloc: Global, words: &[&str], faults: Faults) -> Result<Left, Fail> {
-    let mut source = CutSource::new(b"", 1, 0);
-    left_on(alloc, words, &mut source, faults)
+// What is expected of what a call leaves.
+#[derive(Clone, Copy)]
+pub(crate) enum Wanted<'a> {
+    // An answer in full, with this output.
+    Output(&'a [u8]),
+    // An answer in full, with these parts.
+    Parts(&'a Parts),
+    // An answer in full, in so many puts.
+    Puts(u32),
+    // This output, this line and this status.
+    Ending(&'a str, &'a str, u8),
+    // A refusal, with this line and this status.
+    Refusal(&'a str, u8),
+    // A write fault with this line, at the first put or at the flush.
+    WriteFault(bool, &'a str),
+    // A write fault at the flush, after this output.
+    LateFault(&'a [u8]),
 }
 
-// Makes a call that is to be answered in full, and returns its output.
-pub(crate) fn answered(rt: &impl Abort, alloc: Global, words: &[&str]) -> Result<Counted, Fail> {
-    let left = left_by(alloc, words, NONE)?;
-    check_call(rt, words, left.is_answer());
-    Ok(left.out)
+impl<'a> Wanted<'a> {
+    // Whether that is what is left.
+    fn is(&self, left: &Left) -> bool {
+        match self {
+            Wanted::Output(output) => left.is_answer() && left.out.bytes() == *output,
+            Wanted::Parts(parts) => left.is_answer() && parts.are_of(left.out.bytes()),
+            Wanted::Puts(puts) => left.is_answer() && left.out.puts() == *puts,
+            Wanted::Ending(output, line, status) => left.is(output, line, *status),
+            Wanted::Refusal(line, status) => left.is_refusal(line, *status),
+            Wanted::WriteFault(by_put, line) => left.is_write_fault(*by_put, line),
+            Wanted::LateFault(output) => left.has(WRITE_FAULT, 3) && left.out.bytes() == *output,
+        }
+    }
+}
+
+// Whether a call on this standard input, into sinks that fail there, leaves what is expected.
+pub(crate) fn leaves_on<R: Source>(
+    alloc: Global,
+    words: &[&str],
+    source: &mut R,
+    faults: Faults,
+    wanted: &Wanted<'_>,
+) -> bool {
+    let Ok(left) = left_on(alloc, words, source, faults) else {
+        return false;
+    };
+    wanted.is(&left)
+}
+
+// Whether a call into sinks that fail there leaves what is expected. Standard input would fail: no such call reads it.
+pub(crate) fn leaves(alloc: Global, words: &[&str], faults: Faults, wanted: &Wanted<'_>) -> bool {
+    let mut source = CutSource::new(b"", 1, 0);
+    leaves_on(alloc, words, &mut source, faults, wanted)
+}
+
+// The output of a call that is answered in full. `None` where it is not.
+pub(crate) fn answer_of(alloc: Global, words: &[&str]) -> Option<Counted> {
+    let mut source = CutSource::new(b"", 1, 0);
+    let Ok(left) = left_on(alloc, words, &mut source, NONE) else {
+        return None;
+    };
+    if !left.is_answer() {
+        return None;
+    }
+    Some(left.out)
 }
 
 // Makes each call, and compares its output with the text beside it.
-pub(crate) fn answers_are(
-    rt: &impl Abort,
-    alloc: Global,
-    calls: &[(&[&str], &str)],
-) -> Result<(), Fail> {
+pub(crate) fn answers_are(rt: &impl Abort, alloc: Global, calls: &[(&[&str], &str)]) {
     for (words, output) in calls {
-        let out = answered(rt, alloc, words)?;
-        check_call(rt, words, out.bytes() == output.as_bytes());
+        let wanted = Wanted::Output(output.as_bytes());
+        check_call(rt, words, leaves(alloc, words, NONE, &wanted));
     }
-    Ok(())
 }
 
 // How an output begins and ends, and its number of lines.
@@ -200,10 +255,12 @@ impl Parts {
 }
 
 // Makes each call, and compares its output with these parts of it.
-pub(crate) fn answers_have(rt: &impl Abort, alloc: Global, calls: &[Parts]) -> Result<(), Fail> {
+pub(crate) fn answers_have(rt: &impl Abort, alloc: Global, calls: &[Parts]) {
     for parts in calls {
-        let out = answered(rt, alloc, parts.words)?;
-        check_call(rt, parts.words, parts.are_of(out.bytes()));
+        check_call(
+            rt,
+            parts.words,
+            leaves(alloc, parts.words, NONE, &Wanted::Parts(parts)),
+        );
     }
-    Ok(())
 }

@@ -1,7 +1,7 @@
 //! Devices that fail: what becomes of the faults of each, and how often it is called.
 ghost use Rattle.std.specs.Prelude.{◌<◌};
 
-use crate::calls::{Faults, Left, NO_VERTEX, WRITE_FAULT, answered, call, check_call, left_by};
+use crate::calls::{Faults, NO_VERTEX, WRITE_FAULT, Wanted, answer_of, call, check_call, leaves};
 use crate::devices::Counted;
 use sgb_file::{Buffered, CutSink};
 use std::alloc::Global;
@@ -23,16 +23,9 @@ static ANSWERED: [(&[&str], bool); 8] = [
     (&["list", SMALL, "--after", "1"], true),
 ];
 
-// Whether a call ended with a write fault, at the first put or at the flush.
-fn is_write_fault(left: &Left, by_put: bool, line: &str) -> bool {
-    let puts = if by_put { 1 } else { left.out.puts() };
-    let flushes = if by_put { 0 } else { 1 };
-    left.has(line, 3) && left.calls() == [puts, flushes, 1, 0]
-}
-
 // A flush that fails is a write fault, also after an empty answer. The first put that fails ends the request: the
 // output is called no more. A standard error that fails too changes no status.
-fn check_write_faults(rt: &impl Abort, alloc: Global, put: bool, deaf: bool) -> Result<(), Fail> {
+fn check_write_faults(rt: &impl Abort, alloc: Global, put: bool, deaf: bool) {
     let faults = Faults {
         put,
         flush: true,
@@ -40,37 +33,34 @@ fn check_write_faults(rt: &impl Abort, alloc: Global, put: bool, deaf: bool) -> 
     };
     let line = if deaf { "" } else { WRITE_FAULT };
     for (words, empty) in &ANSWERED {
-        let left = left_by(alloc, words, faults)?;
-        check_call(rt, words, is_write_fault(&left, put && !*empty, line));
+        let wanted = Wanted::WriteFault(put && !*empty, line);
+        check_call(rt, words, leaves(alloc, words, faults, &wanted));
     }
-    Ok(())
 }
 
-// Where only the flush fails the whole output stands.
-fn check_late_fault(rt: &impl Abort, alloc: Global, words: &[&str]) -> Result<(), Fail> {
+// Whether, where only the flush fails, the whole output stands.
+fn is_late_fault(alloc: Global, words: &[&str]) -> bool {
     let faults = Faults {
         put: false,
         flush: true,
         deaf: false,
     };
-    let whole = answered(rt, alloc, words)?;
-    let left = left_by(alloc, words, faults)?;
-    check_call(rt, words, left.has(WRITE_FAULT, 3));
-    check_call(rt, words, left.out.bytes() == whole.bytes());
-    Ok(())
+    let Some(whole) = answer_of(alloc, words) else {
+        return false;
+    };
+    leaves(alloc, words, faults, &Wanted::LateFault(whole.bytes()))
 }
 
 #[test]
-fn a_flush_that_fails_comes_last(rt: HostRuntime) -> Result<(), Fail> {
+fn a_flush_that_fails_comes_last(rt: HostRuntime) {
     for (words, _empty) in &ANSWERED {
-        check_late_fault(&rt, rt.alloc(), words)?;
+        check_call(&rt, words, is_late_fault(rt.alloc(), words));
     }
-    Ok(())
 }
 
 // A refused request is not flushed, so that it keeps its line.
 #[test]
-fn a_refusal_comes_before_the_flush(rt: HostRuntime) -> Result<(), Fail> {
+fn a_refusal_comes_before_the_flush(rt: HostRuntime) {
     let faults = Faults {
         put: true,
         flush: true,
@@ -78,18 +68,17 @@ fn a_refusal_comes_before_the_flush(rt: HostRuntime) -> Result<(), Fail> {
     };
     for command in ["names", "list"] {
         let words = [command, SMALL, "--after", "2"];
-        let left = left_by(rt.alloc(), &words, faults)?;
-        check_call(&rt, &words, left.is_refusal(NO_VERTEX, 1));
+        let wanted = Wanted::Refusal(NO_VERTEX, 1);
+        check_call(&rt, &words, leaves(rt.alloc(), &words, faults, &wanted));
     }
-    Ok(())
 }
 
 #[test]
-fn a_write_fault_ends_the_request(rt: HostRuntime) -> Result<(), Fail> {
-    check_write_faults(&rt, rt.alloc(), true, false)?;
-    check_write_faults(&rt, rt.alloc(), true, true)?;
-    check_write_faults(&rt, rt.alloc(), false, false)?;
-    check_write_faults(&rt, rt.alloc(), false, true)
+fn a_write_fault_ends_the_request(rt: HostRuntime) {
+    check_write_faults(&rt, rt.alloc(), true, false);
+    check_write_faults(&rt, rt.alloc(), true, true);
+    check_write_faults(&rt, rt.alloc(), false, false);
+    check_write_faults(&rt, rt.alloc(), false, true);
 }
 
 /// A writer that counts its calls and fails at one write or at one flush, counted from 1.
@@ -129,6 +118,16 @@ struct LeftWriter {
     errors: Counted,
 }
 
+impl LeftWriter {
+    // Whether the call ended with a write fault, and the writer was called no more after what failed.
+    fn is_write_fault(&self, failing_write: u32, failing_flush: u32) -> bool {
+        self.status == 3
+            && self.errors.bytes() == WRITE_FAULT.as_bytes()
+            && (failing_write == 0 || self.writes == failing_write)
+            && self.flushes == failing_flush
+    }
+}
+
 fn left_writer(
     alloc: Global,
     words: &[&str],
@@ -160,9 +159,7 @@ fn nothing_is_written_after_a_write_fault(rt: HostRuntime) -> Result<(), Fail> {
     let words = ["names", "board(2,3,5,-8,1,0,0)"];
     for (failing_write, failing_flush) in [(1, 0), (2, 0), (3, 0), (0, 1)] {
         let left = left_writer(rt.alloc(), &words, failing_write, failing_flush)?;
-        assert!(rt; left.status == 3 && left.errors.bytes() == WRITE_FAULT.as_bytes());
-        assert!(rt; failing_write == 0 || left.writes == failing_write);
-        assert!(rt; left.flushes == failing_flush);
+        assert!(rt; left.is_write_fault(failing_write, failing_flush));
     }
     Ok(())
 }
@@ -174,38 +171,30 @@ fn ending(is_cut: bool) -> (&'static str, u8) {
 
 // Whether a call whose sinks take so many bytes at once, and the output only this many in all, leaves there exactly the
 // first bytes of the whole output, and the line and the status that go with them.
-pub(crate) fn is_cut_off(
-    alloc: Global,
-    words: &[&str],
-    whole: &[u8],
-    each: usize,
-    limit: usize,
-) -> Result<bool, Fail>
+fn is_cut_off(alloc: Global, words: &[&str], whole: &[u8], each: usize, limit: usize) -> bool
     requires { 0 < each }
 {
     let mut out: CutSink<28_700> = CutSink::new(each, limit, false);
     let mut errors: CutSink<128> = CutSink::new(each, 128, false);
-    let status = call(alloc, words, &mut out, &mut errors)?;
+    let Ok(status) = call(alloc, words, &mut out, &mut errors) else {
+        return false;
+    };
     let (line, wanted) = ending(limit < whole.len());
     let is_prefix = out.bytes().len() == limit && whole.starts_with(out.bytes());
-    Ok(status == wanted && is_prefix && errors.bytes() == line.as_bytes())
+    status == wanted && is_prefix && errors.bytes() == line.as_bytes()
 }
 
 // A sink that takes so many bytes and then fails has exactly the first bytes of the output, however many it takes at
 // once; one with room for the whole output has that.
-fn check_short_sinks(rt: &impl Abort, alloc: Global, each: usize) -> Result<(), Fail>
+fn check_short_sinks(rt: &impl Abort, alloc: Global, each: usize)
     requires { 0 < each }
 {
     for (words, whole) in &SHORT_ANSWERS {
         for limit in 0..=whole.len() {
-            check_call(
-                rt,
-                words,
-                is_cut_off(alloc, words, whole.as_bytes(), each, limit)?,
-            );
+            let is_cut = is_cut_off(alloc, words, whole.as_bytes(), each, limit);
+            check_call(rt, words, is_cut);
         }
     }
-    Ok(())
 }
 
 // Words, output.
@@ -246,20 +235,48 @@ static SHORT_ANSWERS: [(&[&str], &str); 6] = [
 ];
 
 #[test]
-fn short_sinks(rt: HostRuntime) -> Result<(), Fail> {
-    check_short_sinks(&rt, rt.alloc(), 1)?;
-    check_short_sinks(&rt, rt.alloc(), 3)?;
-    check_short_sinks(&rt, rt.alloc(), 7)?;
-    check_short_sinks(&rt, rt.alloc(), 1000)
+fn short_sinks(rt: HostRuntime) {
+    check_short_sinks(&rt, rt.alloc(), 1);
+    check_short_sinks(&rt, rt.alloc(), 3);
+    check_short_sinks(&rt, rt.alloc(), 7);
+    check_short_sinks(&rt, rt.alloc(), 1000);
+}
+
+// Whether a sink that takes so many bytes at once, and fails near this number of bytes, or after any where there is
+// none, has exactly the first bytes of the output.
+pub(crate) fn is_cut_near(alloc: Global, words: &[&str], each: usize, near: Option<usize>) -> bool
+    requires { 0 < each }
+{
+    let Some(whole) = answer_of(alloc, words) else {
+        return false;
+    };
+    let (from, to) = match near {
+        Some(full) => (full.saturating_sub(2), full.saturating_add(3)),
+        None => (0, whole.bytes().len().saturating_add(1)),
+    };
+    are_cut_off(alloc, words, whole.bytes(), each, (from, to))
+}
+
+// Whether that is so of this output, from one number of bytes on and before another.
+fn are_cut_off(
+    alloc: Global,
+    words: &[&str],
+    whole: &[u8],
+    each: usize,
+    limits: (usize, usize),
+) -> bool
+    requires { 0 < each }
+{
+    let (from, to) = limits;
+    for limit in from..to {
+        if !is_cut_off(alloc, words, whole, each, limit) {
+            return false;
+        }
+    }
+    true
 }
 
 #[test]
-fn short_sinks_of_queens(rt: HostRuntime) -> Result<(), Fail> {
-    let words = ["queen"];
-    let whole = answered(&rt, rt.alloc(), &words)?;
-    for limit in 0..=whole.bytes().len() {
-        let is_cut = is_cut_off(rt.alloc(), &words, whole.bytes(), 7, limit)?;
-        check_call(&rt, &words, is_cut);
-    }
-    Ok(())
+fn short_sinks_of_queens(rt: HostRuntime) {
+    assert!(rt; is_cut_near(rt.alloc(), &["queen"], 7, None));
 }

@@ -2,13 +2,12 @@
 ghost use Rattle.std.specs.Prelude.{◌<◌};
 
 use crate::calls::{
-    CODE_10, CODE_11, CODE_20, CODE_30, CODE_60, NO_VERTEX, NONE, READ_FAULT, USAGE, answered,
-    check_call, left_on,
+    CODE_10, CODE_11, CODE_20, CODE_30, CODE_60, NO_VERTEX, NONE, READ_FAULT, USAGE, Wanted,
+    answer_of, check_call, leaves_on,
 };
 use sgb_file::{CutSource, MemSource, Source};
 use std::alloc::Global;
 use std::process::Abort;
-use std::test::Fail;
 
 // Makes a call on this standard input, and compares its output, its line and its status with these.
 fn check<R: Source>(
@@ -17,11 +16,10 @@ fn check<R: Source>(
     words: &[&str],
     source: &mut R,
     wanted: (&str, &str, u8),
-) -> Result<(), Fail> {
+) {
     let (output, line, status) = wanted;
-    let left = left_on(alloc, words, source, NONE)?;
-    check_call(rt, words, left.is(output, line, status));
-    Ok(())
+    let wanted = Wanted::Ending(output, line, status);
+    check_call(rt, words, leaves_on(alloc, words, source, NONE, &wanted));
 }
 
 // The file of complete(2).
@@ -190,12 +188,7 @@ static REFUSED: [(&[&str], &str, &str); 16] = [
 ];
 
 // Makes each call, which is answered with this text, or refused with this line.
-fn check_all(
-    rt: &impl Abort,
-    alloc: Global,
-    calls: &[(&[&str], &str, &str)],
-    refused: bool,
-) -> Result<(), Fail> {
+fn check_all(rt: &impl Abort, alloc: Global, calls: &[(&[&str], &str, &str)], refused: bool) {
     for (words, input, text) in calls {
         let mut source = MemSource::new(input.as_bytes());
         let wanted = if refused {
@@ -203,19 +196,18 @@ fn check_all(
         } else {
             (*text, "", 0)
         };
-        check(rt, alloc, words, &mut source, wanted)?;
+        check(rt, alloc, words, &mut source, wanted);
     }
-    Ok(())
 }
 
 #[test]
-fn answers_on_standard_input(rt: HostRuntime) -> Result<(), Fail> {
-    check_all(&rt, rt.alloc(), &ANSWERS, false)
+fn answers_on_standard_input(rt: HostRuntime) {
+    check_all(&rt, rt.alloc(), &ANSWERS, false);
 }
 
 #[test]
-fn refusals_on_standard_input(rt: HostRuntime) -> Result<(), Fail> {
-    check_all(&rt, rt.alloc(), &REFUSED, true)
+fn refusals_on_standard_input(rt: HostRuntime) {
+    check_all(&rt, rt.alloc(), &REFUSED, true);
 }
 
 // What is to be left where the input is this many first bytes of the file.
@@ -232,7 +224,7 @@ fn wanted_of_first(len: usize) -> (&'static str, &'static str, u8) {
 }
 
 // However many bytes come at once.
-fn check_short_inputs(rt: &impl Abort, alloc: Global, each: usize) -> Result<(), Fail>
+fn check_short_inputs(rt: &impl Abort, alloc: Global, each: usize)
     requires { 0 < each }
 {
     for len in 0..=COMPLETE.len() {
@@ -244,35 +236,28 @@ fn check_short_inputs(rt: &impl Abort, alloc: Global, each: usize) -> Result<(),
             &["list", "stdin"],
             &mut source,
             wanted_of_first(len),
-        )?;
+        );
     }
-    Ok(())
 }
 
 #[test]
-fn short_inputs(rt: HostRuntime) -> Result<(), Fail> {
-    check_short_inputs(&rt, rt.alloc(), 1)?;
-    check_short_inputs(&rt, rt.alloc(), 7)?;
-    check_short_inputs(&rt, rt.alloc(), 1000)
+fn short_inputs(rt: HostRuntime) {
+    check_short_inputs(&rt, rt.alloc(), 1);
+    check_short_inputs(&rt, rt.alloc(), 7);
+    check_short_inputs(&rt, rt.alloc(), 1000);
 }
 
 // Also where the bytes that came are a file, and where the expression would be refused.
 #[test]
-fn a_read_fault_comes_first(rt: HostRuntime) -> Result<(), Fail> {
+fn a_read_fault_comes_first(rt: HostRuntime) {
     let refused = ["list", "gunion(board(2,-251,0,0,1,0,0),stdin,0,0)"];
+    let fault = ("", READ_FAULT, 3);
     for limit in 0..=COMPLETE.len() {
         let mut source = CutSource::new(COMPLETE.as_bytes(), 100, limit);
-        check(
-            &rt,
-            rt.alloc(),
-            &["list", "stdin"],
-            &mut source,
-            ("", READ_FAULT, 3),
-        )?;
+        check(&rt, rt.alloc(), &["list", "stdin"], &mut source, fault);
         // it has failed already
-        check(&rt, rt.alloc(), &refused, &mut source, ("", READ_FAULT, 3))?;
+        check(&rt, rt.alloc(), &refused, &mut source, fault);
     }
-    Ok(())
 }
 
 // Words that make no request that reads standard input, output, line, status.
@@ -289,45 +274,41 @@ static LEFT_ALONE: [(&[&str], &str, &str, u8); 4] = [
 ];
 
 #[test]
-fn standard_input_is_left_alone(rt: HostRuntime) -> Result<(), Fail> {
+fn standard_input_is_left_alone(rt: HostRuntime) {
     for (words, output, line, status) in &LEFT_ALONE {
         let mut source = CutSource::new(b"", 1, 0);
-        let wanted = (*output, *line, *status);
-        check(&rt, rt.alloc(), words, &mut source, wanted)?;
+        check(
+            &rt,
+            rt.alloc(),
+            words,
+            &mut source,
+            (*output, *line, *status),
+        );
         check_call(&rt, words, !source.failed());
     }
-    Ok(())
 }
 
 // Nothing is left to be read after a file, and each call reads what comes to it.
 #[test]
-fn standard_input_is_read_whole(rt: HostRuntime) -> Result<(), Fail> {
+fn standard_input_is_read_whole(rt: HostRuntime) {
     let mut source = MemSource::new(COMPLETE.as_bytes());
-    check(
-        &rt,
-        rt.alloc(),
-        &["names", "stdin"],
-        &mut source,
-        ("0\n1\n", "", 0),
-    )?;
-    check(
-        &rt,
-        rt.alloc(),
-        &["names", "stdin"],
-        &mut source,
-        ("", CODE_10, 1),
-    )
+    for wanted in [("0\n1\n", "", 0), ("", CODE_10, 1)] {
+        check(&rt, rt.alloc(), &["names", "stdin"], &mut source, wanted);
+    }
 }
 
-// A file of some megabytes is saved, read, and saved again: the same bytes.
-#[test]
-fn a_long_file(rt: HostRuntime) -> Result<(), Fail> {
-    let words = ["save", "board(150,150,0,0,1,0,0)"];
-    let saved = answered(&rt, rt.alloc(), &words)?;
+// Whether a file that is saved, read and saved again has the same bytes, and so many at least.
+fn is_saved_again(alloc: Global, words: &[&str], least: usize) -> bool {
+    let Some(saved) = answer_of(alloc, words) else {
+        return false;
+    };
     let mut source = MemSource::new(saved.bytes());
-    let left = left_on(rt.alloc(), &["save", "stdin"], &mut source, NONE)?;
-    assert!(rt; saved.bytes().len() > 1_500_000);
-    assert!(rt; left.has("", 0));
-    assert!(rt; left.out.bytes() == saved.bytes());
-    Ok(())
+    let wanted = Wanted::Output(saved.bytes());
+    saved.bytes().len() > least && leaves_on(alloc, &["save", "stdin"], &mut source, NONE, &wanted)
+}
+
+// A file of some megabytes.
+#[test]
+fn a_long_file(rt: HostRuntime) {
+    assert!(rt; is_saved_again(rt.alloc(), &["save", "board(150,150,0,0,1,0,0)"], 1_500_000));
 }

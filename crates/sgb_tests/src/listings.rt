@@ -5,7 +5,6 @@ use sgb_file::CutSink;
 use sgb_gen::{Board, BoardParams, Links, Simplex, SimplexParams};
 use sgb_vec::Family;
 use std::alloc::Global;
-use std::test::Fail;
 
 static LISTINGS: [(&[&str], &str); 24] = [
     (
@@ -156,8 +155,8 @@ static LISTINGS: [(&[&str], &str); 24] = [
 ];
 
 #[test]
-fn listings_of_graphs(rt: HostRuntime) -> Result<(), Fail> {
-    answers_are(&rt, rt.alloc(), &LISTINGS)
+fn listings_of_graphs(rt: HostRuntime) {
+    answers_are(&rt, rt.alloc(), &LISTINGS);
 }
 
 // The head, and so the official name and the numbers of vertices and arcs; and the last block. A listing has four
@@ -237,20 +236,20 @@ static PARTS_OF_LISTINGS: [Parts; 11] = [
 ];
 
 #[test]
-fn heads_and_last_blocks(rt: HostRuntime) -> Result<(), Fail> {
-    answers_have(&rt, rt.alloc(), &PARTS_OF_LISTINGS)
+fn heads_and_last_blocks(rt: HostRuntime) {
+    answers_have(&rt, rt.alloc(), &PARTS_OF_LISTINGS);
 }
 
-// What a sink of 200 bytes has of this listing with its head.
-fn begun_by(alloc: Global, local: &Local) -> CutSink<200> {
-    let mut out = CutSink::new(200, 200, false);
+// Whether what a sink of 200 bytes has of this listing, with its head, begins so.
+fn begins(alloc: Global, local: &Local, start: &str) -> bool {
+    let mut out: CutSink<200> = CutSink::new(200, 200, false);
     let mut links = Links::new(alloc);
     let _cut = list_family(local, true, None, &mut links, &mut out);
-    out
+    out.bytes().starts_with(start.as_bytes())
 }
 
-// What it has of the listing of a board.
-fn begun(alloc: Global, n1: i64, n2: i64, piece: i64) -> CutSink<200> {
+// Whether what it has of the listing of a board begins so.
+fn board_begins(alloc: Global, n1: i64, n2: i64, piece: i64, start: &str) -> bool {
     let params = BoardParams {
         n1,
         n2,
@@ -261,13 +260,13 @@ fn begun(alloc: Global, n1: i64, n2: i64, piece: i64) -> CutSink<200> {
         directed: false,
     };
     let Ok(board) = Board::from_params(&params) else {
-        return CutSink::new(200, 200, false);
+        return false;
     };
-    begun_by(alloc, &Local::Board(board))
+    begins(alloc, &Local::Board(board), start)
 }
 
-// What it has of the listing of a simplex of three entries.
-fn begun_simplex(alloc: Global, n: i64) -> CutSink<200> {
+// Whether what it has of the listing of a simplex of three entries begins so.
+fn simplex_begins(alloc: Global, n: i64, start: &str) -> bool {
     let params = SimplexParams {
         n,
         n0: -2,
@@ -278,43 +277,42 @@ fn begun_simplex(alloc: Global, n: i64) -> CutSink<200> {
         directed: false,
     };
     let Ok(simplex) = Simplex::from_params(alloc, &params) else {
-        return CutSink::new(200, 200, false);
+        return false;
     };
-    begun_by(alloc, &Local::Simplex(simplex))
+    begins(alloc, &Local::Simplex(simplex), start)
 }
 
-// A walk over the vertices of these boards would not reach the head in the time that a test has.
+const LINE: &str =
+    "  The graph whose official name is\nboard(1000000000,0,0,0,1,0,0)\n  has 1000000000 vertices and \
+    1999999998 arcs:\n\n0\n  -> 1, length 1\n";
+
+const ROOKS: &str =
+    "  The graph whose official name is\nboard(30000,30000,0,0,-1,0,0)\n  has 900000000 vertices and \
+    53998200000000 arcs:\n\n0.0\n";
+
+// 3 * 44,001 * 44,000 arcs.
+const GREAT_SIMPLEX: &str =
+    "  The graph whose official name is\nsimplex(44000,-2,0,0,0,0,0)\n  has 968066001 vertices and \
+    5808132000 arcs:\n\n0.0.44000\n  -> 1.0.43999, length 1\n";
+
+// A walk over the vertices of these boards and of this simplex would not reach the head in the time that a test has.
 #[test]
-fn heads_of_great_boards(rt: HostRuntime) -> Result<(), Fail> {
-    let line =
-        "  The graph whose official name is\nboard(1000000000,0,0,0,1,0,0)\n  has 1000000000 vertices and \
-        1999999998 arcs:\n\n0\n  -> 1, length 1\n";
-    let rooks =
-        "  The graph whose official name is\nboard(30000,30000,0,0,-1,0,0)\n  has 900000000 vertices and \
-        53998200000000 arcs:\n\n0.0\n";
-    assert!(rt;
-        begun(rt.alloc(), 1_000_000_000, 0, 1)
-            .bytes()
-            .starts_with(line.as_bytes())
-    );
-    assert!(rt;
-        begun(rt.alloc(), 30_000, 30_000, -1)
-            .bytes()
-            .starts_with(rooks.as_bytes())
-    );
-    Ok(())
+fn heads_of_great_graphs(rt: HostRuntime) {
+    assert!(rt; board_begins(rt.alloc(), 1_000_000_000, 0, 1, LINE));
+    assert!(rt; board_begins(rt.alloc(), 30_000, 30_000, -1, ROOKS));
+    assert!(rt; simplex_begins(rt.alloc(), 44_000, GREAT_SIMPLEX));
 }
 
-// What a sink of 200 bytes has of the listing of a board on a line: what comes after this square, with no head.
-fn rest_after(alloc: Global, n1: i64, square: u32) -> CutSink<200> {
-    let mut out = CutSink::new(200, 200, false);
+// Whether this is what a sink of 200 bytes has of the listing of a board on a line: what comes after this square, with no head.
+fn is_rest(alloc: Global, n1: i64, square: u32, rest: &str) -> bool {
     let Ok(board) = Board::new(n1, 0, 0, 0, 1, 0, false) else {
-        return out;
+        return false;
     };
     let after = [square];
     if !board.family().holds(&after) {
-        return out;
+        return false;
     }
+    let mut out: CutSink<200> = CutSink::new(200, 200, false);
     let mut links = Links::new(alloc);
     let _whole = list_family(
         &Local::Board(board),
@@ -323,27 +321,12 @@ fn rest_after(alloc: Global, n1: i64, square: u32) -> CutSink<200> {
         &mut links,
         &mut out,
     );
-    out
+    out.bytes() == rest.as_bytes()
 }
 
 #[test]
 fn the_last_squares_of_a_great_board(rt: HostRuntime) {
     let blocks = "999999998\n  -> 999999999, length 1\n  -> 999999997, length 1\n\
         999999999\n  -> 999999998, length 1\n";
-    let rest = rest_after(rt.alloc(), 1_000_000_000, 999_999_997);
-    assert!(rt; rest.bytes() == blocks.as_bytes());
-}
-
-// So does a walk over the vertices of this simplex: 3 * 44,001 * 44,000 arcs.
-#[test]
-fn head_of_a_great_simplex(rt: HostRuntime) -> Result<(), Fail> {
-    let head =
-        "  The graph whose official name is\nsimplex(44000,-2,0,0,0,0,0)\n  has 968066001 vertices and \
-        5808132000 arcs:\n\n0.0.44000\n  -> 1.0.43999, length 1\n";
-    assert!(rt;
-        begun_simplex(rt.alloc(), 44_000)
-            .bytes()
-            .starts_with(head.as_bytes())
-    );
-    Ok(())
+    assert!(rt; is_rest(rt.alloc(), 1_000_000_000, 999_999_997, blocks));
 }

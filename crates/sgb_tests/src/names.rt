@@ -1,6 +1,5 @@
 //! The names of the vertices that generators make.
 use crate::calls::{Parts, answers_are, answers_have};
-use std::test::Fail;
 
 static NAMES: [(&[&str], &str); 20] = [
     (
@@ -64,8 +63,8 @@ static NAMES: [(&[&str], &str); 20] = [
 ];
 
 #[test]
-fn names_of_vertices(rt: HostRuntime) -> Result<(), Fail> {
-    answers_are(&rt, rt.alloc(), &NAMES)
+fn names_of_vertices(rt: HostRuntime) {
+    answers_are(&rt, rt.alloc(), &NAMES);
 }
 
 static MANY_NAMES: [Parts; 2] = [
@@ -84,8 +83,8 @@ static MANY_NAMES: [Parts; 2] = [
 ];
 
 #[test]
-fn many_names(rt: HostRuntime) -> Result<(), Fail> {
-    answers_have(&rt, rt.alloc(), &MANY_NAMES)
+fn many_names(rt: HostRuntime) {
+    answers_have(&rt, rt.alloc(), &MANY_NAMES);
 }
 
 // The vectors after a name, or after many of a board, are found without those before it, of which there may be a billion.
@@ -129,6 +128,6 @@ static AFTER_MANY: [(&[&str], &str); 4] = [
 ];
 
 #[test]
-fn names_after_many(rt: HostRuntime) -> Result<(), Fail> {
-    answers_are(&rt, rt.alloc(), &AFTER_MANY)
+fn names_after_many(rt: HostRuntime) {
+    answers_are(&rt, rt.alloc(), &AFTER_MANY);
 }

@@ -1,7 +1,6 @@
 //! Nested expressions, and the graph of the queens.
 use crate::calls::{Parts, TOO_LARGE, answers_are, answers_have};
 use crate::refusals::check_refusals;
-use std::test::Fail;
 
 static ANSWERS: [(&[&str], &str); 12] = [
     (
@@ -77,8 +76,8 @@ static ANSWERS: [(&[&str], &str); 12] = [
 ];
 
 #[test]
-fn answers_to_nested_expressions(rt: HostRuntime) -> Result<(), Fail> {
-    answers_are(&rt, rt.alloc(), &ANSWERS)
+fn answers_to_nested_expressions(rt: HostRuntime) {
+    answers_are(&rt, rt.alloc(), &ANSWERS);
 }
 
 // The head and the first block, and the last one.
@@ -127,8 +126,8 @@ static PARTS_OF_ANSWERS: [Parts; 4] = [
 ];
 
 #[test]
-fn queens_and_ids_that_are_cut(rt: HostRuntime) -> Result<(), Fail> {
-    answers_have(&rt, rt.alloc(), &PARTS_OF_ANSWERS)
+fn queens_and_ids_that_are_cut(rt: HostRuntime) {
+    answers_have(&rt, rt.alloc(), &PARTS_OF_ANSWERS);
 }
 
 // 63 complements, one in the other, of an expression: seven times nine.
@@ -167,7 +166,7 @@ static TOO_DEEP: [(&[&str], &str, u8); 1] = [(
 )];
 
 #[test]
-fn as_many_parentheses_as_are_read(rt: HostRuntime) -> Result<(), Fail> {
-    answers_have(&rt, rt.alloc(), &DEEP)?;
-    check_refusals(&rt, rt.alloc(), &TOO_DEEP)
+fn as_many_parentheses_as_are_read(rt: HostRuntime) {
+    answers_have(&rt, rt.alloc(), &DEEP);
+    check_refusals(&rt, rt.alloc(), &TOO_DEEP);
 }

@@ -1,11 +1,6 @@
 //! Output that leaves page by page: how many pages it is, and what is left where one is cut off.
-ghost use Rattle.std.specs.Prelude.{◌<◌};
-
-use crate::calls::{answered, check_call};
-use crate::endings::is_cut_off;
-use std::alloc::Global;
-use std::process::Abort;
-use std::test::Fail;
+use crate::calls::{NONE, Wanted, check_call, leaves};
+use crate::endings::is_cut_near;
 
 // Words, and how many puts their output is, one for each page. A page that holds 28,608 bytes takes one line more: that
 // many are 1,788 names of 16 bytes, and 14,304 numbers of 2 bytes. The head of a generator's listing leaves at once.
@@ -40,12 +35,14 @@ static PAGES: [(&[&str], u32); 11] = [
 ];
 
 #[test]
-fn a_page_is_one_put(rt: HostRuntime) -> Result<(), Fail> {
+fn a_page_is_one_put(rt: HostRuntime) {
     for (words, puts) in &PAGES {
-        let out = answered(&rt, rt.alloc(), words)?;
-        check_call(&rt, words, out.puts() == *puts);
+        check_call(
+            &rt,
+            words,
+            leaves(rt.alloc(), words, NONE, &Wanted::Puts(*puts)),
+        );
     }
-    Ok(())
 }
 
 // Words, and how many bytes the first full page of their output has.
@@ -56,28 +53,11 @@ static FULL: [(&[&str], usize); 3] = [
 ];
 
 // A sink that fails near the end of a page has exactly the first bytes of the output, however many it takes at once.
-fn check_cut_page(
-    rt: &impl Abort,
-    alloc: Global,
-    words: &[&str],
-    full: usize,
-    each: usize,
-) -> Result<(), Fail>
-    requires { 0 < each }
-{
-    let whole = answered(rt, alloc, words)?;
-    for limit in full.saturating_sub(2)..full.saturating_add(3) {
-        let is_cut = is_cut_off(alloc, words, whole.bytes(), each, limit)?;
-        check_call(rt, words, is_cut);
-    }
-    Ok(())
-}
-
 #[test]
-fn a_page_is_cut_off_near_its_end(rt: HostRuntime) -> Result<(), Fail> {
+fn a_page_is_cut_off_near_its_end(rt: HostRuntime) {
     for (words, full) in &FULL {
-        check_cut_page(&rt, rt.alloc(), words, *full, 1000)?;
-        check_cut_page(&rt, rt.alloc(), words, *full, 40_000)?;
+        let is_cut = is_cut_near(rt.alloc(), words, 1000, Some(*full))
+            && is_cut_near(rt.alloc(), words, 40_000, Some(*full));
+        check_call(&rt, words, is_cut);
     }
-    Ok(())
 }

@@ -1,6 +1,6 @@
 //! Calls that are refused: the line and the exit status of each.
 use crate::calls::{
-    CODE_1, CODE_30, CODE_40, Faults, Left, NO_VERTEX, TOO_LARGE, USAGE, check_call, left_by,
+    CODE_1, CODE_30, CODE_40, Faults, Left, NO_VERTEX, TOO_LARGE, USAGE, Wanted, check_call, leaves,
 };
 use crate::devices::Counted;
 use sgb::{Fault, report, run_program};
@@ -9,7 +9,6 @@ use sgb_vec::Panic;
 use std::alloc::Global;
 use std::io::{Error, ErrorKind};
 use std::process::Abort;
-use std::test::Fail;
 
 // Words that are refused or make a request that is, with the line and the status.
 static REFUSED: [(&[&str], &str, u8); 43] = [
@@ -166,18 +165,12 @@ static REFUSED: [(&[&str], &str, u8); 43] = [
 
 // A refused call makes no call of the output, and its line is one put of standard error; where that fails the status
 // is the same.
-pub(crate) fn check_refusals(
-    rt: &impl Abort,
-    alloc: Global,
-    calls: &[(&[&str], &str, u8)],
-) -> Result<(), Fail> {
+pub(crate) fn check_refusals(rt: &impl Abort, alloc: Global, calls: &[(&[&str], &str, u8)]) {
     for (words, line, status) in calls {
-        let heard = left_by(alloc, words, OUTPUT_FAILS)?;
-        check_call(rt, words, heard.is_refusal(line, *status));
-        let unheard = left_by(alloc, words, BOTH_FAIL)?;
-        check_call(rt, words, unheard.is_refusal("", *status));
+        let heard = leaves(alloc, words, OUTPUT_FAILS, &Wanted::Refusal(line, *status));
+        let unheard = leaves(alloc, words, BOTH_FAIL, &Wanted::Refusal("", *status));
+        check_call(rt, words, heard && unheard);
     }
-    Ok(())
 }
 
 const OUTPUT_FAILS: Faults = Faults {
@@ -193,8 +186,8 @@ const BOTH_FAIL: Faults = Faults {
 };
 
 #[test]
-fn a_refused_call_is_one_line(rt: HostRuntime) -> Result<(), Fail> {
-    check_refusals(&rt, rt.alloc(), &REFUSED)
+fn a_refused_call_is_one_line(rt: HostRuntime) {
+    check_refusals(&rt, rt.alloc(), &REFUSED);
 }
 
 // Each fault's line is one put.
@@ -224,17 +217,18 @@ fn puts_of_line(alloc: Global, fault: &Fault) -> u32 {
     errors.puts()
 }
 
-// What a call leaves whose words could not be read.
-fn left_unread(alloc: Global, error: Error) -> Left {
+// Whether a call whose words could not be read is refused with this line and this status.
+fn is_unread(alloc: Global, error: Error, line: &str, status: u8) -> bool {
     let mut source = CutSource::new(b"", 1, 0);
     let mut out = Counted::new(alloc, false, true);
     let mut errors = Counted::new(alloc, false, false);
-    let status = run_program(alloc, Err(error), &mut source, &mut out, &mut errors);
-    Left {
-        status,
+    let left_status = run_program(alloc, Err(error), &mut source, &mut out, &mut errors);
+    let left = Left {
+        status: left_status,
         out,
         errors,
-    }
+    };
+    left.is_refusal(line, status)
 }
 
 const UNREAD: [(ErrorKind, &str, u8); 3] = [
@@ -247,7 +241,9 @@ const UNREAD: [(ErrorKind, &str, u8); 3] = [
 #[test]
 fn words_that_could_not_be_read(rt: HostRuntime) {
     for (kind, line, status) in UNREAD {
-        let left = left_unread(rt.alloc(), Error::from(kind));
-        assert!(rt; left.is_refusal(line, status), "{line}");
+        assert!(rt;
+            is_unread(rt.alloc(), Error::from(kind), line, status),
+            "{line}"
+        );
     }
 }

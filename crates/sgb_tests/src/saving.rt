@@ -1,6 +1,5 @@
 //! The files that `save` writes.
 use crate::calls::{Parts, answers_are, answers_have};
-use std::test::Fail;
 
 static FILES: [(&[&str], &str); 2] = [
     (
@@ -17,8 +16,8 @@ static FILES: [(&[&str], &str); 2] = [
 ];
 
 #[test]
-fn files_of_graphs(rt: HostRuntime) -> Result<(), Fail> {
-    answers_are(&rt, rt.alloc(), &FILES)
+fn files_of_graphs(rt: HostRuntime) {
+    answers_are(&rt, rt.alloc(), &FILES);
 }
 
 static PARTS_OF_FILES: [Parts; 2] = [
@@ -45,6 +44,6 @@ static PARTS_OF_FILES: [Parts; 2] = [
 ];
 
 #[test]
-fn long_records_and_own_fields(rt: HostRuntime) -> Result<(), Fail> {
-    answers_have(&rt, rt.alloc(), &PARTS_OF_FILES)
+fn long_records_and_own_fields(rt: HostRuntime) {
+    answers_have(&rt, rt.alloc(), &PARTS_OF_FILES);
 }

@@ -9,10 +9,13 @@ use std::test::Fail;
 #[test]
 fn arrays_of_a_triangle(rt: HostRuntime) -> Result<(), Fail> {
     let graph = complete(3).graph(rt.alloc())?;
-    assert!(rt; has_triangle_rows(&graph));
-    assert!(rt; has_triangle_names(&graph));
-    assert!(rt; has_triangle_fields(&graph));
+    assert!(rt; is_triangle(&graph));
     Ok(())
+}
+
+// Whether the lists, the names and the fields are those of a triangle.
+fn is_triangle(graph: &Graph) -> bool {
+    has_triangle_rows(graph) && has_triangle_names(graph) && has_triangle_fields(graph)
 }
 
 // Whether the lists are those of a triangle, where the arcs have the lengths 2 and 1.
@@ -83,8 +86,7 @@ V0,0,1
 #[test]
 fn kinds_and_file_of_two_vertices(rt: HostRuntime) -> Result<(), Fail> {
     let graph = complete(2).graph(rt.alloc())?;
-    assert!(rt; has_kinds(&graph));
-    assert!(rt; has_file(&graph));
+    assert!(rt; has_kinds(&graph) && has_file(&graph));
     Ok(())
 }
 
@@ -105,13 +107,19 @@ fn has_file(graph: &Graph) -> bool {
         && fill_file(graph, &mut bytes[..159]) == Err(Wrong::Length)
 }
 
-// The published test of GB_FLIP: the first draw from -314159, and the uniform one after 134 draws.
+// Whether draws are those of the published test of GB_FLIP: the first one from -314159, and the uniform one after 134
+// draws; and whether a uniform one below 0 is refused.
+fn are_published(draws: &mut [u32; 1]) -> bool {
+    fill_draws(-314159, 0, draws);
+    if *draws != [119318998] {
+        return false;
+    }
+    fill_uniform_draws(-314159, 134, 1431655765, draws) == Ok(())
+        && *draws == [748103812]
+        && fill_uniform_draws(-314159, 0, 0, draws) == Err(Wrong::Bound)
+}
+
 #[test]
 fn published_draws(rt: HostRuntime) {
-    let mut draws = [0; 1];
-    fill_draws(-314159, 0, &mut draws);
-    assert!(rt; draws == [119318998]);
-    assert!(rt; fill_uniform_draws(-314159, 134, 1431655765, &mut draws) == Ok(()));
-    assert!(rt; draws == [748103812]);
-    assert!(rt; fill_uniform_draws(-314159, 0, 0, &mut draws) == Err(Wrong::Bound));
+    assert!(rt; are_published(&mut [0; 1]));
 }

@@ -5,7 +5,16 @@ use sgb_chunks::{
 use sgb_gen::{Board, Simplex, SimplexParams, Subsets, SubsetsParams};
 use sgb_vec::Panic;
 use std::alloc::Global;
-use std::test::Fail;
+
+// A graph of which chunks are made.
+enum Shape {
+    // A board of two by three squares, with steps of one square.
+    Squares,
+    // The simplex of three entries whose sum this is.
+    OfThree(i64),
+    // Petersen's graph.
+    Petersen,
+}
 
 // A board of two by three squares, with steps of one square.
 fn small_board() -> Result<Local, Panic> {
@@ -44,9 +53,26 @@ fn petersen(alloc: Global) -> Result<Local, Panic> {
     Ok(Local::Subsets(subsets))
 }
 
-// Whether the lists of a chunk start and lead so.
-fn are_rows(rows: &ChunkRows, starts: &[u64], tips: &[u32]) -> bool {
-    rows.starts.as_slice() == starts && rows.tips.as_slice() == tips
+impl Shape {
+    // Its accepted parameters.
+    fn local(&self, alloc: Global) -> Result<Local, Panic> {
+        match self {
+            Shape::Squares => small_board(),
+            Shape::OfThree(n) => simplex_of_three(alloc, *n),
+            Shape::Petersen => petersen(alloc),
+        }
+    }
+}
+
+// The lists of a chunk: where they start, where they lead, and the lengths of the arcs.
+type Lists = (&'static [u64], &'static [u32], &'static [i64]);
+
+// Whether the lists of a chunk are these.
+fn are_rows(rows: &ChunkRows, lists: Lists) -> bool {
+    let (starts, tips, lengths) = lists;
+    rows.starts.as_slice() == starts
+        && rows.tips.as_slice() == tips
+        && rows.lengths.as_slice() == lengths
 }
 
 // Whether the names of a chunk start so, and have these bytes.
@@ -54,95 +80,178 @@ fn are_names(names: &ChunkNames, starts: &[u64], bytes: &[u8]) -> bool {
     names.starts.as_slice() == starts && names.bytes.as_slice() == bytes
 }
 
-#[test]
-fn the_lists_of_two_squares(rt: HostRuntime) -> Result<(), Fail> {
-    let board = small_board()?;
-    let rows = chunk_rows(rt.alloc(), &board, 3, 2)?;
-    assert!(rt; are_rows(&rows, &[0, 2, 5], &[0, 4, 1, 5, 3]));
-    assert!(rt; rows.lengths.as_slice() == [1, 1, 1, 1, 1].as_slice());
-    Ok(())
+// What is expected of chunks of a graph: of so many vertices from this one on, where they name two numbers.
+enum Wanted {
+    // These lists.
+    Rows(u32, u32, Lists),
+    // Names that start so, and have these bytes.
+    Names(u32, u32, &'static [u64], &'static [u8]),
+    // Lists of vertices that are not there.
+    NoRows(u32, u32),
+    // Names of vertices that are not there.
+    NoNames(u32, u32),
+    // The lists of so many vertices, which are all, are those of so many first ones, and then those of the others.
+    Joined(u32, u32),
+    // So many vertices and arcs.
+    Sizes(u32, u128),
 }
 
-#[test]
-fn the_names_of_two_squares(rt: HostRuntime) -> Result<(), Fail> {
-    let board = small_board()?;
-    let names = chunk_names(rt.alloc(), &board, 2, 2)?;
-    assert!(rt; are_names(&names, &[0, 3, 6], b"0.21.0"));
-    Ok(())
+// Whether these vertices have such lists.
+fn has_rows(alloc: Global, local: &Local, (first, count): (u32, u32), lists: Lists) -> bool {
+    match chunk_rows(alloc, local, first, count) {
+        Ok(rows) => are_rows(&rows, lists),
+        Err(_) => false,
+    }
 }
 
-#[test]
-fn chunks_that_are_not_there(rt: HostRuntime) -> Result<(), Fail> {
-    let board = small_board()?;
-    let none = chunk_rows(rt.alloc(), &board, 6, 0)?;
-    assert!(rt; none.starts.as_slice() == [0].as_slice());
-    assert!(rt; none.tips.is_empty());
-    assert!(rt; chunk_rows(rt.alloc(), &board, 5, 2).err() == Some(Fault::NoVertex));
-    assert!(rt; chunk_names(rt.alloc(), &board, 7, 0).err() == Some(Fault::NoVertex));
-    assert!(rt;
-        chunk_names(rt.alloc(), &board, 4294967295, 4294967295).err() == Some(Fault::NoVertex)
-    );
-    Ok(())
+// Whether these vertices have such names.
+fn has_names(
+    alloc: Global,
+    local: &Local,
+    (first, count): (u32, u32),
+    starts: &[u64],
+    bytes: &[u8],
+) -> bool {
+    match chunk_names(alloc, local, first, count) {
+        Ok(names) => are_names(&names, starts, bytes),
+        Err(_) => false,
+    }
+}
+
+impl Wanted {
+    // Whether the graph has it.
+    fn is_met_by(&self, alloc: Global, local: &Local) -> bool {
+        match self {
+            Wanted::Rows(first, count, lists) => has_rows(alloc, local, (*first, *count), *lists),
+            Wanted::Names(first, count, starts, bytes) => {
+                has_names(alloc, local, (*first, *count), starts, bytes)
+            }
+            Wanted::NoRows(first, count) => {
+                chunk_rows(alloc, local, *first, *count).err() == Some(Fault::NoVertex)
+            }
+            Wanted::NoNames(first, count) => {
+                chunk_names(alloc, local, *first, *count).err() == Some(Fault::NoVertex)
+            }
+            Wanted::Joined(n, first) => is_joined(alloc, local, *n, *first),
+            Wanted::Sizes(n, m) => {
+                vertices_of_family(local) == *n && arcs_of_family(alloc, local) == Ok(*m)
+            }
+        }
+    }
 }
 
 // Whether the lists of all n vertices are those of the first ones, and then those of the others.
-fn is_joined(alloc: Global, local: &Local, n: u32, first: u32) -> Result<bool, Fault> {
-    let all = chunk_rows(alloc, local, 0, n)?;
-    let in_front = is_front(&all, alloc, local, first)?;
-    let behind = is_back(&all, alloc, local, first, n.saturating_sub(first))?;
-    Ok(in_front && behind)
+fn is_joined(alloc: Global, local: &Local, n: u32, first: u32) -> bool {
+    match chunk_rows(alloc, local, 0, n) {
+        Ok(all) => {
+            is_front(&all, alloc, local, first)
+                && is_back(&all, alloc, local, first, n.saturating_sub(first))
+        }
+        Err(_) => false,
+    }
 }
 
 // Whether all lists begin with those of so many first vertices.
-fn is_front(all: &ChunkRows, alloc: Global, local: &Local, first: u32) -> Result<bool, Fault> {
-    let front = chunk_rows(alloc, local, 0, first)?;
-    Ok(
-        all.tips.starts_with(front.tips.as_slice())
-            && all.starts.starts_with(front.starts.as_slice()),
-    )
+fn is_front(all: &ChunkRows, alloc: Global, local: &Local, first: u32) -> bool {
+    match chunk_rows(alloc, local, 0, first) {
+        Ok(front) => {
+            all.tips.starts_with(front.tips.as_slice())
+                && all.starts.starts_with(front.starts.as_slice())
+        }
+        Err(_) => false,
+    }
 }
 
 // Whether all lists end with those of so many vertices after the first ones, which begin where these end.
-fn is_back(
-    all: &ChunkRows,
-    alloc: Global,
-    local: &Local,
-    first: u32,
-    count: u32,
-) -> Result<bool, Fault> {
-    let back = chunk_rows(alloc, local, first, count)?;
-    let before = all.tips.len().saturating_sub(back.tips.len());
-    Ok(
-        all.tips.ends_with(back.tips.as_slice())
-            && all.starts.get(first as usize) == Some(&(before as u64)),
-    )
+fn is_back(all: &ChunkRows, alloc: Global, local: &Local, first: u32, count: u32) -> bool {
+    match chunk_rows(alloc, local, first, count) {
+        Ok(back) => {
+            let before = all.tips.len().saturating_sub(back.tips.len());
+            all.tips.ends_with(back.tips.as_slice())
+                && all.starts.get(first as usize) == Some(&(before as u64))
+        }
+        Err(_) => false,
+    }
 }
 
-#[test]
-fn one_chunk_and_the_next(rt: HostRuntime) -> Result<(), Fail> {
-    let simplex = simplex_of_three(rt.alloc(), 5)?;
-    assert!(rt; is_joined(rt.alloc(), &simplex, 21, 8)?);
-    Ok(())
+// Graphs, each with what is expected of chunks of it.
+struct Row {
+    of: Shape,
+    wanted: Wanted,
 }
 
-#[test]
-fn the_lists_of_petersens_graph(rt: HostRuntime) -> Result<(), Fail> {
-    let graph = petersen(rt.alloc())?;
-    assert!(rt; is_joined(rt.alloc(), &graph, 10, 1)?);
-    let rows = chunk_rows(rt.alloc(), &graph, 8, 2)?;
-    assert!(rt; are_rows(&rows, &[0, 3, 6], &[4, 3, 0, 2, 1, 0]));
-    Ok(())
+impl Row {
+    // Whether that is so.
+    fn is_met(&self, alloc: Global) -> bool {
+        match self.of.local(alloc) {
+            Ok(local) => self.wanted.is_met_by(alloc, &local),
+            Err(_) => false,
+        }
+    }
 }
 
-// Nothing of these graphs is built: they have some thousand million vertices.
+static ROWS: [Row; 12] = [
+    // two squares
+    Row {
+        of: Shape::Squares,
+        wanted: Wanted::Rows(3, 2, (&[0, 2, 5], &[0, 4, 1, 5, 3], &[1, 1, 1, 1, 1])),
+    },
+    Row {
+        of: Shape::Squares,
+        wanted: Wanted::Names(2, 2, &[0, 3, 6], b"0.21.0"),
+    },
+    // chunks that are empty, or not there
+    Row {
+        of: Shape::Squares,
+        wanted: Wanted::Rows(6, 0, (&[0], &[], &[])),
+    },
+    Row {
+        of: Shape::Squares,
+        wanted: Wanted::NoRows(5, 2),
+    },
+    Row {
+        of: Shape::Squares,
+        wanted: Wanted::NoNames(7, 0),
+    },
+    Row {
+        of: Shape::Squares,
+        wanted: Wanted::NoNames(4294967295, 4294967295),
+    },
+    // one chunk and the next
+    Row {
+        of: Shape::OfThree(5),
+        wanted: Wanted::Joined(21, 8),
+    },
+    Row {
+        of: Shape::Petersen,
+        wanted: Wanted::Joined(10, 1),
+    },
+    Row {
+        of: Shape::Petersen,
+        wanted: Wanted::Rows(8, 2, (&[0, 3, 6], &[4, 3, 0, 2, 1, 0], &[1, 1, 1, 1, 1, 1])),
+    },
+    // nothing of this graph is built: it has some thousand million vertices
+    Row {
+        of: Shape::OfThree(44_000),
+        wanted: Wanted::Sizes(968_066_001, 5_808_132_000),
+    },
+    Row {
+        of: Shape::OfThree(44_000),
+        wanted: Wanted::Names(968_066_000, 1, &[0, 9], b"44000.0.0"),
+    },
+    Row {
+        of: Shape::OfThree(44_000),
+        wanted: Wanted::Rows(
+            968_066_000,
+            1,
+            (&[0, 2], &[968_065_998, 968_065_999], &[1, 1]),
+        ),
+    },
+];
+
 #[test]
-fn great_graphs(rt: HostRuntime) -> Result<(), Fail> {
-    let simplex = simplex_of_three(rt.alloc(), 44_000)?;
-    assert!(rt; vertices_of_family(&simplex) == 968_066_001);
-    assert!(rt; arcs_of_family(rt.alloc(), &simplex)? == 5_808_132_000);
-    let names = chunk_names(rt.alloc(), &simplex, 968_066_000, 1)?;
-    assert!(rt; names.bytes.as_slice() == b"44000.0.0".as_slice());
-    let rows = chunk_rows(rt.alloc(), &simplex, 968_066_000, 1)?;
-    assert!(rt; rows.tips.as_slice() == [968_065_998, 968_065_999].as_slice());
-    Ok(())
+fn chunks_of_small_and_of_great_graphs(rt: HostRuntime) {
+    for (k, row) in ROWS.iter().enumerate() {
+        assert!(rt; row.is_met(rt.alloc()), "row {k}");
+    }
 }
