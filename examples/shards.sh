@@ -1,6 +1,6 @@
 #!/bin/sh
 # Writes commands, one a line, whose outputs, one after another, are the listing of a generator's graph: each begins at its
-# own vertex at once, so they can run anywhere, in any order, at the same time.
+# own vertex, with none before it, so they can run anywhere, in any order, at the same time.
 #
 #   examples/shards.sh "board(3000,3000,0,0,1,0,0)" 4             the commands
 #   examples/shards.sh "board(3000,3000,0,0,1,0,0)" 4 part        each writes a file: part.1, part.2, ..
