@@ -33,7 +33,7 @@ PLACE = os.path.join(TOP, "out/test")
 TREE = os.path.join(PLACE, "tree")
 PROGRAMS = ["sgb_cli", "sgb_levels"]
 LIBRARY = "sgb_c"
-SECONDS = "600"  # that one test may take
+SECONDS = "120"  # that one test, or one run of a program, may take
 
 TARGET = ["--target=x86_64-unknown-linux-gnu", "--no-default-config", "-no-canonical-prefixes", "-Wno-override-module"]
 # as the toolchain compiles a program
