@@ -12,6 +12,8 @@
 # make check      the gate: all proofs from nothing, must-fail edits, the tests, the program
 # make edits      tries the must-fail edits that the gate leaves out, on a copy
 # make lib        proves the library for C, and leaves libsgb.a and libsgb.so (lib.mk)
+# make dist       proves all, and leaves in dist/ what runs on machines without the toolchain: tarballs, Debian packages and
+#                 wheels for x86-64 and aarch64, each tried (dist.mk)
 # make install    puts what is built below $(PREFIX), with its manual page and completion for bash, and the library for C
 #                 where it is there; it builds nothing
 # make uninstall  takes them away again
@@ -91,7 +93,7 @@ uninstall:
 	rm -f $(DESTDIR)$(PREFIX)/share/bash-completion/completions/sgb
 
 clean:
-	rm -rf crates/*/out conformance/out out
+	rm -rf crates/*/out conformance/out out dist
 	rm -f sgb sgb_levels
 
 FORCE:
@@ -100,3 +102,4 @@ FORCE:
   clean FORCE
 
 include lib.mk
+include dist.mk

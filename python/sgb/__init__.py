@@ -12,9 +12,10 @@ A graph that is too great to be built is gone through in chunks of its vertices,
     for chunk in sgb.chunks("board(1000000000,0,0,0,1,0,0)"):
         chunk.first, chunk.n, chunk.starts, chunk.tips, chunk.lengths
 
-It calls the library for C, libsgb.so, which `make lib` leaves: the file that the variable SGB_LIBRARY names, else the
-one in the repository that this file stands in, else the one that the system finds. It needs Python's own library alone;
-where numpy is installed, arrays are numpy's, else memory views. Both look at the same memory: nothing is copied.
+It calls the library for C, libsgb.so, which `make lib` leaves: the file that the variable SGB_LIBRARY names, else the one
+beside this file, else the one in the repository that this file stands in, else the one that the system finds. It needs
+Python's own library alone; where numpy is installed, arrays are numpy's, else memory views. Both look at the same memory:
+nothing is copied.
 
 A refusal is a GraphError, which is a ValueError, and want of memory a MemoryError.
 """
@@ -118,10 +119,10 @@ _CALLS = {
 def _library():
     path = os.environ.get("SGB_LIBRARY")
     if not path:
-        top = os.path.dirname(os.path.dirname(os.path.dirname(os.path.abspath(__file__))))
-        path = os.path.join(top, "libsgb.so")
-        if not os.path.exists(path):
-            path = "libsgb.so"
+        here = os.path.dirname(os.path.abspath(__file__))
+        top = os.path.dirname(os.path.dirname(here))
+        places = [os.path.join(folder, "libsgb.so") for folder in (here, top)]
+        path = next(filter(os.path.exists, places), "libsgb.so")
     try:
         library = ctypes.CDLL(path)
         for name, (takes, answers) in _CALLS.items():

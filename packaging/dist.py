@@ -1,0 +1,150 @@
+#!/usr/bin/env python3
+"""Makes dist/ of what `make` and `make lib` proved and left, and tries it: packaging/dist.py [make|try]
+
+    make dist
+
+The programs, the library for C and the Python package for x86-64 and aarch64, as tarballs, Debian packages and wheels, and
+SHA256SUMS. The same commit gives the same bytes. Without a word it makes them and tries them; `try` only tries what is there.
+It says what it leaves out where a Debian package is missing; the status is 1 where something that it made does not work.
+"""
+
+import hashlib
+import importlib.util
+import os
+import re
+import shutil
+import sys
+
+import built
+import packed
+import tried
+from built import MACHINES, NATIVE, ROOM, TOP, Failed, ran
+
+DIST = os.path.join(TOP, "dist")
+SUMS = os.path.join(DIST, "SHA256SUMS")
+OLDEST = (2, 17)  # the glibc that wheels name
+
+
+def version():
+    """The newest version of CHANGELOG.md."""
+    found = re.search(r"^## (\d+\.\d+\.\d+)$", packed.read(TOP, "CHANGELOG.md").decode(), re.MULTILINE)
+    if not found:
+        raise Failed("CHANGELOG.md names no version")
+    return found[1]
+
+
+def moment():
+    """When the commit was made: the time of each file."""
+    changed = ran(["git", "status", "--porcelain", "--untracked-files=no"])
+    if changed:
+        raise Failed(f"files differ from the commit, which is what dist/ is made of:\n{changed}")
+    return int(ran(["git", "log", "-1", "--format=%ct"]))
+
+
+def names(machine):
+    """What is made for a processor: the paths of the tarball, the Debian package and the wheel."""
+    tag = f"py3-none-manylinux_{OLDEST[0]}_{OLDEST[1]}_{machine.name}"
+    made = [f"sgb-{version()}-{machine.name}-linux.tar.gz", f"sgb_{version()}_{machine.debian}.deb", f"sgb-{version()}-{tag}.whl"]
+    return [os.path.join(DIST, name) for name in made]
+
+
+def left_out(machine):
+    """Why nothing is made for a processor, or nothing."""
+    wanted = [machine.cc, machine.ar, "readelf"] + ([machine.runner] if machine.runner else [])
+    lacking = built.missing(*wanted)
+    return f"all for {machine.name}: there is no {', no '.join(lacking)}" if lacking else None
+
+
+def no_deb():
+    lacking = built.missing("dpkg", "dpkg-deb")
+    return f"Debian packages: there is no {', no '.join(lacking)}" if lacking else None
+
+
+def no_venv():
+    is_there = importlib.util.find_spec("ensurepip") is not None
+    return None if is_there else "the trial of the wheel: there is no ensurepip (Debian package python3-venv)"
+
+
+def make(machine, when):
+    """Makes all for a processor."""
+    print(f"{machine.name}:", flush=True)
+    room = os.path.join(ROOM, machine.name)
+    os.makedirs(room, exist_ok=True)
+    programs, library = dict(built.programs(machine, room)), built.library(machine, room)
+    needs = built.glibc(library["libsgb.so"])
+    if needs > OLDEST:
+        raise Failed(f"libsgb.so for {machine.name} wants glibc {needs[0]}.{needs[1]}")
+    values = {"VERSION": version(), "GLIBC": "{}.{}".format(*OLDEST)}
+    tarball, deb, wheel = names(machine)
+    tree = packed.prefix_tree(programs, library)
+    under = ", under " + machine.runner if machine.runner else ""
+    about = packed.filled("README", MACHINE=machine.name, CALLS=packed.calls_version(), UNDER=under, **values)
+    tree["share/doc/sgb/README.md"] = about, 0o644
+    if not no_deb():
+        packed.write_deb(deb, packed.debian_tree(tree), {"ARCHITECTURE": machine.debian, **values}, when, room)
+    packed.write_wheel(wheel, library, version(), wheel.split("-", 2)[2][: -len(".whl")], when)
+    tree["README.md"], tree["install.sh"] = (about, 0o644), (packed.read(built.HERE, "install.sh"), 0o755)
+    packed.write_tar(tarball, os.path.basename(tarball)[: -len(".tar.gz")], tree, when)
+    print(f"  libsgb.so wants glibc {needs[0]}.{needs[1]}, the programs none", flush=True)
+
+
+def sums():
+    """The digests of all that is in dist/, as sha256sum writes them."""
+    found = [name for name in sorted(os.listdir(DIST)) if name != os.path.basename(SUMS)]
+    return "".join(f"{hashlib.sha256(packed.read(DIST, name)).hexdigest()}  {name}\n" for name in found)
+
+
+def try_all(machine):
+    """Tries all that was made for a processor."""
+    tarball, deb, wheel = names(machine)
+    room = os.path.join(ROOM, machine.name, "tried")
+    os.makedirs(room, exist_ok=True)
+    tried.tarball_works(machine, tarball, room)
+    if not no_deb():
+        tried.deb_works(machine, deb, room)
+    if machine is not NATIVE or not no_venv():
+        tried.wheel_works(machine, wheel, room)
+
+
+def same_sums():
+    """Holds what is in dist/ against its digests, and the files that have to be there."""
+    with open(SUMS, encoding="ascii") as file:
+        told = file.read()
+    if told != sums():
+        raise Failed("SHA256SUMS does not hold of what is in dist/")
+    for machine in filter(lambda one: not left_out(one), MACHINES):
+        for path in names(machine):
+            if not os.path.exists(path) and not (path.endswith(".deb") and no_deb()):
+                raise Failed(f"dist/{os.path.basename(path)} is not there")
+
+
+def main():
+    words = sys.argv[1:] or ["make", "try"]
+    if not set(words) <= {"make", "try"}:
+        sys.exit("usage: packaging/dist.py [make|try]")
+    here = [machine for machine in MACHINES if not left_out(machine)]
+    reasons = [*map(left_out, MACHINES), no_deb(), no_venv()]
+    try:
+        if NATIVE not in here:
+            raise Failed(left_out(NATIVE))
+        if "make" in words:
+            when = moment()
+            shutil.rmtree(DIST, ignore_errors=True)
+            os.makedirs(DIST)
+            for machine in here:
+                make(machine, when)
+            with open(SUMS, "w", encoding="ascii") as file:
+                file.write(sums())
+        if "try" in words:
+            same_sums()
+            for machine in here:
+                try_all(machine)
+    except (Failed, OSError) as why:
+        sys.exit(f"dist.py: {why}")
+    for why in filter(None, reasons):
+        print(f"left out, {why}")
+    print(f"Done: {', '.join(os.listdir(DIST))}")
+
+
+if __name__ == "__main__":
+    main()

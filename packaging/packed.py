@@ -1,0 +1,169 @@
+"""Archives whose bytes depend on what is in them alone: for packaging/dist.py.
+
+A tree is a dict of paths: each has a pair of bytes and mode, or a text, which is where a link leads.
+"""
+
+import base64
+import gzip
+import hashlib
+import io
+import os
+import shutil
+import tarfile
+import time
+import zipfile
+
+from built import HERE, TOP, ran
+
+LEFT_OUT = ("_test.py", "_test.sh", ".gitignore")  # of the examples: what tries them in the repository
+
+
+def read(*path):
+    with open(os.path.join(*path), "rb") as file:
+        return file.read()
+
+
+def filled(name, **values):
+    """A template of this folder, with a value for each @NAME@ in it."""
+    text = read(HERE, name + ".in").decode()
+    for key, value in values.items():
+        text = text.replace(f"@{key}@", str(value))
+    return text.encode()
+
+
+def calls_version():
+    """The version of the library's calls, which lib.mk has."""
+    line = next(line for line in read(TOP, "lib.mk").decode().splitlines() if line.startswith("LIB_VERSION = "))
+    return line.split()[-1]
+
+
+def pkg_config(prefix):
+    lines = [
+        "prefix=" + prefix, "libdir=${prefix}/lib", "includedir=${prefix}/include", "", "Name: sgb",
+        "Description: Graphs of the Stanford GraphBase as arrays, proved", "Version: " + calls_version(),
+        "Libs: -L${libdir} -lsgb", "Cflags: -I${includedir}",
+    ]
+    return "\n".join(lines).encode() + b"\n"
+
+
+def tracked(folder):
+    """The files of a folder of the repository, as git has them."""
+    return [path for path in ran(["git", "ls-files", "-z", folder]).split("\0") if path]
+
+
+def add_file(tree, path, source):
+    tree[path] = read(TOP, source), 0o755 if os.access(os.path.join(TOP, source), os.X_OK) else 0o644
+
+
+def shared_part():
+    """What is the same for each processor."""
+    tree = {}
+    for name in "sgb.h", "sgb.hpp":
+        add_file(tree, "include/" + name, "include/" + name)
+    add_file(tree, "share/man/man1/sgb.1", "man/sgb.1")
+    add_file(tree, "share/bash-completion/completions/sgb", "completions/sgb.bash")
+    for name in "INSTALL.md", "CALLING_FROM_C.md", "COOKBOOK.md":
+        add_file(tree, "share/doc/sgb/" + name, "docs/" + name)
+    for path in tracked("examples") + tracked("conformance"):
+        if not path.endswith(LEFT_OUT) and not path.startswith("examples/converted/"):
+            add_file(tree, "share/sgb/" + path, path)
+    return tree
+
+
+def prefix_tree(programs, library):
+    """What stands below a prefix; the library is found from where it stands."""
+    tree = shared_part()
+    for name, path in programs.items():
+        tree["bin/" + name] = read(path), 0o755
+    tree["lib/libsgb.a"] = read(library["libsgb.a"]), 0o644
+    tree["lib/libsgb.so"] = read(library["libsgb.so"]), 0o755
+    tree["lib/pkgconfig/sgb.pc"] = pkg_config("${pcfiledir}/../.."), 0o644
+    add_file(tree, "share/sgb/python/sgb/__init__.py", "python/sgb/__init__.py")
+    tree["share/sgb/python/sgb/libsgb.so"] = "../../../../lib/libsgb.so"
+    return tree
+
+
+def debian_tree(tree):
+    """The same for a Debian package."""
+    moved = {"usr/" + path: there for path, there in tree.items() if not path.startswith("share/sgb/python/")}
+    moved["usr/lib/pkgconfig/sgb.pc"] = pkg_config("/usr"), 0o644
+    moved["usr/lib/python3/dist-packages/sgb/__init__.py"] = tree["share/sgb/python/sgb/__init__.py"]
+    return moved
+
+
+def write_tar(path, top, tree, moment):
+    """A .tar.gz of a tree below a folder; owner, order and time are fixed."""
+    whole = io.BytesIO()
+    with tarfile.open(fileobj=whole, mode="w", format=tarfile.GNU_FORMAT) as tar:
+        folders = {top}
+        for name in tree:
+            parts = f"{top}/{name}".split("/")[:-1]
+            folders |= {"/".join(parts[:count + 1]) for count in range(len(parts))}
+        for name in sorted(folders | {f"{top}/{name}" for name in tree}):
+            entry = tarfile.TarInfo(name)
+            entry.mtime, entry.uname, entry.gname = moment, "root", "root"
+            there = tree.get(name[len(top) + 1:])
+            data = b""
+            if there is None:
+                entry.type, entry.mode = tarfile.DIRTYPE, 0o755
+            elif isinstance(there, str):
+                entry.type, entry.mode, entry.linkname = tarfile.SYMTYPE, 0o777, there
+            else:
+                data, entry.mode = there
+                entry.size = len(data)
+            tar.addfile(entry, io.BytesIO(data))
+    with open(path, "wb") as file, gzip.GzipFile("", "wb", 9, file, mtime=0) as packed:
+        packed.write(whole.getvalue())
+
+
+def lay(tree, folder, moment):
+    """Writes a tree of plain files below a new folder."""
+    shutil.rmtree(folder, ignore_errors=True)
+    for path, (data, mode) in tree.items():
+        there = os.path.join(folder, path)
+        os.makedirs(os.path.dirname(there), exist_ok=True)
+        with open(there, "wb") as file:
+            file.write(data)
+        os.chmod(there, mode)
+    for here, _, names in os.walk(folder, topdown=False):
+        for name in names:
+            os.utime(os.path.join(here, name), (moment, moment))
+        os.chmod(here, 0o755)
+        os.utime(here, (moment, moment))
+
+
+def write_deb(path, tree, values, moment, room):
+    """A Debian package of a tree."""
+    size = sum(len(data) for data, _ in tree.values())
+    sums = [f"{hashlib.md5(data).hexdigest()}  {name}\n" for name, (data, _) in sorted(tree.items())]
+    control = {
+        "DEBIAN/control": (filled("control", KILOBYTES=-(-size // 1024), **values), 0o644),
+        "DEBIAN/md5sums": ("".join(sums).encode(), 0o644),
+        "DEBIAN/triggers": (b"activate-noawait ldconfig\n", 0o644),
+    }
+    folder = os.path.join(room, "deb")
+    lay({**tree, **control}, folder, moment)
+    ran(["dpkg-deb", "--root-owner-group", "-Zgzip", "-z9", "--build", folder, path],
+        env={**os.environ, "SOURCE_DATE_EPOCH": str(moment)})
+
+
+def write_wheel(path, library, version, tag, moment):
+    """A wheel, which is a zip file: the package, the library beside it, and what pip reads."""
+    about = f"sgb-{version}.dist-info"
+    files = {
+        "sgb/__init__.py": read(TOP, "python/sgb/__init__.py"),
+        "sgb/libsgb.so": read(library["libsgb.so"]),
+        about + "/METADATA": filled("METADATA", VERSION=version),
+        about + "/WHEEL": f"Wheel-Version: 1.0\nGenerator: sgb dist\nRoot-Is-Purelib: false\nTag: {tag}\n".encode(),
+    }
+    record = []
+    for name, data in files.items():
+        digest = base64.urlsafe_b64encode(hashlib.sha256(data).digest()).rstrip(b"=").decode()
+        record.append(f"{name},sha256={digest},{len(data)}\n")
+    files[about + "/RECORD"] = "".join(record + [f"{about}/RECORD,,\n"]).encode()
+    with zipfile.ZipFile(path, "w", zipfile.ZIP_DEFLATED, compresslevel=9) as packed:
+        for name, data in files.items():
+            entry = zipfile.ZipInfo(name, time.gmtime(moment)[:6])
+            entry.compress_type, entry.create_system = zipfile.ZIP_DEFLATED, 3
+            entry.external_attr = (0o100755 if name.endswith(".so") else 0o100644) << 16
+            packed.writestr(entry, data)
