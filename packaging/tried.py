@@ -60,6 +60,13 @@ def alone(machine, program, room):
     return script(os.path.join(room, "run_" + name), f"exec {own} {folder} {' '.join(inside)} \"$@\"")
 
 
+def distances_hold(machine, program):
+    """The distances of Petersen's graph: three neighbours, and six vertices behind them."""
+    seen = [line.split()[-1] for line in ran([program, "petersen()"]).splitlines()]
+    if sorted(seen) != ["0"] + 3 * ["1"] + 6 * ["2"]:
+        raise Failed(f"{machine.name}: sgb_levels gives distances {' '.join(seen)} in Petersen's graph")
+
+
 def runs(machine, program):
     return [machine.runner, program] if machine.runner else [program]
 
@@ -131,8 +138,8 @@ def tarball_works(machine, path, room):
         program = alone(machine, os.path.join(tree, "bin", name), room)
         if name == "sgb":
             conforms(program, f"{machine.name}, sgb alone in a root of its own")
-        elif not ran([program, "list", "petersen()"]):
-            raise Failed(f"{machine.name}: {name} writes nothing")
+        else:
+            distances_hold(machine, program)
     prefix = installed(tree, room)
     library_works(machine, prefix, room)
     if not machine.runner:
