@@ -139,11 +139,13 @@ def main():
             same_sums()
             for machine in here:
                 try_all(machine)
+            files = [os.path.join(DIST, name) for name in sorted(os.listdir(DIST))]
+            tried.page_works(files, ROOM, ["In Python"] if no_venv() else [])
     except (Failed, OSError) as why:
         sys.exit(f"dist.py: {why}")
     for why in filter(None, reasons):
         print(f"left out, {why}")
-    print(f"Done: {', '.join(os.listdir(DIST))}")
+    print(f"Done: {' '.join(sorted(os.listdir(DIST)))}")
 
 
 if __name__ == "__main__":

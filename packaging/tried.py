@@ -179,6 +179,39 @@ def digest_of_petersen():
         return next(line.split("\t")[4] for line in lines if line.startswith("petersen()\t"))
 
 
+def commands(page):
+    """The commands of a page, each with its heading and what it is to write. A block's lines begin with four spaces."""
+    heading, found, blank = "", [], False
+    for line in page.split("\n"):
+        if line.startswith("    $ "):
+            found.append([heading, line[6:], ""])
+        elif line.startswith("    "):
+            found[-1][2] += "\n" * blank + line[4:] + "\n"
+        elif line:
+            heading = line[3:] if line.startswith("## ") else heading
+        blank = not line
+    return found
+
+
+def page_works(files, room, skipped):
+    """Gives the commands of docs/INSTALL.md in a fresh folder, which has the files of dist/ and is the home."""
+    folder = fresh(room, "page")
+    for path in files:
+        shutil.copy(path, folder)
+    environment = {name: value for name, value in os.environ.items() if name not in ("PYTHONPATH", "SGB_LIBRARY")}
+    with open(os.path.join(TOP, "docs/INSTALL.md"), encoding="utf-8") as file:
+        found = commands(file.read())
+    for heading, command, wanted in found:
+        if heading in skipped:
+            continue
+        if command.startswith("cat "):
+            with open(os.path.join(folder, command[len("cat "):]), "w", encoding="utf-8") as file:
+                file.write(wanted)
+        elif (seen := ran(["sh", "-c", command], folder, env={**environment, "HOME": folder})) != wanted:
+            raise Failed(f"docs/INSTALL.md: {command} writes {seen[-2000:]!r}, and not {wanted!r}")
+    print(f"  docs/INSTALL.md: {len(found)} commands in a fresh folder", flush=True)
+
+
 def wheel_works(machine, path, room):
     """Installs a wheel in a fresh environment. One for another processor is unpacked, and its library held against the
     tarball's, which was tried."""
