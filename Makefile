@@ -14,6 +14,7 @@
 # make lib        proves the library for C, and leaves libsgb.a and libsgb.so (lib.mk)
 # make dist       proves all, and leaves in dist/ what runs on machines without the toolchain: tarballs, Debian packages and
 #                 wheels for x86-64 and aarch64, each tried (dist.mk)
+# make wasm       makes the package for Node and browsers of the proved library, and tests it: dist/sgb-VERSION.tgz (wasm.mk)
 # make install    puts what is built below $(PREFIX), with its manual page and completion for bash, and the library for C
 #                 where it is there; it builds nothing
 # make uninstall  takes them away again
@@ -103,3 +104,4 @@ FORCE:
 
 include lib.mk
 include dist.mk
+include wasm.mk

@@ -1,0 +1,360 @@
+/* Tests of the package, for Node: web/test.mjs FOLDER, where FOLDER has sgb.js and sgb.wasm; else this file's own.
+ *
+ * The graphs and refusals are those of conformance/graphs.tsv. The last line is `N passed, M failed`. */
+import { createHash } from "node:crypto";
+import { readFile } from "node:fs/promises";
+import { resolve } from "node:path";
+import { pathToFileURL } from "node:url";
+import { setFlagsFromString } from "node:v8";
+import { runInNewContext } from "node:vm";
+
+const here = new URL(".", import.meta.url);
+const folder = process.argv[2] ? pathToFileURL(`${resolve(process.argv[2])}/`) : here;
+const { Chunk, Graph, GraphError, MemoryError, load } = await import(new URL("sgb.js", folder));
+
+const FILE = `* GraphBase graph (util_types ZZZZZZZZZZZZZZ,2V,2A)
+"two",2,2
+* Vertices
+"left",A0
+"right",A1
+* Arcs
+V1,0,7
+V0,0,-3
+* Checksum -1
+`;
+const MANY = FILE.replace('"two",2,2', '"two",2,99999999999999999');
+const GRAPHS = [
+  "petersen()", "board(3,4,0,0,1,0,0)", "board(0,0,0,0,-1,0,0)", "complete(1)", "transitive(6)", "circuit(2)",
+  "simplex(3,-3,0,0,0,0,0)", "disjoint_subsets(6,3)", "board(20,20,0,0,1,1,0)",
+];
+const GREAT = "board(1000000000,0,0,0,1,0,0)";
+
+let passed = 0;
+let failed = 0;
+
+function check(isSo, what) {
+  if (isSo) {
+    passed += 1;
+  } else {
+    failed += 1;
+    console.log(`failed: ${what}`);
+  }
+}
+
+function same(got, wanted, what) {
+  const [a, b] = [got, wanted].map((value) => (value && typeof value === "object" ? [...value].join() : value));
+  check(a === b, `${what}: gave ${String(a).slice(0, 300)}, and not ${String(b).slice(0, 300)}`);
+}
+
+// What a call throws, or null.
+function thrown(call) {
+  try {
+    call();
+    return null;
+  } catch (error) {
+    return error;
+  }
+}
+
+function refused(call, code, what) {
+  const error = thrown(call);
+  check(error instanceof GraphError, `${what}: threw ${error}`);
+  same(error?.code, code, `${what}: the code`);
+  same(error?.byte, code >= 1000 ? code - 1000 : null, `${what}: the byte`);
+  check(error?.words && !error.words.startsWith("something"), `${what}: said ${error?.words}`);
+}
+
+function digest(bytes) {
+  return createHash("sha256").update(bytes).digest("hex");
+}
+
+function bytes(text) {
+  return new TextEncoder().encode(text);
+}
+
+async function rows() {
+  const text = await readFile(new URL("../conformance/graphs.tsv", here), "ascii");
+  return text.split("\n").filter((line) => line && !line.startsWith("#")).map((line) => line.split("\t"));
+}
+
+// The code of the line that the program writes.
+function codeOf(line) {
+  const found = /^Something went wrong \(panic code (\d+)\)!$|^sgb: bad expression at byte (\d+)$/.exec(line);
+  if (!found) {
+    return line === "sgb: expression too large" ? 100 : null;
+  }
+  return found[1] ? Number(found[1]) : 1000 + Number(found[2]);
+}
+
+const shown = (text) => (text.length < 60 ? text : `${text.slice(0, 40)} ..`);
+
+const tests = {
+  async conformance() {
+    const sgb = await load();
+    const [graphs, refusals] = [[], []];
+    for (const row of await rows()) {
+      (row[3] === "-" ? refusals : graphs).push(row);
+    }
+    check(graphs.length > 100 && refusals.length > 20, "the table has fewer rows");
+    for (const [text, n, m, names, list, save] of graphs) {
+      const graph = sgb.graph(text);
+      same(`${graph.n} ${graph.m}`, `${n} ${m}`, `${text}: n and m`);
+      same(digest(graph.names().map((name) => `${name}\n`).join("")), names, `${text}: names`);
+      same(digest(graph.list()), list, `${text}: list`);
+      same(digest(graph.save()), save, `${text}: save`);
+      graph.close();
+    }
+    for (const [written, , line] of refusals) {
+      const times = /^(\d+) x (.)$/.exec(written);
+      const text = times ? times[2].repeat(Number(times[1])) : written;
+      refused(() => sgb.graph(text), codeOf(line), shown(text));
+    }
+    same(sgb.memory.taken, 0, "taken after the table");
+  },
+
+  async files() {
+    const sgb = await load();
+    const graph = sgb.graph("stdin", bytes(FILE));
+    same(graph.names(), ["left", "right"], "names of a file");
+    same(graph.lengths, [7n, -3n], "lengths of a file");
+    same(graph.tips, [1, 0], "tips of a file");
+    check(graph.list().endsWith("right\n  -> left, length -3\n"), "the listing of a file");
+    check(new TextDecoder().decode(graph.save()).startsWith(FILE.slice(0, FILE.indexOf("-1"))), "a file saved again");
+    same(sgb.graph("stdin", bytes(FILE).buffer).id, "two", "an ArrayBuffer");
+    same(sgb.graph("stdin", new DataView(bytes(` ${FILE}`).buffer, 1)).id, "two", "a view");
+    same(sgb.graph("stdin", bytes(MANY)).m, 99999999999999999n, "an m above 2^53");
+    for (const text of GRAPHS) {
+      const first = sgb.graph(text);
+      const again = sgb.graph("stdin", first.save());
+      same(again.list(), first.list(), `${text}: the listing of its file`);
+      same(again.kinds, first.kinds, `${text}: the kinds of its file`);
+    }
+    refused(() => sgb.graph("stdin"), 10, "no file");
+    refused(() => sgb.graph("stdin", bytes(FILE.slice(0, -14))), 11, "a file without its end");
+    refused(() => sgb.graph("stdin", bytes(FILE.replace("A0", "B0"))), 20, "a file with a wrong record");
+    check(thrown(() => sgb.graph("stdin", FILE)) instanceof TypeError, "a file that is a string");
+  },
+
+  async fields() {
+    const sgb = await load();
+    const board = sgb.graph("board(2,3,0,0,1,0,0)");
+    same(board.kinds, "ZZZIIIZZZZZZZZ", "kinds of a board");
+    same(board.ints("x"), [0n, 0n, 0n, 1n, 1n, 1n], "its rows");
+    same(board.ints("y"), [0n, 1n, 2n, 0n, 1n, 2n], "its columns");
+    refused(() => board.ints("u"), 102, "a field without integers");
+    for (const field of ["", "xy", "a", 3, undefined]) {
+      check(thrown(() => board.ints(field)) instanceof RangeError, `the field ${field}`);
+    }
+    same(board.neighbors(0), [3, 1], "neighbors of a corner");
+    for (const v of [-1, 6, 0.5]) {
+      check(thrown(() => board.neighbors(v)) instanceof RangeError, `neighbors of ${v}`);
+    }
+    same([...board.blocks()].length, 7, "blocks of a board");
+    const { starts, tips, lengths } = board;
+    const types = [starts, tips, lengths].map((array) => array.constructor.name);
+    same(types, ["Uint32Array", "Uint32Array", "BigInt64Array"], "the types of the arrays");
+    check(board instanceof Graph, "the type of a graph");
+    // what was fetched stays, and the arrays do
+    board.names();
+    board.close();
+    board.close();
+    same(board.names()[5], "1.2", "names after the graph was closed");
+    same(board.tips.length, 14, "tips after the graph was closed");
+    same(board.ints("x").length, 6, "integers that were fetched");
+    for (const call of [() => board.save(), () => board.ints("z")]) {
+      check(/closed/.test(thrown(call)?.message), "a call on a closed graph");
+    }
+  },
+
+  async chunks() {
+    const sgb = await load();
+    for (const text of GRAPHS) {
+      const graph = sgb.graph(text);
+      same(sgb.vertices(text), graph.n, `${text}: vertices`);
+      same(sgb.arcs(text), graph.m, `${text}: arcs`);
+      let [v, k, names] = [0, 0, []];
+      for (const chunk of sgb.chunks(text, { size: 7 })) {
+        same(chunk.first, v, `${text}: where a chunk begins`);
+        same(chunk.starts, graph.starts.subarray(v, v + chunk.n + 1).map((at) => at - k), `${text}: starts of a chunk`);
+        same(chunk.tips, graph.tips.subarray(k, k + chunk.tips.length), `${text}: tips of a chunk`);
+        same(chunk.lengths, graph.lengths.subarray(k, k + chunk.tips.length), `${text}: lengths of a chunk`);
+        same(chunk.neighbors(v), graph.neighbors(v), `${text}: neighbors in a chunk`);
+        names = names.concat(chunk.names());
+        [v, k] = [v + chunk.n, k + chunk.tips.length];
+      }
+      same(v, graph.n, `${text}: vertices of all chunks`);
+      same(names, graph.names(), `${text}: names of all chunks`);
+      graph.close();
+    }
+    same(sgb.vertices(GREAT), 1e9, "vertices of a great board");
+    same(sgb.arcs(GREAT), 2e9 - 2, "arcs of a great board");
+    const last = sgb.chunk(GREAT, 999_999_990, 10);
+    check(last instanceof Chunk, "the type of a chunk");
+    same(last.names(), Array.from({ length: 10 }, (_, k) => 999_999_990 + k), "the last names of a great board");
+    same(last.neighbors(999_999_999), [999_999_998], "the last list of a great board");
+    same([...last.neighbors(999_999_995)].sort(), [999_999_994, 999_999_996], "a list of a great board");
+    same([...sgb.chunks(GREAT, { first: 999_000_000 })].reduce((sum, chunk) => sum + chunk.tips.length, 0), 1_999_999,
+      "the arcs of the last million vertices");
+    same(sgb.arcs("board(1000000000,0,0,0,-1,0,0)"), 999_999_999_000_000_000n, "more arcs than 2^53");
+    refused(() => sgb.chunk(GREAT, 999_999_991, 10), 106, "a chunk beyond the end");
+    refused(() => sgb.chunk("wheel(3,1,0)", 0, 1), 107, "a chunk of what is no generator's");
+    refused(() => sgb.chunks("board(3,"), 1008, "chunks of a bad expression");
+    for (const range of [{ size: 0 }, { first: -1 }, { first: 11 }, { first: 5, count: 6 }, { size: 1.5 }]) {
+      const error = thrown(() => sgb.chunks("petersen()", range));
+      check(error instanceof RangeError, `chunks with ${JSON.stringify(range)}: threw ${error}`);
+    }
+    check(thrown(() => sgb.chunk(GREAT, -1, 1)) instanceof RangeError, "a chunk from -1 on");
+    same(sgb.memory.taken, 0, "taken by chunks");
+  },
+
+  async flips() {
+    const sgb = await load();
+    // the values of test_flip in GB_FLIP
+    same(sgb.flip(-314159), [119318998], "the first draw");
+    same(sgb.flip(-314159n, 134n, 1, 0x55555555), [748103812], "a uniform draw");
+    same(sgb.flip(1, 0, 2, 10), [1, 3], "two draws below 10");
+    same(sgb.flip(5, 7, 3), sgb.flip(5, 0, 10).subarray(7), "draws that are left out");
+    same(sgb.flip(5, 0, 0), [], "no draws");
+    same(sgb.flip(5, 0, 3, 1), [0, 0, 0], "draws below 1");
+    refused(() => sgb.flip(1, 0, 1, 2 ** 31 + 1), 103, "a bound above 2^31");
+    for (const words of [[2n ** 63n], [0, -1], [0, 0, -1], [0, 0, 1, 2 ** 32], [0.5]]) {
+      check(thrown(() => sgb.flip(...words)) instanceof RangeError, `flip(${words})`);
+    }
+    same(sgb.memory.taken, 0, "taken by flips");
+  },
+
+  async errors() {
+    const sgb = await load();
+    refused(() => sgb.graph("x".repeat(65_536)), 1000, "a long text");
+    refused(() => sgb.graph("x".repeat(65_537)), 100, "a longer text");
+    refused(() => sgb.graph("petersen() "), 1010, "a space behind");
+    refused(() => sgb.graph("é"), 1000, "a letter beyond ASCII");
+    const error = thrown(() => sgb.graph("board(3,"));
+    same(`${error}`, "GraphError: bad expression at byte 8", "what a bad expression says");
+    const senseless = thrown(() => sgb.graph("board(2,-251,0,0,1,0,0)"));
+    same(senseless.message, "parameters that make no sense (code 30)", "what a code says");
+    check(error instanceof Error, "a refusal is an Error");
+    for (const text of [undefined, null, 5, ["petersen()"]]) {
+      check(thrown(() => sgb.graph(text)) instanceof TypeError, `the expression ${text}`);
+    }
+    same(sgb.memory.taken, 0, "taken by refusals");
+    // as deep as an expression may be
+    const depth = 63;
+    const nested = `${"complement(".repeat(depth)}petersen()${",0,0,0)".repeat(depth)}`;
+    same(sgb.graph(nested).m, 60, "a nested expression");
+    refused(() => sgb.graph(`complement(${nested},0,0,0)`), 100, "one that is nested deeper");
+  },
+
+  async memory() {
+    const most = 12 << 20;
+    const sgb = await load(undefined, { limit: most });
+    const before = sgb.memory;
+    const great = thrown(() => sgb.graph("complete(2000)"));
+    check(great instanceof MemoryError && great.code === 1, `a graph that is too large: threw ${great}`);
+    same(sgb.memory.taken, 0, "taken after a graph that is too large");
+    check(sgb.memory.size <= before.size + most + 65536, "more memory than the limit");
+    same(sgb.graph("petersen()").m, 30, "a graph after one that is too large");
+    // the limit is somewhere in each of the calls that a graph takes: all is given back, and the next one is whole
+    const wanted = digest((await load()).graph("board(30,30,0,0,1,0,0)").list());
+    let [refusals, answers] = [0, 0];
+    const module = await WebAssembly.compile(await readFile(new URL("sgb.wasm", folder)));
+    for (let limit = 0; limit < 1_200_000; limit += 8_192) {
+      const small = await load(module, { limit });
+      const error = thrown(() => {
+        const graph = small.graph("board(30,30,0,0,1,0,0)");
+        check(digest(graph.list()) === wanted, `a graph in ${limit} bytes`);
+        graph.save();
+        answers += 1;
+        graph.close();
+      });
+      if (error) {
+        check(error instanceof MemoryError, `in ${limit} bytes: threw ${error}`);
+        refusals += 1;
+      }
+    }
+    check(refusals > 20 && answers > 20, `memory was refused ${refusals} times, and enough ${answers} times`);
+    // more than any memory has
+    const free = await load();
+    for (const many of [2 ** 30, 2 ** 40, 2 ** 53 - 1]) {
+      check(thrown(() => free.flip(1, 0, many)) instanceof MemoryError, `${many} draws`);
+    }
+    same(free.graph("petersen()").m, 30, "a graph after such draws");
+    check(thrown(() => free.chunk(GREAT, 0, 4_000_000_000)) instanceof GraphError, "a chunk that is not there");
+  },
+
+  async closing() {
+    const sgb = await load();
+    const turn = (k) => {
+      const graph = sgb.graph(`board(${10 + (k % 20)},10,0,0,${k % 2 ? -1 : 1},0,0)`);
+      graph.names();
+      graph.save();
+      thrown(() => sgb.graph("board(3,"));
+      graph.close();
+    };
+    for (let k = 0; k < 80; k++) {
+      turn(k);
+    }
+    const { size } = sgb.memory;
+    for (let k = 0; k < 1000; k++) {
+      turn(k);
+    }
+    same(sgb.memory.size, size, "the memory after 1000 graphs");
+    same(sgb.memory.taken, 0, "taken after 1000 graphs");
+    // graphs that are open at once, and closed in another order
+    const graphs = Array.from({ length: 100 }, (_, k) => sgb.graph(`complete(${k + 1})`));
+    for (const k of graphs.keys()) {
+      graphs[(k * 37) % 100].close();
+    }
+    same(sgb.memory.taken, 0, "taken after 100 graphs at once");
+    // graphs that nobody closes
+    setFlagsFromString("--expose-gc");
+    const collect = runInNewContext("gc");
+    (() => Array.from({ length: 50 }, () => sgb.graph("petersen()")))();
+    check(sgb.memory.taken > 0, "nothing taken by graphs");
+    for (let k = 0; k < 50 && sgb.memory.taken > 0; k++) {
+      collect();
+      await new Promise((done) => setTimeout(done, 10));
+    }
+    same(sgb.memory.taken, 0, "taken by graphs that nothing leads to");
+  },
+
+  async loading() {
+    const place = new URL("sgb.wasm", folder);
+    const file = await readFile(place);
+    const copy = new Uint8Array(file).buffer;
+    for (const source of [file, copy, place, place.href, new WebAssembly.Module(file)]) {
+      same((await load(source)).graph("petersen()").n, 10, "a module from bytes or an address");
+    }
+    const [one, other] = [await load(), await load()];
+    const graph = one.graph("petersen()");
+    same(other.memory.taken, 0, "two modules have memories of their own");
+    graph.close();
+    // where the machine's stack ends in the module, it is not called again
+    const deep = await load();
+    const descend = () => {
+      try {
+        descend();
+      } catch {
+        deep.graph("complement(petersen(),0,0,0)");
+      }
+    };
+    thrown(descend);
+    const after = thrown(() => same(deep.graph("petersen()").m, 30, "a graph after the stack ended"));
+    check(after === null || /has stopped/.test(after.message), `after the stack ended: threw ${after}`);
+    const said = await load("file:///nowhere/sgb.wasm").then(() => null, (error) => error);
+    check(said?.code === "ENOENT", `a file that is not there: threw ${said}`);
+  },
+};
+
+for (const [name, test] of Object.entries(tests)) {
+  const start = performance.now();
+  try {
+    await test();
+  } catch (error) {
+    failed += 1;
+    console.log(`failed: ${name}:`, error);
+  }
+  console.log(`  ${name.padEnd(12)} ${((performance.now() - start) / 1000).toFixed(1)} s`);
+}
+console.log(`${passed} passed, ${failed} failed`);
+process.exitCode = failed ? 1 : 0;
