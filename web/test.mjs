@@ -27,6 +27,11 @@ const GRAPHS = [
   "petersen()", "board(3,4,0,0,1,0,0)", "board(0,0,0,0,-1,0,0)", "complete(1)", "transitive(6)", "circuit(2)",
   "simplex(3,-3,0,0,0,0,0)", "disjoint_subsets(6,3)", "board(20,20,0,0,1,1,0)",
 ];
+// a module of one call, sgb_take, which traps
+const TRAP = Uint8Array.of(
+  0, 97, 115, 109, 1, 0, 0, 0, 1, 6, 1, 96, 1, 126, 1, 126, 3, 2, 1, 0, 5, 3, 1, 0, 1, 7, 21, 2, 6,
+  ...bytes("memory"), 2, 0, 8, ...bytes("sgb_take"), 0, 0, 10, 5, 1, 3, 0, 0, 11,
+);
 const GREAT = "board(1000000000,0,0,0,1,0,0)";
 
 let passed = 0;
@@ -329,7 +334,12 @@ const tests = {
     const graph = one.graph("petersen()");
     same(other.memory.taken, 0, "two modules have memories of their own");
     graph.close();
-    // where the machine's stack ends in the module, it is not called again
+    // a module that traps is not called again
+    const trap = await load(TRAP);
+    const stops = [0, 1].map(() => thrown(() => trap.graph("petersen()")));
+    same(stops.map((error) => error?.message), ["the module has stopped", "the module has stopped: load it again"], "a trap");
+    check(stops.every((error) => error?.cause instanceof WebAssembly.RuntimeError), "what a trap tells of");
+    // nor one in which the machine's stack ends, or it still answers right
     const deep = await load();
     const descend = () => {
       try {
@@ -339,8 +349,9 @@ const tests = {
       }
     };
     thrown(descend);
-    const after = thrown(() => same(deep.graph("petersen()").m, 30, "a graph after the stack ended"));
-    check(after === null || /has stopped/.test(after.message), `after the stack ended: threw ${after}`);
+    let m = null;
+    const after = thrown(() => (m = deep.graph("petersen()").m));
+    check(m === 30 || /has stopped/.test(after?.message), `after the stack ended: gave ${m}, threw ${after}`);
     const said = await load("file:///nowhere/sgb.wasm").then(() => null, (error) => error);
     check(said?.code === "ENOENT", `a file that is not there: threw ${said}`);
   },
