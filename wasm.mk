@@ -3,13 +3,22 @@
 # make wasm       proves the library for C, and makes dist/sgb-VERSION.tgz of it: sgb.wasm and a module that calls it.
 #                 It says which Debian packages are missing, and fails where the package does not pass its tests
 #                 (web/build.py)
+# make page       makes a page of that package, dist/page, for any web server, and tries it in Chromium (page/test.py)
 
 wasm: toolchain FORCE
 	@web/build.py
 
+# of what make wasm left
+page:
+	@[ -f out/web/package/sgb.wasm ] || { echo "make: there is no package: make wasm makes it" >&2; exit 1; }
+	rm -rf dist/page && mkdir -p dist/page
+	cp page/index.html page/page.css page/*.js out/web/package/sgb.js out/web/package/sgb.wasm dist/page
+	page/test.py dist/page
+	@echo "Done: dist/page, for any web server: python3 -m http.server -d dist/page"
+
 clean-wasm:
-	rm -rf out/web dist/sgb-*.tgz
+	rm -rf out/web dist/sgb-*.tgz dist/page
 
 clean: clean-wasm
 
-.PHONY: wasm clean-wasm
+.PHONY: wasm page clean-wasm
