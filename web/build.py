@@ -188,7 +188,6 @@ def pack(path):
             entry.size, entry.mode = os.path.getsize(os.path.join(PACKAGE, name)), 0o644
             with open(os.path.join(PACKAGE, name), "rb") as file:
                 tar.addfile(entry, file)
-    os.makedirs(os.path.dirname(path), exist_ok=True)
     with open(path, "wb") as file, gzip.GzipFile(filename="", mode="wb", fileobj=file, mtime=0) as zipped:
         zipped.write(packed.getvalue())
 
@@ -212,8 +211,13 @@ def main():
     missing = [package for command, package in WANTED.items() if not shutil.which(command)]
     if missing:
         stop(f"these Debian packages are wanted: apt-get install {' '.join(missing)}")
-    path = os.path.join(TOP, f"dist/sgb-{version()}.tgz")
-    os.makedirs(PLACE, exist_ok=True)
+    name = f"sgb-{version()}.tgz"
+    packed, path = os.path.join(PLACE, name), os.path.join(TOP, "dist", name)
+    for folder in PLACE, os.path.dirname(path):
+        os.makedirs(folder, exist_ok=True)
+    # what an earlier build left is not taken for this one's
+    if os.path.exists(path) and not again:
+        os.remove(path)
     kit = toolchain()
     try_heap()
     if not again:
@@ -223,8 +227,9 @@ def main():
     lay(compile_wasm(kit))
     try_package()
     if not again:
-        pack(path)
-        try_packed(path)
+        pack(packed)
+        try_packed(packed)
+        os.replace(packed, path)
         told(f"done: {os.path.relpath(path, TOP)}, {os.path.getsize(path)} bytes")
 
 
