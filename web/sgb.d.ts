@@ -35,8 +35,8 @@ export interface Rows {
 
 /** A graph. The list of vertex v is what stands from starts[v] up to starts[v + 1] in `tips` and `lengths`.
  *
- * The module holds the graph until `close`, or until nothing leads to this object any more. What was fetched stays; what
- * was not gives an Error once the graph is closed. Want of memory gives a MemoryError. */
+ * The module holds the graph until `close`, or until nothing leads to this object any more. What was fetched stays;
+ * what was not gives an Error once the graph is closed. Want of memory gives a MemoryError. */
 export class Graph implements Rows {
   private constructor();
   /** The expression. */
@@ -68,8 +68,8 @@ export class Graph implements Rows {
   close(): void;
 }
 
-/** Some vertices of a graph that is not built: `n` of them, from vertex `first` on. The list of vertex first + k is what
- * stands from starts[k] up to starts[k + 1]. The module holds nothing of it. */
+/** Some vertices of a graph that is not built: `n` of them, from vertex `first` on. The list of vertex first + k is
+ * what stands from starts[k] up to starts[k + 1]. The module holds nothing of it. */
 export class Chunk implements Rows {
   private constructor();
   readonly text: string;
@@ -92,7 +92,7 @@ export class Sgb {
   /** The vertices of such a graph in chunks of `size`, 65,536 if it is not said; each is made when its turn comes. */
   chunks(text: string, range?: { size?: number; first?: number; count?: number }): Generator<Chunk, void, undefined>;
   /** How many vertices such a graph has. */
-  vertices(text: string): number | bigint;
+  vertices(text: string): number;
   /** How many arcs it has, 2^64 - 1 also where there are more. A bigint where that is above 2^53 - 1. */
   arcs(text: string): number | bigint;
   /** Random numbers of GB_FLIP: started from `start`, `skip` draws left out, then `count` of them, 1 if it is not said.
@@ -105,7 +105,8 @@ export class Sgb {
 
 /** Loads the module.
  *
- * @param source Its bytes, where they are, or a compiled module; else the file sgb.wasm beside sgb.js.
+ * @param source Its bytes, their address, or a compiled module; else the file sgb.wasm beside sgb.js. An address that
+ * is no whole URL is meant from the page, in Node from sgb.js.
  * @param options `limit`: so many bytes may be taken, and no more. Without it, 4 GB.
  */
 export function load(

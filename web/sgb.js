@@ -446,7 +446,7 @@ export class Sgb {
   }
 
   vertices(text) {
-    return exact(this.#counted("sgb_family_vertices", text));
+    return Number(this.#counted("sgb_family_vertices", text));
   }
 
   arcs(text) {
