@@ -35,6 +35,8 @@ EXPRESSIONS = [
     ("lines(complete(5),0)", "10 vertices and 60 arcs", "3--4"), ("empty(4)", "4 vertices and 0 arcs", "0"),
     ("product(circuit(12),circuit(5),0,0)", "60 vertices and 240 arcs", "0,0"),
     ("board(1000000000,0,0,0,1,0,0)", "1000000000 vertices and 1999999998 arcs", "0"),
+    # as deep as an expression may be
+    (63 * "complement(" + "petersen()" + 63 * ",0,0,0)", "10 vertices and 60 arcs", "0.0.0.1.1"),
 ]
 FAULTS = [
     ("board(3, 3,0,0,1,0,0)", "bad expression at byte 8\nboard(3, 3,0,0,1,0,0)\n        ^ here"),

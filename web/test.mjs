@@ -337,7 +337,8 @@ const tests = {
     // a module that traps is not called again
     const trap = await load(TRAP);
     const stops = [0, 1].map(() => thrown(() => trap.graph("petersen()")));
-    same(stops.map((error) => error?.message), ["the module has stopped", "the module has stopped: load it again"], "a trap");
+    const said = stops.map((error) => error?.message);
+    same(said, ["the module has stopped", "the module has stopped: load it again"], "a trap");
     check(stops.every((error) => error?.cause instanceof WebAssembly.RuntimeError), "what a trap tells of");
     // nor one in which the machine's stack ends, or it still answers right
     const deep = await load();
@@ -352,8 +353,8 @@ const tests = {
     let m = null;
     const after = thrown(() => (m = deep.graph("petersen()").m));
     check(m === 30 || /has stopped/.test(after?.message), `after the stack ended: gave ${m}, threw ${after}`);
-    const said = await load("file:///nowhere/sgb.wasm").then(() => null, (error) => error);
-    check(said?.code === "ENOENT", `a file that is not there: threw ${said}`);
+    const missing = await load("file:///nowhere/sgb.wasm").then(() => null, (error) => error);
+    check(missing?.code === "ENOENT", `a file that is not there: threw ${missing}`);
   },
 };
 
