@@ -70,7 +70,7 @@ async function busily(said, work) {
   }
 }
 
-function tell({ name, message, byte }) {
+function tell({ name, message, byte, code }) {
   if (name === "Stopped") {
     at("state").textContent = "Stopped.";
     at("answer").hidden = true;
@@ -84,7 +84,8 @@ function tell({ name, message, byte }) {
     const said = place < text.length ? "here" : "more is wanted here";
     mark = `\n${text.slice(from, place + 40)}\n${" ".repeat(place - from)}^ ${said}`;
   }
-  at("fault").textContent = message + mark;
+  const isWithoutFile = code === 10 && input.byteLength === 0;
+  at("fault").textContent = isWithoutFile ? "stdin is a .gb file: drop one on this page, or choose it" : message + mark;
   at("fault").hidden = false;
 }
 

@@ -42,7 +42,7 @@ FAULTS = [
     ("board(3, 3,0,0,1,0,0)", "bad expression at byte 8\nboard(3, 3,0,0,1,0,0)\n        ^ here"),
     ("board(3,", "bad expression at byte 8\nboard(3,\n        ^ more is wanted here"),
     ("board(2,-251,0,0,1,0,0)", "parameters that make no sense (code 30)"),
-    ("stdin", "the head of the .gb file is wrong (code 10)"),
+    ("stdin", "stdin is a .gb file: drop one on this page, or choose it"),
 ]
 FILE = b"""\
 * GraphBase graph (util_types ZZZZZZZZZZZZZZ,2V,2A)
