@@ -7,6 +7,7 @@
 
 wasm: toolchain FORCE
 	@web/build.py
+	@packaging/dist.py sums
 
 # of what make wasm left
 page:

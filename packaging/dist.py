@@ -1,10 +1,11 @@
 #!/usr/bin/env python3
-"""Makes dist/ of what `make` and `make lib` proved and left, and tries it: packaging/dist.py [make|try]
+"""Makes dist/ of what `make` and `make lib` proved and left, and tries it: packaging/dist.py [make|try|sums]
 
     make dist
 
 The programs, the library for C and the Python package for x86-64 and aarch64, as tarballs, Debian packages and wheels, and
-SHA256SUMS. The same commit gives the same bytes. Without a word it makes them and tries them; `try` only tries what is there.
+SHA256SUMS. The same commit gives the same bytes. Without a word it makes them and tries them; `try` only tries what is there,
+and `sums` writes the digests of all that is there, which has what `make wasm` left, too.
 It says what it leaves out where a Debian package is missing; the status is 1 where something that it made does not work.
 """
 
@@ -12,7 +13,6 @@ import hashlib
 import importlib.util
 import os
 import re
-import shutil
 import sys
 
 import built
@@ -88,10 +88,28 @@ def make(machine, when):
     print(f"  libsgb.so wants glibc {needs[0]}.{needs[1]}, the programs none", flush=True)
 
 
+def files():
+    """The files of dist/, by their names: a folder there is the page's."""
+    return [name for name in sorted(os.listdir(DIST)) if os.path.isfile(os.path.join(DIST, name))]
+
+
 def sums():
     """The digests of all that is in dist/, as sha256sum writes them."""
-    found = [name for name in sorted(os.listdir(DIST)) if name != os.path.basename(SUMS)]
+    found = [name for name in files() if name != os.path.basename(SUMS)]
     return "".join(f"{hashlib.sha256(packed.read(DIST, name)).hexdigest()}  {name}\n" for name in found)
+
+
+def write_sums():
+    with open(SUMS, "w", encoding="ascii") as file:
+        file.write(sums())
+
+
+def clear():
+    """Takes away what an earlier run made."""
+    os.makedirs(DIST, exist_ok=True)
+    for name in os.listdir(DIST):
+        if name.endswith((".tar.gz", ".deb", ".whl")):
+            os.remove(os.path.join(DIST, name))
 
 
 def try_all(machine):
@@ -120,8 +138,11 @@ def same_sums():
 
 def main():
     words = sys.argv[1:] or ["make", "try"]
-    if not set(words) <= {"make", "try"}:
-        sys.exit("usage: packaging/dist.py [make|try]")
+    if not set(words) <= {"make", "try", "sums"}:
+        sys.exit("usage: packaging/dist.py [make|try|sums]")
+    if words == ["sums"]:
+        write_sums()
+        return
     here = [machine for machine in MACHINES if not left_out(machine)]
     reasons = [*map(left_out, MACHINES), no_deb(), no_venv()]
     try:
@@ -129,18 +150,15 @@ def main():
             raise Failed(left_out(NATIVE))
         if "make" in words:
             when = moment()
-            shutil.rmtree(DIST, ignore_errors=True)
-            os.makedirs(DIST)
+            clear()
             for machine in here:
                 make(machine, when)
-            with open(SUMS, "w", encoding="ascii") as file:
-                file.write(sums())
+            write_sums()
         if "try" in words:
             same_sums()
             for machine in here:
                 try_all(machine)
-            files = [os.path.join(DIST, name) for name in sorted(os.listdir(DIST))]
-            tried.page_works(files, ROOM, ["In Python"] if no_venv() else [])
+            tried.page_works([os.path.join(DIST, name) for name in files()], ROOM, ["In Python"] if no_venv() else [])
     except (Failed, OSError) as why:
         sys.exit(f"dist.py: {why}")
     for why in filter(None, reasons):
