@@ -189,12 +189,14 @@ def sum_up():
 def table():
     found = rows()
     seconds, measure = whole(found)
-    crates = list(dict.fromkeys(crate for _, kind, crate, _, _ in found if kind in KINDS))
-    cells = collections.defaultdict(float)
-    for _, kind, crate, spent, _ in found:
-        cells[crate, kind] += float(spent)
     with open(os.path.join(TOP, "crates.txt"), encoding="utf-8") as file:
         every = [line.split(":")[0].split()[0] for line in file if ":" in line.partition("#")[0]]
+    # of rt ci alone: the other steps are rows of their own
+    tasks = [row for row in found if row[0] == "rt ci" and row[2] in every]
+    crates = list(dict.fromkeys(crate for _, kind, crate, _, _ in tasks if kind in KINDS))
+    cells = collections.defaultdict(float)
+    for _, kind, crate, spent, _ in tasks:
+        cells[crate, kind] += float(spent)
     lacking = [crate for crate in every if not cells[crate, "proof"]]
     if lacking:
         sys.exit(f"kept, and so not measured: {' '.join(lacking)}")
