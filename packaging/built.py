@@ -6,9 +6,14 @@ import os
 import re
 import shutil
 import subprocess
+import sys
 
 HERE = os.path.dirname(os.path.abspath(__file__))
 TOP = os.path.dirname(HERE)
+sys.path.insert(0, os.path.join(TOP, "bench"))
+
+from archive import below, uses  # noqa: E402  (the folder is put on the path above)
+
 ROOM = os.path.join(TOP, "out/dist")
 PROGRAMS = {"sgb": "sgb_cli", "sgb_levels": "sgb_levels"}
 LIBRARY = "sgb_c"
@@ -51,25 +56,6 @@ def missing(*commands):
 def kit():
     """The folder of the toolchain."""
     return os.path.dirname(ran(["rt", "doc"]).strip())
-
-
-def uses():
-    """What each crate of crates.txt uses."""
-    found = {}
-    with open(os.path.join(TOP, "crates.txt"), encoding="utf-8") as lines:
-        for line in lines:
-            name, colon, used = line.partition("#")[0].partition(":")
-            if colon:
-                found[name.split()[0]] = used.split()
-    return found
-
-
-def below(crate, found):
-    """The crates of the repository that this one stands on."""
-    for name in found.get(crate, ()):
-        if name in found:
-            yield name
-            yield from below(name, found)
 
 
 def rattle(crate, target, made):
