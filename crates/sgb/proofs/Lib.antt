@@ -1,8 +1,6 @@
 -- The lemmas of sgb, by subject.
 -- what needs no memory is never out of memory
 pub mod CertainAnswers
--- refusals that come before memory is taken
-pub mod FirstRefusals
 -- texts written part by part
 pub mod CutOff
 -- the numbers that a flip draws
@@ -43,5 +41,3 @@ pub mod Refusals
 pub mod ResumedListings
 -- what answers depend on of standard input
 pub mod StdinValues
--- values of expressions
-pub mod Values

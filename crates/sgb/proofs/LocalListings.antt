@@ -23,13 +23,13 @@ use Rattle.sgb.specs.inner.Locals.{local_block, local_line}
 use Rattle.sgb.specs.inner.Remaining.{IsRest}
 use Rattle.sgb.specs.Texts.{arc_line, block, blocks, head, head_text, name_line}
 use Rattle.sgb.specs.Outcomes.{answer_from, names_answer}
-use Rattle.sgb.specs.Locals.{vectors_of}
-use Rattle.sgb.specs.Values.{described, made, vector_graph_of}
+use Rattle.sgb_gen.specs.Generators.{vectors_of}
+use Rattle.sgb_gen.specs.Generators.{described, made, vector_graph_of}
 use Rattle.sgb.specs.Writing.{IsEnded}
 use Rattle.sgb_file.specs.Devices.{Change}
 use Rattle.sgb_requests.specs.declared.faults.Fault.{Fault}
 use Rattle.sgb_requests.specs.declared.requests.Resume.{Resume}
-use Rattle.sgb.specs.declared.locals.Local.{Local}
+use Rattle.sgb_gen.specs.declared.locals.Local.{Local}
 use Rattle.sgb.proofs.Listings.{block-parts, blocks-first, blocks-none}
 
 -- the name at a place, or the empty one, is that of the vector there, or of the empty one

@@ -16,23 +16,22 @@ ghost use Rattle.sgb_gen.specs.Runs.{AreMoved, arc_along, arcs_along};
 ghost use Rattle.sgb_gen.specs.VectorGraphs.{described_by};
 ghost use Rattle.sgb_graph.specs.Made.{graph_described};
 ghost use Rattle.sgb_requests.specs.declared.faults.Fault.TheVariants as fault;
-ghost use Rattle.sgb.specs.Locals.{family_text, head_if, start_after, vectors_of};
+ghost use Rattle.sgb_gen.specs.Generators.{vectors_of};
+ghost use Rattle.sgb.specs.Locals.{family_text, head_if, start_after};
 ghost use Rattle.sgb.specs.inner.Locals.{local_block, local_line};
 ghost use Rattle.sgb.specs.inner.Pages.{IsPaged, page_bytes};
 ghost use Rattle.sgb.specs.inner.Remaining.{IsRest};
 ghost use Rattle.sgb.specs.inner.Texts.{most_line_bytes};
 ghost use Rattle.sgb.specs.Texts.{head, name_line};
-ghost use Rattle.sgb.specs.Values.{described};
+ghost use Rattle.sgb_gen.specs.Generators.{described};
 ghost use Rattle.sgb.specs.Writing.{IsLeftOrBegun, IsWritten};
 
 use super::kept_names::KeptName;
 use super::listing::push_head_of;
 use super::pages::{Page, make_room, put_page};
 use super::resumed::vectors_after;
-use crate::locals::Local;
-use crate::visits::{Visit, Visitor};
 use sgb_file::Sink;
-use sgb_gen::{Links, Listed, Runs};
+use sgb_gen::{Links, Listed, Local, Runs, Visit, Visitor};
 use sgb_requests::Fault;
 use sgb_vec::{Family, Panic, Vectors};
 

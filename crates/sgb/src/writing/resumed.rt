@@ -9,18 +9,17 @@ ghost use Rattle.sgb_graph.specs.Graphs.{GraphData};
 ghost use Rattle.sgb_graph.specs.Made.{graph_described};
 ghost use Rattle.sgb_vec.specs.Names.{name_of_vector};
 ghost use Rattle.sgb_graph.specs.Vertices.{names_of};
-ghost use Rattle.sgb.specs.Locals.{head_if, start_after, vectors_of};
+ghost use Rattle.sgb_gen.specs.Generators.{vectors_of};
+ghost use Rattle.sgb.specs.Locals.{head_if, start_after};
 ghost use Rattle.sgb.specs.Outcomes.{head_for, left_out, list_answer};
 ghost use Rattle.sgb.specs.Texts.{head};
-ghost use Rattle.sgb.specs.Values.{described};
+ghost use Rattle.sgb_gen.specs.Generators.{described};
 ghost use Rattle.sgb.specs.inner.Remaining.{BeginsAfter, IsLastSkipped, IsMemberNamed};
 ghost use Rattle.sgb.specs.Writing.{IsEnded};
 
 use super::families::list_family;
-use crate::locals::Local;
-use crate::visits::{Visit, Visitor};
 use sgb_file::Sink;
-use sgb_gen::{Links, Listed};
+use sgb_gen::{Links, Listed, Local, Visit, Visitor};
 use sgb_requests::{Fault, Resume};
 use sgb_vec::{Family, Vector, Vectors, vector_of};
 

@@ -3,7 +3,7 @@ use Rattle.sgb_graph.specs.Made.{graph_described}
 use Rattle.sgb_graph.specs.Vertices.{names_of}
 use Rattle.sgb.specs.Outcomes.{head_for, left_out}
 use Rattle.sgb.specs.Texts.{blocks, head}
-use Rattle.sgb.specs.Values.{described, vector_graph_of}
+use Rattle.sgb_gen.specs.Generators.{described, vector_graph_of}
 use Rattle.sgb.proofs.CertainAnswers.{exit_nowhere, not_nowhere}
 use Rattle.sgb.proofs.Endings.{ended_after, exit_ended, refused_after}
 use Rattle.sgb.proofs.ResumedListings.{blocks_after, left_out_of_graph}
