@@ -5,7 +5,7 @@ use Rattle.sgb_graph.specs.Graphs.{GraphData}
 use Rattle.sgb_graph.specs.Sound.{vertex_kinds}
 use Rattle.sgb_graph.specs.declared.fields.Kind.TheVariants.{I}
 use Rattle.sgb_graph.specs.declared.fields.Util.{Util}
-use Rattle.sgb_graph.specs.declared.fields.Util.TheVariants.{Nothing, Int, Vertex as VertexField, Str, Chain}
+use Rattle.sgb_graph.specs.declared.fields.Util.TheVariants.{Nothing, Int}
 use Rattle.sgb_graph.specs.declared.fields.Vertex.{Vertex}
 use Rattle.sgb_arrays.specs.declared.refusals.Wrong.{Wrong}
 use Rattle.sgb_arrays.specs.declared.refusals.Wrong.TheVariants as wrong
@@ -17,10 +17,7 @@ HoldsInts g field = slice_get (vertex_kinds g.kinds) field ≡ Some I
 -- the integer that a field holds
 abbrev pub int_of : Util → ℤ
 int_of (Int i) = i
-int_of Nothing = pos 0
-int_of (VertexField r) = pos 0
-int_of (Str text) = pos 0
-int_of (Chain first) = pos 0
+int_of _ = pos 0
 
 -- the integer in this field of a vertex
 abbrev pub int_at : ℕ → Vertex → ℤ
@@ -34,4 +31,4 @@ ints_of g field = map (int_at field) g.vertices
 abbrev pub IsIntsRefusal : GraphData → ℕ → ℕ → Wrong → Type 0
 IsIntsRefusal g field size wrong.Field = HoldsInts g field → ⊥
 IsIntsRefusal g field size wrong.Length = HoldsInts g field × (size ≡ length g.vertices → ⊥)
-IsIntsRefusal g field size wrong.Bound = ⊥
+IsIntsRefusal g field size _ = ⊥

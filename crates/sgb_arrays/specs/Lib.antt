@@ -1,10 +1,10 @@
 -- What the contracts of sgb_arrays speak of.
 -- parts that stand one after another
 pub mod Lists
--- the lists of arcs, one after another
-pub mod Rows
--- the names, one after another
-pub mod Names
+-- the lists and the names of a run of vertices, as arrays
+pub mod Runs
+-- arrays of the same lengths
+pub mod Copies
 -- utility fields of the vertices
 pub mod Fields
 -- what no public contract needs

@@ -1,10 +1,10 @@
 -- What only the private contracts and the proofs of sgb_arrays speak of.
 -- values put from a place on
 pub mod Puts
--- what is left of the lists
-pub mod ArcsLeft
--- what is left of the names
-pub mod NamesLeft
+-- what is left of a walk through all vertices
+pub mod PartsLeft
+-- names of vectors by their places
+pub mod VectorNames
 -- kinds of fields
 pub mod Kinds
 -- how long some lists are

@@ -1,18 +1,27 @@
 //! What holds of all graphs' arrays.
-ghost use Rattle.std.specs.Prelude.{◌≡◌, ◌<◌, ℕ, [], length, map, slice_index_or};
+ghost use Rattle.std.specs.Prelude.{◌≡◌, ◌<◌, ◌+◌, ◌++◌, ℕ, ℤ, List, map};
 ghost use Rattle.sgb_graph.specs.Graphs.{GraphData, chain_of};
-ghost use Rattle.sgb_graph.specs.Vertices.{names_of};
 ghost use Rattle.sgb_arrays.specs.Lists.{part_by_starts};
-ghost use Rattle.sgb_arrays.specs.Names.{name_bytes, name_starts};
-ghost use Rattle.sgb_arrays.specs.Rows.{lengths_of, starts_of, tips_of};
+ghost use Rattle.sgb_arrays.specs.Runs.{AreNames, AreRows, name_at, parts_of};
 
-/// The list of vertex v is what stands in the rows from its start up to the next one, and its name what stands so among
-/// the names.
+/// In arrays that hold the lists of a run, the list of its vertex k is what stands from its start up to the next one; in
+/// those that hold its names, the name of that vertex stands so.
 pub fn parts_law()
-    ensures tips { (g : GraphData) (v : ℕ) → v < length g.vertices
-        → part_by_starts (tips_of g) (starts_of g) v ≡ map (λ l. l.tip) (chain_of g v) }
-    ensures lengths { (g : GraphData) (v : ℕ) → v < length g.vertices
-        → part_by_starts (lengths_of g) (starts_of g) v ≡ map (λ l. l.len) (chain_of g v) }
-    ensures names { (g : GraphData) (v : ℕ) → v < length g.vertices
-        → part_by_starts (name_bytes g) (name_starts g) v ≡ slice_index_or (names_of g) v [] }
+    ensures tips { (g : GraphData) (first count k : ℕ) (starts tips : List ℕ) (lengths : List ℤ)
+        → AreRows g first count starts tips lengths → k < count
+        → part_by_starts tips starts k ≡ map (λ l. l.tip) (chain_of g (first + k)) }
+    ensures lengths { (g : GraphData) (first count k : ℕ) (starts tips : List ℕ) (lengths : List ℤ)
+        → AreRows g first count starts tips lengths → k < count
+        → part_by_starts lengths starts k ≡ map (λ l. l.len) (chain_of g (first + k)) }
+    ensures names { (g : GraphData) (first count k : ℕ) (starts bytes : List ℕ)
+        → AreNames g first count starts bytes → k < count
+        → part_by_starts bytes starts k ≡ name_at g (first + k) }
+{}
+
+/// Two runs one after the other are one.
+pub fn runs_join_law()
+    ensures arcs { (g : GraphData) (first a b : ℕ) → parts_of (chain_of g) first (a + b)
+        ≡ parts_of (chain_of g) first a ++ parts_of (chain_of g) (first + a) b }
+    ensures names { (g : GraphData) (first a b : ℕ) → parts_of (name_at g) first (a + b)
+        ≡ parts_of (name_at g) first a ++ parts_of (name_at g) (first + a) b }
 {}

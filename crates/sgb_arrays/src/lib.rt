@@ -1,39 +1,52 @@
 //! Graphs as arrays: the lists of arcs in compressed sparse rows, the names one after another, utility fields, files and
-//! random numbers, each put into slices that the caller hands in.
+//! random numbers, each put into slices that the caller hands in; and the lists and the names of a run of vertices of a
+//! generator's graph, so many one after another, with no graph: so one of a thousand million vertices is gone through.
 #![tactic(auto)]
 
-// A graph with its lists of arcs as arrays.
-mod counted;
 // Random numbers in an array.
 mod draws;
 // Utility fields of vertices as arrays.
 mod fields;
 // Files in arrays.
 mod files;
+// The names of a graph, put into arrays.
+mod graph_names;
+// The lists of a graph, put into arrays.
+mod graph_rows;
 // The id in an array.
 mod ids;
 // Kinds of fields in an array.
 mod kinds;
 // What holds of all arrays.
 mod laws;
-// Why an array is not filled.
-mod refusals;
-// Lists of arcs that are kept as arrays.
-mod kept_rows;
-// The lists of arcs, one after another.
-mod rows;
-// Names, one after another.
+// Names as arrays.
 mod names;
+// A graph with its lists of arcs as arrays.
+mod packed;
 // Values put from a place on.
 mod puts;
+// Why an array is not filled.
+mod refusals;
+// Lists of arcs as arrays.
+mod rows;
+// The names of a run.
+mod run_names;
+// The lists of a run.
+mod run_rows;
+// The vectors of a run.
+mod runs;
 
-pub use counted::Counted;
 pub use draws::{fill_draws, fill_uniform_draws};
 pub use fields::fill_ints;
 pub use files::{file_len, fill_file};
+pub use graph_names::{fill_names, names_len};
+pub use graph_rows::{arcs_len, fill_rows};
 pub use ids::fill_id;
 pub use kinds::fill_kinds;
-pub use laws::parts_law;
-pub use names::{fill_names, names_len};
+pub use laws::{parts_law, runs_join_law};
+pub use names::Names;
+pub use packed::PackedGraph;
 pub use refusals::Wrong;
-pub use rows::{arcs_len, fill_rows};
+pub use rows::Rows;
+pub use run_names::names_of_run;
+pub use run_rows::rows_of_run;

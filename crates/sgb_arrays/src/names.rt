@@ -1,62 +1,62 @@
-//! The names of a graph's vertices, one after another.
-ghost use Rattle.std.specs.Prelude.{◌≡◌, ◌≤◌, ◌<◌, ◌+◌, length, OnOk, IfErr};
+//! Names as arrays.
+ghost use Rattle.std.specs.Prelude.{◌≡◌, ◌∷◌, [], IfErr, IfOk, IsOkUnless, OnOk};
 ghost use Rattle.std.specs.Bool.{OnTrue, OnFalse};
-ghost use Rattle.sgb_arrays.specs.Names.{AreNames, HaveNameLengths, name_bytes};
-ghost use Rattle.sgb_arrays.specs.inner.Puts.{put_from};
+ghost use Rattle.sgb_vec.specs.declared.panics.Panic.TheVariants as Panic;
+ghost use Rattle.sgb_arrays.specs.Copies.{HaveLengthsOfNames};
 ghost use Rattle.sgb_arrays.specs.declared.refusals.Wrong.TheVariants as wrong;
 
-use crate::puts::put_bytes;
 use crate::refusals::Wrong;
-use sgb_graph::Graph;
+use sgb_vec::Panic;
+use std::alloc::Global;
 
-/// How many bytes the names of a graph's vertices have. No memory is taken.
-pub fn names_len(graph: &Graph) -> u64
-    ensures { result ≡ length (name_bytes graph.now) }
-{
-    let mut count = 0;
-    for v in 0..graph.n() {
-        count += graph.name(v).bytes().len() as u64;
-    }
-    count
+/// The names of some vertices, one after another: that of vertex k of them is what stands in `bytes` from `starts[k]` up
+/// to `starts[k + 1]`.
+#[derive(Drop)]
+pub struct Names {
+    /// Where each name starts, and then where the last one ends.
+    pub starts: Vec<u64>,
+    /// The bytes of the names.
+    pub bytes: Vec<u8>,
 }
 
-/// Puts the names of a graph's vertices into an array, one after another, and where each one starts, and then where the
-/// last one ends. The name of vertex v is what stands from `starts[v]` up to `starts[v + 1]`. No memory is taken.
-///
-/// `Length` where there are not n + 1 starts, or not as many bytes as the names have.
-pub fn fill_names(graph: &Graph, starts: &mut [u64], bytes: &mut [u8]) -> Result<(), Wrong>
-    ensures filled { OnOk result (HaveNameLengths graph.now starts.old bytes.old
-        × AreNames graph.now starts.new bytes.new) }
-    ensures refused { IfErr result (λ why. (why ≡ wrong.Length)
-        × (HaveNameLengths graph.now starts.old bytes.old → ⊥)
-        × (starts.new ≡ starts.old) × (bytes.new ≡ bytes.old)) }
-{
-    if !have_name_lengths(graph, starts, bytes) {
-        return Err(Wrong::Length);
+impl Names {
+    // No names, and room for where those of so many vertices start.
+    pub(crate) fn new(alloc: Global, vertices: usize) -> Result<Names, Panic>
+        ensures starts { IfOk result (λ names. names.starts.items ≡ 0 ∷ []) }
+        ensures bytes { IfOk result (λ names. names.bytes.items ≡ []) }
+        ensures memory { IsOkUnless result Panic.NoRoom }
+    {
+        let mut starts = Vec::with_capacity(alloc, vertices.saturating_add(1))?;
+        starts.push(0)?;
+        Ok(Names {
+            starts,
+            bytes: Vec::new(alloc),
+        })
     }
-    put_names(graph, starts, bytes);
-    Ok(())
-}
 
-// Whether these arrays have the lengths that the names of the graph must have.
-fn have_name_lengths(graph: &Graph, starts: &[u64], bytes: &[u8]) -> bool
-    ensures fits { OnTrue result (HaveNameLengths graph.now starts.now bytes.now) }
-    ensures other { OnFalse result (HaveNameLengths graph.now starts.now bytes.now → ⊥) }
-{
-    starts.len() as u64 == u64::from(graph.n()) + 1 && bytes.len() as u64 == names_len(graph)
-}
-
-// Puts the names into arrays of the right lengths.
-fn put_names(graph: &Graph, starts: &mut [u64], bytes: &mut [u8])
-    requires { HaveNameLengths graph.now starts.old bytes.old }
-    ensures { AreNames graph.now starts.new bytes.new }
-{
-    let mut at = 0;
-    for v in 0..graph.n() {
-        starts[v as usize] = at as u64;
-        let name = graph.name(v).bytes();
-        put_bytes(bytes, at, name);
-        at += name.len();
+    /// Copies the names into arrays of their lengths. No memory is taken.
+    ///
+    /// `Length` where an array has another length.
+    pub fn copy_to(&self, starts: &mut [u64], bytes: &mut [u8]) -> Result<(), Wrong>
+        ensures copied { OnOk result (HaveLengthsOfNames self.now starts.old bytes.old
+            × (starts.new ≡ self.now.starts.items) × (bytes.new ≡ self.now.bytes.items)) }
+        ensures refused { IfErr result (λ why. (why ≡ wrong.Length)
+            × (HaveLengthsOfNames self.now starts.old bytes.old → ⊥)
+            × (starts.new ≡ starts.old) × (bytes.new ≡ bytes.old)) }
+    {
+        if !self.have_lengths(starts, bytes) {
+            return Err(Wrong::Length);
+        }
+        starts.copy_from_slice(self.starts.as_slice());
+        bytes.copy_from_slice(self.bytes.as_slice());
+        Ok(())
     }
-    starts[graph.n() as usize] = at as u64;
+
+    // Whether these arrays have the lengths of its own.
+    fn have_lengths(&self, starts: &[u64], bytes: &[u8]) -> bool
+        ensures same { OnTrue result (HaveLengthsOfNames self.now starts.now bytes.now) }
+        ensures other { OnFalse result (HaveLengthsOfNames self.now starts.now bytes.now → ⊥) }
+    {
+        starts.len() == self.starts.len() && bytes.len() == self.bytes.len()
+    }
 }

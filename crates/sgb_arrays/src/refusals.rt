@@ -1,4 +1,4 @@
-/// Why an array is not filled. It is then as it was.
+/// Why an array is not filled, or there are none. Arrays that were handed in are then as they were.
 #[derive(Clone, Copy, Debug, PartialEq, Eq)]
 pub enum Wrong {
     /// An array has another length than it must have.
@@ -7,4 +7,8 @@ pub enum Wrong {
     Field,
     /// No uniform number can be below this bound.
     Bound,
+    /// Vertices of the run are none of the graph.
+    Vertices,
+    /// Out of memory.
+    NoRoom,
 }

@@ -1,172 +1,91 @@
-//! The lists of arcs of a graph, one after another: compressed sparse rows.
-ghost use Rattle.std.specs.Prelude.{◌≡◌, ◌≤◌, ◌<◌, ◌+◌, ◌^◌, length, map, OnOk, IfErr};
+//! Lists of arcs as arrays: compressed sparse rows.
+ghost use Rattle.std.specs.Prelude.{◌≡◌, ◌++◌, ◌∷◌, [], length, IfErr, IfOk, IsOkUnless, OnOk};
 ghost use Rattle.std.specs.Bool.{OnTrue, OnFalse};
-ghost use Rattle.sgb_graph.specs.Graphs.{chain_of};
-ghost use Rattle.sgb_arrays.specs.Rows.{AreRows, HaveRowLengths, arcs_of};
-ghost use Rattle.sgb_arrays.specs.inner.Puts.{put_from};
-ghost use Rattle.sgb_arrays.specs.inner.Sizes.{AreSizesFrom};
+ghost use Rattle.sgb_vec.specs.declared.panics.Panic.TheVariants as Panic;
+ghost use Rattle.sgb_arrays.specs.Copies.{HaveLengthsOfRows};
 ghost use Rattle.sgb_arrays.specs.declared.refusals.Wrong.TheVariants as wrong;
 
 use crate::refusals::Wrong;
-use sgb_graph::Graph;
+use sgb_vec::Panic;
+use std::alloc::Global;
 
-/// How many arcs are on the lists of a graph's vertices. No memory is taken.
-pub fn arcs_len(graph: &Graph) -> u128
-    ensures { result ≡ length (arcs_of graph.now) }
-{
-    let mut count = 0;
-    let mut sizes = Sizes::from(graph, 0);
-    for v in 0..graph.n() {
-        count += u128::from(sizes.at(graph, v) as u64);
-    }
-    count
-}
-
-// How many arcs are on the lists of a vertex and the seven after it, of which there may be fewer.
+/// The lists of some vertices, one after another: that of vertex k of them is what stands in `tips` and `lengths` from
+/// `starts[k]` up to `starts[k + 1]`.
 #[derive(Drop)]
-struct Sizes {
-    first: u32,
-    known: [usize; 8],
+pub struct Rows {
+    /// Where each list starts, and then where the last one ends.
+    pub starts: Vec<u64>,
+    /// Where each arc leads: a vertex of the graph, counted from its first one.
+    pub tips: Vec<u32>,
+    /// The length of each arc.
+    pub lengths: Vec<i64>,
 }
 
-impl Sizes {
-    // Those from vertex v on.
-    fn from(graph: &Graph, v: u32) -> Sizes
-        ensures first { result.first ≡ v }
-        ensures known { AreSizesFrom graph.now v result.known }
+impl Rows {
+    // No lists, and room for those of so many vertices, with so many arcs.
+    pub(crate) fn new(alloc: Global, vertices: usize, arcs: usize) -> Result<Rows, Panic>
+        ensures starts { IfOk result (λ rows. rows.starts.items ≡ 0 ∷ []) }
+        ensures tips { IfOk result (λ rows. rows.tips.items ≡ []) }
+        ensures lengths { IfOk result (λ rows. rows.lengths.items ≡ []) }
+        ensures memory { IsOkUnless result Panic.NoRoom }
     {
-        Sizes {
-            first: v,
-            known: sizes_from(graph, v),
-        }
+        let mut starts = Vec::with_capacity(alloc, vertices.saturating_add(1))?;
+        starts.push(0)?;
+        let tips = Vec::with_capacity(alloc, arcs)?;
+        let lengths = Vec::with_capacity(alloc, arcs)?;
+        Ok(Rows {
+            starts,
+            tips,
+            lengths,
+        })
     }
 
-    // How many arcs are on the list of vertex v, which is one of the eight, or the next one: then the next eight are had.
-    fn at(&mut self, graph: &Graph, v: u32) -> usize
-        requires vertex { v < length graph.now.vertices }
-        requires known { AreSizesFrom graph.now self.old.first self.old.known }
-        requires after { self.old.first ≤ v }
-        requires before { v ≤ self.old.first + 8 }
-        ensures size { result ≡ length (chain_of graph.now v) }
-        ensures known { AreSizesFrom graph.now self.new.first self.new.known }
-        ensures after { self.new.first ≤ v }
-        ensures before { v + 1 ≤ self.new.first + 8 }
+    // Ends a list: the next one starts here.
+    pub(crate) fn push_start(&mut self) -> Result<(), Panic>
+        ensures starts { OnOk result (self.new.starts.items
+            ≡ self.old.starts.items ++ length self.old.tips.items ∷ []) }
+        ensures tips { OnOk result (self.new.tips.items ≡ self.old.tips.items) }
+        ensures lengths { OnOk result (self.new.lengths.items ≡ self.old.lengths.items) }
+        ensures memory { IsOkUnless result Panic.NoRoom }
     {
-        if v - self.first > 7 {
-            *self = Sizes::from(graph, v);
+        self.starts.push(self.tips.len() as u64)?;
+        Ok(())
+    }
+
+    /// Copies the lists into arrays of their lengths. No memory is taken.
+    ///
+    /// `Length` where an array has another length.
+    pub fn copy_to(
+        &self,
+        starts: &mut [u64],
+        tips: &mut [u32],
+        lengths: &mut [i64],
+    ) -> Result<(), Wrong>
+        ensures copied { OnOk result (HaveLengthsOfRows self.now starts.old tips.old lengths.old
+            × (starts.new ≡ self.now.starts.items) × (tips.new ≡ self.now.tips.items)
+            × (lengths.new ≡ self.now.lengths.items)) }
+        ensures refused { IfErr result (λ why. (why ≡ wrong.Length)
+            × (HaveLengthsOfRows self.now starts.old tips.old lengths.old → ⊥)
+            × (starts.new ≡ starts.old) × (tips.new ≡ tips.old) × (lengths.new ≡ lengths.old)) }
+    {
+        if !self.have_lengths(starts, tips, lengths) {
+            return Err(Wrong::Length);
         }
-        self.known[(v - self.first) as usize]
+        starts.copy_from_slice(self.starts.as_slice());
+        tips.copy_from_slice(self.tips.as_slice());
+        lengths.copy_from_slice(self.lengths.as_slice());
+        Ok(())
     }
-}
 
-// How many arcs are on the lists of vertex v and the seven after it. Where there are so many, they are followed side by side.
-fn sizes_from(graph: &Graph, v: u32) -> [usize; 8]
-    ensures { AreSizesFrom graph.now v result }
-{
-    let n = graph.n();
-    if v < n && n - v > 7 {
-        return graph.degrees(v);
+    // Whether these arrays have the lengths of its own.
+    fn have_lengths(&self, starts: &[u64], tips: &[u32], lengths: &[i64]) -> bool
+        ensures same { OnTrue result
+            (HaveLengthsOfRows self.now starts.now tips.now lengths.now) }
+        ensures other { OnFalse result
+            (HaveLengthsOfRows self.now starts.now tips.now lengths.now → ⊥) }
+    {
+        starts.len() == self.starts.len()
+            && tips.len() == self.tips.len()
+            && lengths.len() == self.lengths.len()
     }
-    last_sizes(graph, v)
-}
-
-// The same, one list after another.
-fn last_sizes(graph: &Graph, v: u32) -> [usize; 8]
-    ensures { AreSizesFrom graph.now v result }
-{
-    let mut sizes = [0; 8];
-    for u in v..graph.n().min(v.saturating_add(8)) {
-        sizes[(u - v) as usize] = degree(graph, u);
-    }
-    sizes
-}
-
-// How many arcs are on the list of vertex v.
-fn degree(graph: &Graph, v: u32) -> usize
-    requires { v < length graph.now.vertices }
-    ensures count { result ≡ length (chain_of graph.now v) }
-    ensures few { result ≤ length graph.now.records }
-{
-    let most = graph.records_len();
-    let mut count = 0;
-    for _link in graph.arcs(v) {
-        count += 1;
-    }
-    count.min(most)
-}
-
-/// Puts the lists of arcs of a graph into arrays, one list after another: where each list starts, and then where the last
-/// one ends; where each arc leads; its length. The list of vertex v is what stands from `starts[v]` up to `starts[v + 1]`.
-/// No memory is taken.
-///
-/// `Length` where there are not n + 1 starts, or not as many tips and lengths as arcs.
-pub fn fill_rows(
-    graph: &Graph,
-    starts: &mut [u64],
-    tips: &mut [u32],
-    lengths: &mut [i64],
-) -> Result<(), Wrong>
-    ensures filled { OnOk result (HaveRowLengths graph.now starts.old tips.old lengths.old
-        × AreRows graph.now starts.new tips.new lengths.new) }
-    ensures refused { IfErr result (λ why. (why ≡ wrong.Length)
-        × (HaveRowLengths graph.now starts.old tips.old lengths.old → ⊥)
-        × (starts.new ≡ starts.old) × (tips.new ≡ tips.old) × (lengths.new ≡ lengths.old)) }
-{
-    let arcs = arcs_len(graph);
-    if !have_row_lengths(graph, arcs, starts, tips, lengths) {
-        return Err(Wrong::Length);
-    }
-    put_rows(graph, starts, tips, lengths);
-    Ok(())
-}
-
-// Whether these arrays have the lengths that the lists of the graph must have, which have so many arcs.
-pub(crate) fn have_row_lengths(
-    graph: &Graph,
-    arcs: u128,
-    starts: &[u64],
-    tips: &[u32],
-    lengths: &[i64],
-) -> bool
-    requires { arcs ≡ length (arcs_of graph.now) }
-    ensures fits { OnTrue result (HaveRowLengths graph.now starts.now tips.now lengths.now) }
-    ensures other { OnFalse result (HaveRowLengths graph.now starts.now tips.now lengths.now → ⊥) }
-    ensures few { OnTrue result (arcs < 2 ^ 64) }
-{
-    starts.len() as u64 == u64::from(graph.n()) + 1
-        && u128::from(tips.len() as u64) == arcs
-        && u128::from(lengths.len() as u64) == arcs
-}
-
-// Puts the lists of arcs into arrays of the right lengths.
-pub(crate) fn put_rows(graph: &Graph, starts: &mut [u64], tips: &mut [u32], lengths: &mut [i64])
-    requires { HaveRowLengths graph.now starts.old tips.old lengths.old }
-    ensures { AreRows graph.now starts.new tips.new lengths.new }
-{
-    let mut at = 0;
-    for v in 0..graph.n() {
-        graph.read_ahead(v);
-        starts[v as usize] = at as u64;
-        at = put_row(graph, v, at, tips, lengths);
-    }
-    starts[graph.n() as usize] = at as u64;
-}
-
-// Puts the list of vertex v into the arrays, from a place on: the place after it.
-fn put_row(graph: &Graph, v: u32, at: usize, tips: &mut [u32], lengths: &mut [i64]) -> usize
-    requires vertex { v < length graph.now.vertices }
-    requires tips { at + length (chain_of graph.now v) ≤ length tips.old }
-    requires lengths { at + length (chain_of graph.now v) ≤ length lengths.old }
-    ensures end { result ≡ at + length (chain_of graph.now v) }
-    ensures tips { tips.new ≡ put_from at (map (λ l. l.tip) (chain_of graph.now v)) tips.old }
-    ensures lengths { lengths.new
-        ≡ put_from at (map (λ l. l.len) (chain_of graph.now v)) lengths.old }
-{
-    let mut place = at;
-    for link in graph.arcs(v) {
-        tips[place] = link.tip;
-        lengths[place] = link.len;
-        place += 1;
-    }
-    place
 }

@@ -4,3 +4,5 @@
 mod arrays;
 // the caller that the page for callers shows
 mod caller;
+// runs of small and of great graphs
+mod runs;

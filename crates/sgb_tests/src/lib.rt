@@ -1,5 +1,5 @@
 //! Tests of whole calls of `sgb`, from the words to the bytes, with values from the published programs' rules, and of the public
-//! calls of `sgb_arrays` and `sgb_chunks`: in a crate of their own, so that those crates are not proved once more for them.
+//! calls of `sgb_arrays`: in a crate of their own, so that those crates are not proved once more for them.
 #![tactic(auto)]
 
 // `sgb_arrays`
@@ -11,9 +11,6 @@ mod caller;
 // calls, and what they leave
 #[cfg(test)]
 mod calls;
-// `sgb_chunks`
-#[cfg(test)]
-mod chunks_calls;
 // sinks that count, and fail
 #[cfg(test)]
 mod devices;

@@ -1,5 +1,5 @@
 use sgb_arrays::{
-    Counted, Wrong, arcs_len, file_len, fill_draws, fill_file, fill_id, fill_ints, fill_kinds,
+    PackedGraph, Wrong, arcs_len, file_len, fill_draws, fill_file, fill_id, fill_ints, fill_kinds,
     fill_names, fill_rows, fill_uniform_draws, names_len,
 };
 use sgb_gen::complete;
@@ -49,18 +49,18 @@ fn has_triangle_fields(graph: &Graph) -> bool {
 // eight lists side by side, and one after them
 #[test]
 fn rows_of_nine_vertices(rt: HostRuntime) -> Result<(), Fail> {
-    let counted = Counted::new(rt.alloc(), complete(9).graph(rt.alloc())?)?;
-    assert!(rt; has_nine_rows(&counted));
+    let packed = PackedGraph::new(rt.alloc(), complete(9).graph(rt.alloc())?)?;
+    assert!(rt; has_nine_rows(&packed));
     Ok(())
 }
 
 // Whether the lists are those of nine vertices with eight arcs each, as they are put one after another.
-fn has_nine_rows(counted: &Counted) -> bool {
+fn has_nine_rows(packed: &PackedGraph) -> bool {
     let (mut starts, mut tips, mut lengths) = ([0; 10], [0; 72], [0; 72]);
-    counted.arcs_len() == 72
-        && counted.fill_rows(&mut starts, &mut tips, &mut lengths) == Ok(())
+    packed.arcs_len() == 72
+        && packed.fill_rows(&mut starts, &mut tips, &mut lengths) == Ok(())
         && starts == [0, 8, 16, 24, 32, 40, 48, 56, 64, 72]
-        && are_rows_of(counted.graph(), &starts, &tips, &lengths)
+        && are_rows_of(packed.graph(), &starts, &tips, &lengths)
 }
 
 // Whether these are the rows of the graph, put one list after another.

@@ -1,0 +1,51 @@
+-- A run of a graph's vertices, so many one after another from the first one on, as arrays: their lists ("compressed sparse
+-- rows"), and their names. All vertices are the run from 0 on of as many as there are.
+use Rattle.std.specs.Prelude.{◌≡◌, ◌⊎◌, ◌≤◌, ◌+◌, ℕ, ℤ, List, [], length, map}
+use Rattle.std.specs.List.{flat_map, range_with_len, slice_index_or}
+use Rattle.sgb_graph.specs.Graphs.{GraphData, chain_of}
+use Rattle.sgb_graph.specs.Vertices.{names_of}
+use Rattle.sgb_arrays.specs.Lists.{starts_from}
+use Rattle.sgb_arrays.specs.declared.refusals.Wrong.{Wrong}
+use Rattle.sgb_arrays.specs.declared.refusals.Wrong.TheVariants as wrong
+
+-- the vertices of the run are vertices of the graph
+abbrev pub IsThere : GraphData → ℕ → ℕ → Type 0
+IsThere g first count = first + count ≤ length g.vertices
+
+-- what a graph has for each vertex of the run, one after another
+unfoldable pub parts_of : {X : Type 0} → (ℕ → List X) → ℕ → ℕ → List X
+parts_of parts first count = flat_map parts (range_with_len first count)
+
+-- where that of each vertex starts in it, and then where the last one ends
+unfoldable pub part_starts : {X : Type 0} → (ℕ → List X) → ℕ → ℕ → List ℕ
+part_starts parts first count = starts_from 0 (map (λ v. length (parts v)) (range_with_len first count))
+
+-- the name of vertex v
+abbrev pub name_at : GraphData → ℕ → List ℕ
+name_at g v = slice_index_or (names_of g) v []
+
+-- arrays that the lists of the run fit into: a start more than vertices, and as many tips and lengths as arcs
+pub record HaveRowLengths (g : GraphData) (first count : ℕ) (starts tips : List ℕ) (lengths : List ℤ) : Type 0 where
+  pub starts_fit : length starts ≡ count + 1
+  pub tips_fit : length tips ≡ length (parts_of (chain_of g) first count)
+  pub lengths_fit : length lengths ≡ length (parts_of (chain_of g) first count)
+
+-- arrays that hold the lists of the run: where each starts, where each arc leads, and its length
+pub record AreRows (g : GraphData) (first count : ℕ) (starts tips : List ℕ) (lengths : List ℤ) : Type 0 where
+  pub starts_are : starts ≡ part_starts (chain_of g) first count
+  pub tips_are : tips ≡ map (λ l. l.tip) (parts_of (chain_of g) first count)
+  pub lengths_are : lengths ≡ map (λ l. l.len) (parts_of (chain_of g) first count)
+
+-- arrays that the names of the run fit into: a start more than vertices, and as many bytes as the names have
+pub record HaveNameLengths (g : GraphData) (first count : ℕ) (starts bytes : List ℕ) : Type 0 where
+  pub starts_fit : length starts ≡ count + 1
+  pub bytes_fit : length bytes ≡ length (parts_of (name_at g) first count)
+
+-- arrays that hold the names of the run, and where each starts
+pub record AreNames (g : GraphData) (first count : ℕ) (starts bytes : List ℕ) : Type 0 where
+  pub starts_are : starts ≡ part_starts (name_at g) first count
+  pub bytes_are : bytes ≡ parts_of (name_at g) first count
+
+-- why the lists or the names of a run are not had: some of its vertices are none of the graph, or out of memory
+abbrev pub IsRunRefusal : GraphData → ℕ → ℕ → Wrong → Type 0
+IsRunRefusal g first count why = ((why ≡ wrong.Vertices) × (IsThere g first count → ⊥)) ⊎ (why ≡ wrong.NoRoom)

@@ -1,0 +1,133 @@
+//! The lists of a run.
+//!
+//! Tips are vertices of the whole graph, found from their vectors by `place_of`, with no search.
+ghost use Rattle.std.specs.Prelude.{◌≡◌, ◌++◌, ◌+◌, ◌≤◌, ℕ, length, map, slice_get, Some, Contains, IfErr, IfOk, IsOkUnless, OnOk, ⊤};
+ghost use Rattle.sgb_gen.specs.LocalLists.{LocalArc};
+ghost use Rattle.sgb_gen.specs.VectorGraphs.{described_by, vertex_among};
+ghost use Rattle.sgb_graph.specs.Made.{graph_described};
+ghost use Rattle.sgb_gen.specs.Generators.{described};
+ghost use Rattle.sgb_arrays.specs.Runs.{AreRows, IsRunRefusal, IsThere};
+
+use crate::refusals::Wrong;
+use crate::rows::Rows;
+use crate::runs::{has_run, vectors_from};
+use sgb_gen::{Links, Listed, Local, Visit, Visitor};
+use sgb_vec::Panic;
+use std::alloc::Global;
+
+/// The lists of `count` vertices of a generator's graph, from vertex `first` on. The graph is not built.
+///
+/// `Vertices` where there are not so many vertices; `NoRoom` when out of memory.
+pub fn rows_of_run(alloc: Global, local: &Local, first: u32, count: u32) -> Result<Rows, Wrong>
+    ensures rows { IfOk result (λ rows. IsThere (graph_described (described local.now)) first count
+        × AreRows (graph_described (described local.now)) first count rows.starts.items
+        rows.tips.items rows.lengths.items) }
+    ensures refused { IfErr result (IsRunRefusal (graph_described (described local.now)) first
+        count) }
+{
+    let mut links = Links::new(alloc);
+    let run = RowsOfRun {
+        alloc,
+        first,
+        count,
+    };
+    local.visit(run, &mut links)
+}
+
+// The lists of a run of a generator's graph, made in links that serve for list after list.
+#[derive(Drop)]
+struct RowsOfRun {
+    alloc: Global,
+    first: u32,
+    count: u32,
+}
+
+impl Visitor<Links> for RowsOfRun {
+    type Answer = Result<Rows, Wrong>;
+
+    ghost needs = { λ _ _ _. ⊤ };
+
+    ghost gives = { λ v g _ _ result.
+        IfOk result (λ rows. IsThere (graph_described (described_by g)) v.first v.count
+        × AreRows (graph_described (described_by g)) v.first v.count rows.starts.items
+        rows.tips.items rows.lengths.items)
+        × IfErr result (IsRunRefusal (graph_described (described_by g)) v.first v.count) };
+}
+
+impl<'a, L: Listed<'a>> Visit<'a, L, Links> for RowsOfRun {
+    fn visit(self, listed: &mut L, links: &mut Links) -> Result<Rows, Wrong> {
+        listed.prepare(links);
+        rows_in(self.alloc, listed, self.first, self.count, links)
+    }
+}
+
+// The lists of a run of a graph, by what a listing asks of it.
+fn rows_in<'a, L: Listed<'a>>(
+    alloc: Global,
+    listed: &mut L,
+    first: u32,
+    count: u32,
+    links: &mut Links,
+) -> Result<Rows, Wrong>
+    ensures rows { IfOk result (λ rows. IsThere (graph_described (described_by (L.graph
+        listed.old))) first count
+        × AreRows (graph_described (described_by (L.graph listed.old))) first count
+        rows.starts.items rows.tips.items rows.lengths.items) }
+    ensures refused { IfErr result (IsRunRefusal (graph_described (described_by (L.graph
+        listed.old))) first count) }
+{
+    if !has_run(listed.family(), first, count) {
+        return Err(Wrong::Vertices);
+    }
+    match put_rows(alloc, listed, first, count, links) {
+        Ok(rows) => Ok(rows),
+        Err(_) => Err(Wrong::NoRoom),
+    }
+}
+
+// The lists of a run that is there.
+fn put_rows<'a, L: Listed<'a>>(
+    alloc: Global,
+    listed: &mut L,
+    first: u32,
+    count: u32,
+    links: &mut Links,
+) -> Result<Rows, Panic>
+    requires { first + count ≤ length (L.graph listed.old).vectors }
+    ensures rows { IfOk result (λ rows. AreRows (graph_described (described_by (L.graph
+        listed.old))) first count rows.starts.items rows.tips.items rows.lengths.items) }
+    ensures memory { IsOkUnless result Panic.NoRoom }
+{
+    let mut rows = Rows::new(alloc, count as usize, 0)?;
+    let mut left = vectors_from(listed.family(), first);
+    for _k in 0..count {
+        let x = left.front().unwrap();
+        listed.arcs_at(x, links)?;
+        rows.push_arcs(listed, links)?;
+        rows.push_start()?;
+        let _some = left.advance();
+    }
+    Ok(rows)
+}
+
+impl Rows {
+    // Appends the arcs of a vector.
+    fn push_arcs<'a, L: Listed<'a>>(&mut self, listed: &L, links: &Links) -> Result<(), Panic>
+        requires { (k : ℕ) (arc : LocalArc) → slice_get links.now.arcs k ≡ Some arc
+            → Contains (L.graph listed.now).vectors arc.tip }
+        ensures tips { OnOk result (self.new.tips.items ≡ self.old.tips.items
+            ++ map (λ a. vertex_among (L.graph listed.now).vectors a.tip)
+            links.now.arcs) }
+        ensures lengths { OnOk result (self.new.lengths.items ≡ self.old.lengths.items
+            ++ map (λ a. a.len) links.now.arcs) }
+        ensures starts { OnOk result (self.new.starts.items ≡ self.old.starts.items) }
+        ensures memory { IsOkUnless result Panic.NoRoom }
+    {
+        for i in 0..links.len() {
+            let link = links.get(i);
+            self.tips.push(listed.place_of(link.tip))?;
+            self.lengths.push(i64::from(link.len))?;
+        }
+        Ok(())
+    }
+}
