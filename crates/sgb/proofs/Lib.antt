@@ -17,8 +17,6 @@ pub mod KeptNames
 mod MovedWords
 -- parts of a listing
 pub mod Listings
--- lists of a generator's graph, by the arcs of its vectors
-pub mod LocalChains
 -- listings from a generator's vectors
 pub mod LocalListings
 -- names of vectors, entry by entry

@@ -20,11 +20,11 @@ ghost use Rattle.sgb.specs.Writing.{IsEnded};
 
 use crate::answers::{Answer, run_answer};
 use crate::queens::queen_moves;
+use crate::writing::families::ListAnswer;
 use crate::writing::files::write_file;
 use crate::writing::flips::write_flip;
 use crate::writing::listing::{write_listing, write_titled_listing};
 use crate::writing::names::NamesAnswer;
-use crate::writing::resumed::list_resumed;
 use crate::writing::vertices::write_vertex_names;
 use sgb_expr::Expr;
 use sgb_file::{Sink, Source};
@@ -195,7 +195,11 @@ fn answer_generator_list<W: Sink>(
 {
     let local = local_of(alloc, generator)?;
     let mut links = Links::new(alloc);
-    list_resumed(&local, resume, &mut links, out)
+    let answer = ListAnswer {
+        resume,
+        links: &mut links,
+    };
+    local.visit(answer, out)
 }
 
 // Writes the `.gb` file of an expression's graph.

@@ -2,7 +2,11 @@
 -- values put from a place on
 pub mod PutValues
 -- what is left of a walk through the lists, or through the names
-pub mod ArcsLeft
+pub mod PartsLeft
+-- runs, one vertex more, and arrays of their lengths
+pub mod RunSteps
+-- runs of a generator's graph
+pub mod LocalRuns
 -- draws, one after another
 pub mod DrawsPut
 -- integers of a field

@@ -1,9 +1,9 @@
--- Chunks of a generator's graph.
+-- Runs of a generator's graph.
 use Rattle.std.proofs.Common.{◌≡◌, ◌⊎◌, ◌∙◌, ℕ, suc, ◌+◌, ◌-◌, ◌<◌, ◌≤◌, Bool, true, false, List, [], ◌∷◌, ◌++◌, append_assoc, length, map, drop, drop-cons, add-one, None, Some, sym, ap, ap₂, inl, inr, arith}
 use Rattle.std.specs.Prelude.{Option, IfNone, IfSome, IsSome, Result, Ok, Err, IfOk, IfErr}
 use Rattle.std.specs.Bool.{OnTrue, OnFalse}
 use Rattle.std.specs.List.{All, Contains, slice_get, slice_index_or}
-use Rattle.std.proofs.lemmas.List.{drop-drop, get_or-map, length-drop, length-map}
+use Rattle.std.proofs.lemmas.List.{drop-drop, get_or-map, length-drop}
 use Rattle.std.proofs.lemmas.List.Elements.{All-contains}
 use Rattle.std.proofs.lemmas.Option.{get_or_from_slice_get, slice_get_within}
 use Rattle.sgb_vec.specs.Lexicographic.{IsRising}
@@ -14,19 +14,13 @@ use Rattle.sgb_gen.proofs.RisingVectors.{vertex_in_rising}
 use Rattle.sgb_gen.specs.LocalLists.{LocalArc, list_in}
 use Rattle.sgb_graph.specs.Graphs.{GraphData, chain_of}
 use Rattle.sgb_graph.specs.Made.{graph_described}
-use Rattle.sgb_gen.proofs.GraphsOfVectors.{SayList, chain_said, named_by_members}
-use Rattle.sgb_gen.proofs.VectorsAfter.{rest_from}
-use Rattle.sgb_arrays.specs.Runs.{AreNames, IsRunRefusal, IsThere, parts_of, part_starts}
+use Rattle.sgb_gen.proofs.LocalChains.{SayList, chain_said}
+use Rattle.sgb_gen.proofs.VectorVertices.{named_by_members, rest_from, vertices_are_members}
+use Rattle.sgb_arrays.specs.Runs.{AreNames, IsRunRefusal, IsThere, part_starts, parts_of}
 use Rattle.sgb_arrays.specs.inner.VectorNames.{name_there}
-use Rattle.sgb_chunks.specs.declared.names.Names.{Names}
-use Rattle.sgb_requests.specs.declared.faults.Fault.{Fault}
-use Rattle.sgb_requests.specs.declared.faults.Fault.TheVariants as fault
-use Rattle.sgb_vec.specs.declared.panics.Panic.TheVariants.{NoRoom}
-
--- the graph has a vertex for each member
-pub vertices_are_members : (g : VectorGraph) (members : List (List ℕ)) → members ≡ g.vectors → length (graph_described (described_by g)).vertices ≡ length members
-vertices_are_members g members same =
-    sym (length-map (graph_described (described_by g)).vertices (λ x. x.name)) ∙ ap length (named_by_members g members same) ∙ length-map members name_of_vector
+use Rattle.sgb_arrays.specs.declared.names.Names.{Names}
+use Rattle.sgb_arrays.specs.declared.refusals.Wrong.{Wrong}
+use Rattle.sgb_arrays.specs.declared.refusals.Wrong.TheVariants as wrong
 
 -- the members after the one before a place are those from there on
 pub rest_from_place : (members : List (List ℕ)) → IsRising members → (place : ℕ) (x y : List ℕ) (found : Bool) (r : Option (List (List ℕ))) (rest : List (List ℕ))
@@ -71,27 +65,27 @@ pub name_is_there : (members : List (List ℕ)) (place : ℕ) (x : List ℕ) →
 name_is_there members place x there =
     sym (get_or-map name_of_vector members place x [] (slice_get_within members place x there) ∙ ap name_of_vector (get_or_from_slice_get members place x x there))
 
--- a chunk of members that is not there is none of the graph
-pub run_refused : (g : GraphData) (n first count : ℕ) (why : Fault) → length g.vertices ≡ n
-    → ((why ≡ fault.NoVertex) × (first + count ≤ n → ⊥)) ⊎ (why ≡ fault.Panic NoRoom) → IsRunRefusal g first count why
+-- a run of members that is not there is none of the graph
+pub run_refused : (g : GraphData) (n first count : ℕ) (why : Wrong) → length g.vertices ≡ n
+    → ((why ≡ wrong.Vertices) × (first + count ≤ n → ⊥)) ⊎ (why ≡ wrong.NoRoom) → IsRunRefusal g first count why
 run_refused g n first count why size (inl (e, out)) = inl (e, λ there. out (omega (arith, size, there)))
 run_refused g n first count why size (inr none) = inr none
 
--- so the names of a chunk of members answer for the graph
-pub names_answered : (g : VectorGraph) (members : List (List ℕ)) (first count : ℕ) (r : Result Names Fault) → members ≡ g.vectors
+-- so the names of a run of members answer for the graph
+pub names_answered : (g : VectorGraph) (members : List (List ℕ)) (first count : ℕ) (r : Result Names Wrong) → members ≡ g.vectors
     → IfOk r (λ names. (first + count ≤ length members) × (names.starts.items ≡ part_starts (name_there members) first count) × (names.bytes.items ≡ parts_of (name_there members) first count))
     → IfOk r (λ names. IsThere (graph_described (described_by g)) first count × AreNames (graph_described (described_by g)) first count names.starts.items names.bytes.items)
 names_answered g members first count (Ok names) same (within, starts, bytes) = (
   omega (arith, vertices_are_members g members same, within),
   record {
-    starts = starts ∙ ap (λ ns. part_starts (λ v. slice_index_or ns v []) first count) (sym (named_by_members g members same));
-    bytes = bytes ∙ ap (λ ns. parts_of (λ v. slice_index_or ns v []) first count) (sym (named_by_members g members same));
+    starts_are = starts ∙ ap (λ ns. part_starts (λ v. slice_index_or ns v []) first count) (sym (named_by_members g members same));
+    bytes_are = bytes ∙ ap (λ ns. parts_of (λ v. slice_index_or ns v []) first count) (sym (named_by_members g members same));
   },
 )
 names_answered g members first count (Err why) same said = said
 
-pub refusal_answered : {T : Type 0} (g : VectorGraph) (members : List (List ℕ)) (first count : ℕ) (r : Result T Fault) → members ≡ g.vectors
-    → IfErr r (λ why. ((why ≡ fault.NoVertex) × (first + count ≤ length members → ⊥)) ⊎ (why ≡ fault.Panic NoRoom))
+pub refusal_answered : {T : Type 0} (g : VectorGraph) (members : List (List ℕ)) (first count : ℕ) (r : Result T Wrong) → members ≡ g.vectors
+    → IfErr r (λ why. ((why ≡ wrong.Vertices) × (first + count ≤ length members → ⊥)) ⊎ (why ≡ wrong.NoRoom))
     → IfErr r (IsRunRefusal (graph_described (described_by g)) first count)
 refusal_answered g members first count (Ok x) same said = said
 refusal_answered g members first count (Err why) same said =

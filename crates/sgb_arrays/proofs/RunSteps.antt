@@ -1,21 +1,25 @@
--- Chunks, one vertex more, and one chunk after another.
-use Rattle.std.proofs.Common.{◌≡◌, ◌∙◌, ℕ, ◌+◌, List, [], ◌∷◌, ◌++◌, length, map, sym, ap, ap₂, arith}
+-- Runs, one vertex more, and one run after another.
+use Rattle.std.proofs.Common.{◌≡◌, ◌∙◌, ℕ, ℤ, ◌+◌, List, [], ◌∷◌, ◌++◌, length, map, refl, sym, ap, ap₂, arith}
 use Rattle.std.specs.List.{flat_map, range_with_len}
 use Rattle.std.proofs.lemmas.Grind.{flat_map-append}
-use Rattle.std.proofs.lemmas.List.{flat_map_more, length-append, map-append}
+use Rattle.std.proofs.lemmas.List.{flat_map_more, length-append, length-map, map-append}
 use Rattle.std.proofs.lemmas.List.FromFn.{length-map-range_with_len}
 use Rattle.sgb_vec.proofs.Lists.{range-joined, range-more}
 use Rattle.sgb_arrays.specs.Lists.{starts_from}
-use Rattle.sgb_arrays.proofs.PartsLeft.{length-starts_from}
-use Rattle.sgb_arrays.specs.Runs.{parts_of, part_starts}
+use Rattle.sgb_graph.specs.Graphs.{GraphData, chain_of}
+use Rattle.sgb_graph.specs.declared.fields.Link.{Link}
+use Rattle.sgb_arrays.specs.Copies.{HaveLengthsOfNames, HaveLengthsOfRows}
+use Rattle.sgb_arrays.specs.Runs.{AreNames, AreRows, HaveNameLengths, HaveRowLengths, name_at, part_starts, parts_of}
+use Rattle.sgb_arrays.specs.declared.names.Names.{Names}
+use Rattle.sgb_arrays.specs.declared.rows.Rows.{Rows}
 
--- a chunk, one vertex more
+-- a run, one vertex more
 pub parts_more : {X : Type 0} (parts : ℕ → List X) (first count : ℕ) → parts_of parts first (count + 1) ≡ parts_of parts first count ++ parts (first + count)
 unfolding parts_of
 parts_more parts first count =
     ap (flat_map parts) (range-more first count) ∙ sym (flat_map_more parts [] (range_with_len first count) (first + count))
 
--- two chunks one after the other
+-- two runs one after the other
 pub parts_joined : {X : Type 0} (parts : ℕ → List X) (first a b : ℕ) → parts_of parts first (a + b) ≡ parts_of parts first a ++ parts_of parts (first + a) b
 unfolding parts_of
 parts_joined parts first a b =
@@ -44,8 +48,40 @@ pub start_more : {X : Type 0} (parts : ℕ → List X) (first count : ℕ) (now 
 start_more parts first count now after size so_far is put =
     put ∙ ap₂ (λ xs k. xs ++ k ∷ []) so_far is ∙ sym (starts_more parts first count)
 
--- there is a start more than vertices
+-- there is a start more than parts
+length-starts_from : (at : ℕ) (sizes : List ℕ) → length (starts_from at sizes) ≡ length sizes + 1
+length-starts_from at [] = refl
+length-starts_from at (size ∷ sizes) = omega (arith, length-starts_from (at + size) sizes)
+
 pub length-part_starts : {X : Type 0} (parts : ℕ → List X) (first count : ℕ) → length (part_starts parts first count) ≡ count + 1
 unfolding part_starts
 length-part_starts parts first count =
     omega (arith, length-starts_from 0 (map (λ v. length (parts v)) (range_with_len first count)), length-map-range_with_len (λ v. length (parts v)) first count)
+
+-- arrays that the lists of a run fit into have the lengths of arrays that hold them
+pub rows_fit : (g : GraphData) (first count : ℕ) (rows : Rows) (starts tips : List ℕ) (lengths : List ℤ) → AreRows g first count rows.starts.items rows.tips.items rows.lengths.items
+    → HaveLengthsOfRows rows starts tips lengths → HaveRowLengths g first count starts tips lengths
+rows_fit g first count rows starts tips lengths are (s, t, l) = record {
+  starts_fit = s ∙ ap length are.starts_are ∙ length-part_starts (chain_of g) first count;
+  tips_fit = t ∙ ap length are.tips_are ∙ length-map (parts_of (chain_of g) first count) (λ (k : Link). k.tip);
+  lengths_fit = l ∙ ap length are.lengths_are ∙ length-map (parts_of (chain_of g) first count) (λ (k : Link). k.len);
+}
+
+pub fitting_rows : (g : GraphData) (first count : ℕ) (rows : Rows) (starts tips : List ℕ) (lengths : List ℤ) → AreRows g first count rows.starts.items rows.tips.items rows.lengths.items
+    → HaveRowLengths g first count starts tips lengths → HaveLengthsOfRows rows starts tips lengths
+fitting_rows g first count rows starts tips lengths are fit = (
+  fit.starts_fit ∙ sym (ap length are.starts_are ∙ length-part_starts (chain_of g) first count),
+  fit.tips_fit ∙ sym (ap length are.tips_are ∙ length-map (parts_of (chain_of g) first count) (λ (k : Link). k.tip)),
+  fit.lengths_fit ∙ sym (ap length are.lengths_are ∙ length-map (parts_of (chain_of g) first count) (λ (k : Link). k.len)),
+)
+
+-- and so do those of its names
+pub names_fit : (g : GraphData) (first count : ℕ) (names : Names) (starts bytes : List ℕ) → AreNames g first count names.starts.items names.bytes.items
+    → HaveLengthsOfNames names starts bytes → HaveNameLengths g first count starts bytes
+names_fit g first count names starts bytes are (s, b) =
+    record { starts_fit = s ∙ ap length are.starts_are ∙ length-part_starts (name_at g) first count; bytes_fit = b ∙ ap length are.bytes_are }
+
+pub fitting_names : (g : GraphData) (first count : ℕ) (names : Names) (starts bytes : List ℕ) → AreNames g first count names.starts.items names.bytes.items
+    → HaveNameLengths g first count starts bytes → HaveLengthsOfNames names starts bytes
+fitting_names g first count names starts bytes are fit =
+    (fit.starts_fit ∙ sym (ap length are.starts_are ∙ length-part_starts (name_at g) first count), fit.bytes_fit ∙ sym (ap length are.bytes_are))

@@ -2,7 +2,6 @@
 ghost use Rattle.std.specs.Prelude.{◌≡◌, ◌≤◌, ◌<◌, ◌+◌, length, OnOk, IfErr};
 ghost use Rattle.std.specs.Bool.{OnTrue, OnFalse};
 ghost use Rattle.sgb_arrays.specs.Runs.{AreNames, HaveNameLengths, name_at, parts_of};
-ghost use Rattle.sgb_arrays.specs.inner.Puts.{put_from};
 ghost use Rattle.sgb_arrays.specs.declared.refusals.Wrong.TheVariants as wrong;
 
 use crate::puts::put_bytes;

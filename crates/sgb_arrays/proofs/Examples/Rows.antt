@@ -5,8 +5,7 @@ use Rattle.sgb_graph.specs.Made.{no_fields, no_kinds}
 use Rattle.sgb_graph.specs.declared.fields.Ref.TheVariants.{At}
 use Rattle.sgb_graph.specs.declared.fields.Util.TheVariants.{Nothing}
 use Rattle.sgb_arrays.specs.Lists.{part_by_starts}
-use Rattle.sgb_arrays.specs.Names.{name_bytes, name_starts}
-use Rattle.sgb_arrays.specs.Rows.{arcs_of, lengths_of, starts_of, tips_of}
+use Rattle.sgb_arrays.specs.Runs.{AreNames, AreRows, part_starts, parts_of}
 
 abbrev pub graph : GraphData
 graph = record {
@@ -24,15 +23,11 @@ graph = record {
 
 -- later arcs come first in a list
 pub rows :
-    (starts_of graph ≡ 0 ∷ 2 ∷ 2 ∷ 3 ∷ [])
-    × (tips_of graph ≡ 2 ∷ 1 ∷ 0 ∷ [])
-    × (lengths_of graph ≡ pos 6 ∷ pos 5 ∷ pos 7 ∷ [])
-    × (part_by_starts (tips_of graph) (starts_of graph) 2 ≡ 0 ∷ [])
-unfolding starts_of numbers_from arcs_of
-rows = (refl, refl, refl, refl)
+    AreRows graph 0 3 (0 ∷ 2 ∷ 2 ∷ 3 ∷ []) (2 ∷ 1 ∷ 0 ∷ []) (pos 6 ∷ pos 5 ∷ pos 7 ∷ [])
+    × (part_by_starts (2 ∷ 1 ∷ 0 ∷ []) (0 ∷ 2 ∷ 2 ∷ 3 ∷ []) 2 ≡ 0 ∷ [])
+unfolding part_starts numbers_from parts_of
+rows = (record { starts_are = refl; tips_are = refl; lengths_are = refl }, refl)
 
-pub names :
-    (name_bytes graph ≡ codes "abcd")
-    × (name_starts graph ≡ 0 ∷ 1 ∷ 3 ∷ 4 ∷ [])
-unfolding name_bytes name_starts
-names = (refl, refl)
+pub names : AreNames graph 0 3 (0 ∷ 1 ∷ 3 ∷ 4 ∷ []) (codes "abcd")
+unfolding parts_of part_starts
+names = record { starts_are = refl; bytes_are = refl }

@@ -1,14 +1,13 @@
 use Rattle.std.proofs.Common.{◌≡◌, ℕ, zero, suc, ◌+◌, ◌-◌, ◌<◌, List, [], ◌∷◌, ◌++◌, length, map, get_or, refl, ap, append_assoc, ◌∙◌, arith}
-use Rattle.std.specs.Prelude.{slice_index, slice_index_or}
+use Rattle.std.specs.Prelude.{slice_index}
 use Rattle.std.specs.List.{flat_map, range_with_len}
-use Rattle.std.proofs.lemmas.List.{drop-map, length-append, length-map, take-map}
+use Rattle.std.proofs.lemmas.List.{drop-map, length-append, take-map}
 use Rattle.std.proofs.lemmas.List.FromFn.{get_or-range_with_len, length-range_with_len}
 use lib.Seq.{take-append_seam, drop-append_seam}
-use Rattle.sgb_graph.specs.Graphs.{GraphData, chain_of}
-use Rattle.sgb_graph.specs.Vertices.{names_of}
+use Rattle.sgb_graph.specs.Graphs.{chain_of}
+use Rattle.sgb_graph.specs.declared.fields.Link.{Link}
 use Rattle.sgb_arrays.specs.Lists.{part_by_starts, starts_from}
-use Rattle.sgb_arrays.specs.Names.{name_bytes, name_starts}
-use Rattle.sgb_arrays.specs.Rows.{arcs_of, lengths_of, starts_of, tips_of}
+use Rattle.sgb_arrays.specs.Runs.{name_at, part_starts, parts_of}
 use Rattle.sgb_arrays.proofs.laws.parts_law.Goals as goal
 
 -- the first start
@@ -30,24 +29,21 @@ each_part parts [] v at d before size within = absurd (omega arith)
 each_part parts (u ∷ us) zero at d before size within = first_part before (parts u) (flat_map parts us) at (map (λ w. length (parts w)) us) size
 each_part parts (u ∷ us) (suc v) at d before size within = grind (arith, append_assoc, length-append, each_part parts us v (at + length (parts u)) d (before ++ parts u) (omega (arith, size, length-append before (parts u))) (omega (arith, within)))
 
--- of the arcs of all lists the list of a vertex
-arc_row : (g : GraphData) (v : ℕ) → v < length g.vertices → part_by_starts (arcs_of g) (starts_of g) v ≡ chain_of g v
-unfolding arcs_of starts_of
-arc_row g v within =
-    let n = length g.vertices in
-    let place : get_or (range_with_len 0 n) v 0 ≡ v = omega (arith, get_or-range_with_len 0 n v 0 within) in
-    each_part (chain_of g) (range_with_len 0 n) v 0 0 [] refl (omega (arith, within, length-range_with_len 0 n)) ∙ ap (chain_of g) place
+-- of the parts of a run one of them
+run_part : {X : Type 0} (parts : ℕ → List X) (first count k : ℕ) → k < count → part_by_starts (parts_of parts first count) (part_starts parts first count) k ≡ parts (first + k)
+unfolding parts_of part_starts
+run_part parts first count k within =
+    let place : get_or (range_with_len first count) k 0 ≡ first + k = get_or-range_with_len first count k 0 within in
+    each_part parts (range_with_len first count) k 0 0 [] refl (omega (arith, within, length-range_with_len first count)) ∙ ap parts place
 
-tip_row : (g : GraphData) (v : ℕ) → v < length g.vertices → part_by_starts (tips_of g) (starts_of g) v ≡ map (λ l. l.tip) (chain_of g v)
-tip_row g v within = rw (← arc_row g v within) (simp (drop-map, take-map))
-
-length_row : (g : GraphData) (v : ℕ) → v < length g.vertices → part_by_starts (lengths_of g) (starts_of g) v ≡ map (λ l. l.len) (chain_of g v)
-length_row g v within = rw (← arc_row g v within) (simp (drop-map, take-map))
-
--- of the names the name of a vertex
-name_part : (g : GraphData) (v : ℕ) → v < length g.vertices → part_by_starts (name_bytes g) (name_starts g) v ≡ slice_index_or (names_of g) v []
-unfolding name_bytes name_starts
-name_part g v within = each_part (λ name. name) (names_of g) v 0 [] [] refl (omega (arith, within, length-map g.vertices (λ x. x.name)))
+-- and of what is said of each
+said_part : {X Y : Type 0} (f : X → Y) (parts : ℕ → List X) (first count k : ℕ) (starts : List ℕ) (said : List Y) → starts ≡ part_starts parts first count
+    → said ≡ map f (parts_of parts first count) → k < count → part_by_starts said starts k ≡ map f (parts (first + k))
+said_part f parts first count k starts said is are within = rw (is, are, ← run_part parts first count k within) (simp (drop-map, take-map))
 
 pub returns : goal.returns
-returns c = record { tips = tip_row; lengths = length_row; names = name_part }
+returns c = record {
+  tips = λ g first count k starts tips lengths are within. said_part (λ (l : Link). l.tip) (chain_of g) first count k starts tips are.starts_are are.tips_are within;
+  lengths = λ g first count k starts tips lengths are within. said_part (λ (l : Link). l.len) (chain_of g) first count k starts lengths are.starts_are are.lengths_are within;
+  names = λ g first count k starts bytes are within. rw (are.starts_are, are.bytes_are) (run_part (name_at g) first count k within);
+}

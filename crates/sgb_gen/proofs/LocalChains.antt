@@ -12,7 +12,7 @@ use Rattle.sgb_graph.proofs.ListMembers.{only_on_list}
 use Rattle.sgb_gen.specs.LocalLists.{LocalArc, list_at, list_in, local_arc}
 use Rattle.sgb_gen.specs.VectorGraphs.{HasEnds, Move, VectorGraph, described_by, event_among, vertex_among}
 use Rattle.sgb_gen.proofs.RisingVectors.{vertex_in_rising}
-use Rattle.sgb.proofs.LocalListings.{events_within, lists_of_graph}
+use Rattle.sgb_gen.proofs.VectorVertices.{events_within, lists_of_graph}
 
 -- the arcs of events between vertices lead to vertices
 tips_of_event : (n : ℕ) (directed : Bool) (e : Event) → HasEndsBelow n e → All (λ r. r.tip < n) (records_of directed e)
