@@ -4,7 +4,7 @@ use Rattle.std.proofs.lemmas.Int.{to_z-of_z}
 use Rattle.sgb_gen.specs.LocalLists.{LocalArc}
 use Rattle.sgb_gen.specs.VectorGraphs.{vertex_among}
 use Rattle.sgb_arrays.proofs.LocalRuns.{one_put}
-use Rattle.sgb_arrays.proofs.run_rows.Rows.push_arcs.Goals as goal
+use Rattle.sgb_arrays.proofs.rows.Rows.push_arcs.Goals as goal
 
 pub loop-i-preserved : goal.loop-i-preserved
 loop-i-preserved g c =

@@ -1,6 +1,6 @@
 use Rattle.std.proofs.Common.{◌≡◌, ◌++◌, map, drop}
 use Rattle.sgb_gen.specs.VectorGraphs.{vertex_among}
-use Rattle.sgb_arrays.proofs.run_rows.Rows.push_arcs.Given as goal
+use Rattle.sgb_arrays.proofs.rows.Rows.push_arcs.Given as goal
 
 -- the arcs from this one on are still to be put
 abbrev pub invariant-loop-i : goal.invariant-loop-i

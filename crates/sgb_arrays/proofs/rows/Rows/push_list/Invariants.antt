@@ -1,6 +1,6 @@
 use Rattle.std.proofs.Common.{◌≡◌, ◌++◌, map}
 use Rattle.sgb_graph.specs.Graphs.{chain_of}
-use Rattle.sgb_arrays.proofs.packed.Rows.push_list.Given as goal
+use Rattle.sgb_arrays.proofs.rows.Rows.push_list.Given as goal
 
 -- the arcs to come are still to be put
 abbrev pub invariant-loop-link : goal.invariant-loop-link
