@@ -1,5 +1,5 @@
 -- Three vertices as arrays: an arc from the first to the second and one to the third, none from the second, and one back.
-use Rattle.std.specs.Prelude.{◌≡◌, pos, [], ◌∷◌, codes, refl, Some, None}
+use Rattle.std.specs.Prelude.{◌≡◌, ℕ, pos, [], ◌∷◌, codes, refl, Some, None}
 use Rattle.sgb_graph.specs.Graphs.{GraphData, numbers_from}
 use Rattle.sgb_graph.specs.Made.{no_fields, no_kinds}
 use Rattle.sgb_graph.specs.declared.fields.Ref.TheVariants.{At}
@@ -24,7 +24,7 @@ graph = record {
 -- later arcs come first in a list
 pub rows :
     AreRows graph 0 3 (0 ∷ 2 ∷ 2 ∷ 3 ∷ []) (2 ∷ 1 ∷ 0 ∷ []) (pos 6 ∷ pos 5 ∷ pos 7 ∷ [])
-    × (part_by_starts (2 ∷ 1 ∷ 0 ∷ []) (0 ∷ 2 ∷ 2 ∷ 3 ∷ []) 2 ≡ 0 ∷ [])
+    × (part_by_starts {X = ℕ} (2 ∷ 1 ∷ 0 ∷ []) (0 ∷ 2 ∷ 2 ∷ 3 ∷ []) 2 ≡ 0 ∷ [])
 unfolding part_starts numbers_from parts_of
 rows = (record { starts_are = refl; tips_are = refl; lengths_are = refl }, refl)
 

@@ -130,9 +130,7 @@ impl Wanted {
                 names_of_run(alloc, local, *first, *count).err() == Some(Wrong::Vertices)
             }
             Wanted::Joined(n, first) => is_joined(alloc, local, *n, *first),
-            Wanted::Sizes(n, m) => {
-                local.size() == *n && local.arcs_count(alloc) == Ok(*m)
-            }
+            Wanted::Sizes(n, m) => { local.size() == *n && local.arcs_count(alloc) == Ok(*m) }
         }
     }
 }

@@ -1,4 +1,5 @@
 use Rattle.std.proofs.Common.{◌≡◌, ◌≤◌, ◌+◌, ◌*◌, ◌^◌, length}
+use Rattle.sgb_graph.specs.Graphs.{chain_of}
 use Rattle.sgb_arrays.specs.Runs.{parts_of}
 use Rattle.sgb_arrays.specs.inner.PartsLeft.{parts_left}
 use Rattle.sgb_arrays.specs.inner.Sizes.{AreSizesFrom}

@@ -1,4 +1,5 @@
 use Rattle.std.proofs.Common.{◌≡◌, ◌+◌, map, length}
+use Rattle.sgb_graph.specs.Graphs.{chain_of}
 use Rattle.sgb_arrays.specs.Runs.{part_starts, parts_of}
 use Rattle.sgb_arrays.specs.inner.PartsLeft.{parts_left, starts_left}
 use Rattle.sgb_arrays.specs.inner.Puts.{put_from}

@@ -18,8 +18,8 @@ put_rows-requires g c =
     let there : c.args.first + c.args.count ≤ length (g.L.Listed.graph c.args.listed.now).vectors = omega (arith, c.if-not-has_run.ensures.there, ap length c.family.ensures.members) in
     search rules
 
-pub returns-clause-rows : goal.returns-clause-rows
-returns-clause-rows g c =
+pub returns-in-Ok-clause-rows : goal.returns-in-Ok-clause-rows
+returns-in-Ok-clause-rows g c =
     let graph = g.L.Listed.graph c.args.listed.now in
     let members = g.L.Members.Family.members c.family.result.now in
-    (omega (arith, vertices_are_members graph members c.family.ensures.members, c.if-not-has_run.ensures.there), c.in_ok-rows.ensures.rows)
+    (omega (arith, vertices_are_members graph members c.family.ensures.members, c.if-not-has_run.ensures.there), c.in-Ok.ensures.rows)
