@@ -10,8 +10,8 @@ use Rattle.std.specs.contracts.alloc.Global as global
 use Rattle.std.proofs.alloc.Global.TheLaws as global_laws
 use Rattle.std.specs.contracts.impls.GlobalAllocator.TheImpl.{ghosts, dict}
 use Rattle.std.proofs.BoxSteps.Form as box
-use Rattle.sgb_c.specs.contracts.handles.Held as item
-use Rattle.sgb_c.proofs.handles.Held.TheLaws as item_laws
+use Rattle.sgb_c.specs.contracts.held.Held as item
+use Rattle.sgb_c.proofs.held.Held.TheLaws as item_laws
 
 -- a `Held`
 abbrev pub X : RattleType

@@ -12,10 +12,10 @@ use denote.Steps.{nothing}
 use denote.Struct.Struct.{within}
 use denote.Struct.Owning.{shape}
 use Rattle.sgb_c.specs.Owns.{owns_if}
-use Rattle.sgb_c.specs.contracts.handles.Held as data'
-use Rattle.sgb_c.specs.contracts.handles.Loose as loose
-use Rattle.sgb_c.specs.declared.handles.Held.{Held}
-use Rattle.sgb_c.specs.declared.handles.Loose.{Loose}
+use Rattle.sgb_c.specs.contracts.held.Held as data'
+use Rattle.sgb_c.specs.contracts.held.Loose as loose
+use Rattle.sgb_c.specs.declared.held.Held.{Held}
+use Rattle.sgb_c.specs.declared.held.Loose.{Loose}
 
 -- a struct of this one field
 abbrev pub word : Ptr → Val

@@ -1,55 +1,66 @@
 -- What a call answers: a number, and what it leaves in the arrays that it is handed.
 use Rattle.std.specs.Prelude.{◌≡◌, ◌⊎◌, ◌-◌, ◌^◌, ℕ, ◌+◌, min, List, length, Result, Ok, Err}
 use Rattle.sgb_vec.specs.Codes.{code_of}
-use Rattle.sgb_graph.specs.Graphs.{GraphData}
-use Rattle.sgb_expr.specs.Expression.{Expression}
-use Rattle.sgb_expr.specs.Expressions.{IsExpression, IsTooLarge}
 use Rattle.sgb_vec.specs.declared.panics.Panic.{Panic}
-use Rattle.sgb_requests.specs.Reading.{IsReadAs}
-use Rattle.sgb_requests.specs.declared.faults.Fault.{Fault}
-use Rattle.sgb_requests.specs.declared.faults.Fault.TheVariants as fault
+use Rattle.sgb_vec.specs.declared.panics.Panic.TheVariants.{NoRoom}
+use Rattle.sgb_graph.specs.Graphs.{GraphData, chain_of}
+use Rattle.sgb_expr.specs.Expression.{Expression}
+use Rattle.sgb_expr.specs.Expressions.{IsExpression, IsExpressionRead, IsTooLarge}
+use Rattle.sgb_expr.specs.declared.expressions.Unread.{Unread}
+use Rattle.sgb_expr.specs.declared.expressions.Unread.TheVariants as unread
 use Rattle.sgb_values.specs.Values.{IsValueOn}
-use Rattle.sgb_arrays.specs.Names.{name_bytes}
-use Rattle.sgb_arrays.specs.Rows.{arcs_of}
-use Rattle.sgb_arrays.specs.declared.refusals.Wrong.{Wrong}
-use Rattle.sgb_arrays.specs.declared.refusals.Wrong.TheVariants as wrong
+use Rattle.sgb_arrays.specs.Fields.{HoldsInts}
+use Rattle.sgb_arrays.specs.Runs.{name_at, parts_of}
+use Rattle.sgb_c.specs.declared.answers.Answer.{Answer}
+use Rattle.sgb_c.specs.declared.answers.Answer.TheVariants as answer
 use Rattle.sgb_c.specs.declared.Sizes.{Sizes}
 
--- the number of what an array is not filled for: another length than it must have (101), a field that is none of integers
--- (102), a bound that is none (103)
-abbrev pub number_of_wrong : Wrong → ℕ
-number_of_wrong wrong.Length = 101
-number_of_wrong wrong.Field = 102
-number_of_wrong wrong.Bound = 103
+-- the number of an answer
+abbrev pub number_of : Answer → ℕ
+number_of answer.Done = 0
+number_of (answer.Panic p) = code_of p
+number_of answer.TooLarge = 100
+number_of answer.Length = 101
+number_of answer.Field = 102
+number_of answer.Bound = 103
+number_of answer.AlreadyOpen = 104
+number_of answer.NotOpen = 105
+number_of answer.Vertices = 106
+number_of answer.NoGenerator = 107
+number_of (answer.BadExpression k) = 1000 + k
 
--- the number of why there is no graph, or no chunk of one: a panic code; a text that is too large (100); a vertex that is not
--- there (106); a bad expression, 1000 and the length of the longest prefix that begins one (109 is for what no call answers)
-abbrev pub number_of_fault : Fault → ℕ
-number_of_fault (fault.Panic p) = code_of p
-number_of_fault fault.TooLarge = 100
-number_of_fault (fault.Expr k) = 1000 + k
-number_of_fault fault.Usage = 109
-number_of_fault fault.NoVertex = 106
-number_of_fault fault.Read = 109
-number_of_fault fault.Write = 109
+-- the answer where a text is not read
+abbrev pub answer_of_unread : Unread → Answer
+answer_of_unread unread.TooLarge = answer.TooLarge
+answer_of_unread (unread.At k) = answer.BadExpression k
+answer_of_unread unread.NoRoom = answer.Panic NoRoom
+
+-- the text is read as no expression, and this is the answer
+abbrev pub IsTextRefusal : List ℕ → Answer → Type 0
+IsTextRefusal text why = (cause : Unread) × IsExpressionRead text (Err cause) × (why ≡ answer_of_unread cause)
 
 -- the text is an expression, and this is the value of it where this is standard input
 abbrev pub IsValueOfText : List ℕ → List ℕ → Result GraphData Panic → Type 0
 IsValueOfText text input value = (e : Expression) × (IsTooLarge text → ⊥) × IsExpression text e × IsValueOn input e value
 
 -- the graph that a text names, or why there is none: the text is refused, or its value is a refusal, or memory ran out
-abbrev pub IsGraphNamed : List ℕ → List ℕ → Result GraphData Fault → Type 0
+abbrev pub IsGraphNamed : List ℕ → List ℕ → Result GraphData Answer → Type 0
 IsGraphNamed text input (Ok g) = IsValueOfText text input (Ok g)
-IsGraphNamed text input (Err f) = IsReadAs text (Err f) ⊎ ((p : Panic) × (f ≡ fault.Panic p) × IsValueOfText text input (Err p))
+IsGraphNamed text input (Err why) = IsTextRefusal text why ⊎ ((p : Panic) × (why ≡ answer.Panic p) × IsValueOfText text input (Err p))
 
--- something has both properties
-abbrev pub IsFound : (Wrong → Type 0) → (Wrong → Type 0) → Type 0
-IsFound P Q = (why : Wrong) × P why × Q why
+-- nothing that is handed over can be a misfit
+abbrev pub nothing_misfits : GraphData → Answer → Type 0
+nothing_misfits g why = ⊥
+
+-- what does not fit: a field that holds no integers; or it does, and the array has another length than it must have
+abbrev pub IsIntsMisfit : GraphData → ℕ → ℕ → Answer → Type 0
+IsIntsMisfit g field size why =
+    ((why ≡ answer.Field) × (HoldsInts g field → ⊥)) ⊎ ((why ≡ answer.Length) × HoldsInts g field × (size ≡ length g.vertices → ⊥))
 
 -- the sizes of the arrays of a graph
 pub record AreSizes (g : GraphData) (sizes : Sizes) : Type 0 where
   pub vertices : sizes.vertices ≡ length g.vertices
   pub arcs : sizes.arcs ≡ g.m
-  pub listed : sizes.listed ≡ min (length (arcs_of g)) (2 ^ 64 - 1)
-  pub names : sizes.names ≡ length (name_bytes g)
+  pub listed : sizes.listed ≡ min (length (parts_of (chain_of g) 0 (length g.vertices))) (2 ^ 64 - 1)
+  pub names : sizes.names ≡ length (parts_of (name_at g) 0 (length g.vertices))
   pub id : sizes.id ≡ length g.id

@@ -1,7 +1,7 @@
 -- What only the private contracts and the proofs of sgb_c speak of.
--- the numbers of what calls answer
-pub mod Numbers
+-- what is answered for causes of the libraries below
+pub mod Causes
 -- chunks that are not there
-pub mod ChunkNumbers
+pub mod ChunkRefusals
 -- a graph that a handle lends
 pub mod Lending

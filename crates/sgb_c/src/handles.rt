@@ -1,75 +1,74 @@
-//! A graph that C holds: the pointer to it, and what it owns.
-//!
-//! An export may not take a `&Graph`, a pointer to one or a struct that holds one, since vectors can be read through a
-//! `&` (`also_shares`). So the pointer has no type, and `Loose` says in `also_owns` what lies there. Its four functions
-//! are proved by hand, and all others are plain code: opening hands the handle a box, closing takes it out, and each
-//! call between is lent the graph where it lies. What C keeps may own and not be shared, so it is lent as a `&mut`, and
-//! a handle is handed over for writing also where a call reads.
-ghost use Rattle.std.specs.Prelude.{◌≡◌, Option, Some, None, is_some, true};
-ghost use Rattle.sgb_c.specs.declared.handles.Held.{Held};
+//! The handle of a graph, as C has it: `struct sgb_graph`.
+ghost use Rattle.std.specs.Prelude.{◌≡◌, Some, None, is_some};
+ghost use Rattle.std.specs.Option.{option_map};
 
-use sgb_arrays::Counted;
+use crate::held::{Held, Loose};
 use std::alloc::Global;
-use std::marker::Model;
+use std::mem::replace;
 
-/// A graph in a block of its own.
-#[derive(Drop)]
-pub struct Held {
-    /// The graph, with its lists of arcs as arrays.
-    pub graph: Counted,
-}
-
-/// The pointer to a graph that is held, or to none. Only the ghost field says which: code that needs to know keeps a flag
-/// beside it.
+/// A graph that is open, or none. All bytes 0 stand for none.
 #[repr(C)]
 #[derive(Drop)]
-pub struct Loose {
-    at: *mut (),
-    pub ghost value: { Option Held },
+pub struct GraphHandle {
+    /// The graph, if there is one.
+    pub held: Loose,
+    /// Whether there is one.
+    pub is_open: bool,
+    ghost agrees: { is_open ≡ is_some held.value },
 }
 
-impl Model for Loose {
-    ghost use Rattle.sgb_c.specs.contracts.handles.Held.{the_row};
-    ghost use Rattle.sgb_c.specs.Owns.{owns_if};
-
-    ghost also_owns = { λ h. owns_if the_row h.at h.value };
-}
-
-impl Loose {
+impl GraphHandle {
     ghost use types.Logic.{sem};
-    ghost use Rattle.sgb_c.specs.inner.Lending.{LendsHeld};
+    ghost use Rattle.sgb_c.specs.inner.Lending.{LendsGraph};
 
-    /// Holds nothing.
-    pub(crate) fn none() -> Loose
-        ensures { result.value ≡ None }
+    // No graph.
+    fn closed() -> GraphHandle
+        ensures { result.held.value ≡ None }
     {
-        Loose {
-            at: std::ptr::null_mut(),
+        GraphHandle {
+            held: Loose::none(),
+            is_open: false,
         }
     }
 
-    /// Holds what is in the box.
-    pub(crate) fn of(boxed: Box<Held>) -> Loose
-        ensures { result.value ≡ Some boxed.value }
+    // Whether a graph is open.
+    pub(crate) fn is_open(&self) -> bool
+        ensures { result ≡ is_some self.now.held.value }
     {
-        let at = Box::into_raw(boxed);
-        Loose { at: at as *mut () }
+        self.is_open
     }
 
-    /// The box again. There is one only where something is held.
-    pub(crate) fn into_box(self, alloc: Global) -> Box<Held>
-        requires { is_some self.value ≡ true }
-        ensures { Some result.value ≡ self.value }
+    // Takes the graph out, if one is open: none is then.
+    pub(crate) fn take(&mut self, alloc: Global) -> Option<Box<Held>>
+        ensures taken { option_map (λ b. b.value) result ≡ self.old.held.value }
+        ensures left { self.new.held.value ≡ None }
     {
-        unsafe { Box::from_raw(alloc, self.at as *mut Held) }
+        if !self.is_open {
+            return None;
+        }
+        let GraphHandle { held, is_open: _ } = replace(self, GraphHandle::closed());
+        Some(held.into_box(alloc))
     }
 
-    /// What is held, lent where it lies. There is something only where something is held.
-    pub(crate) fn lend(&mut self) -> &mut Held
-        requires { is_some self.old.value ≡ true }
-        ensures* writes_back { sem 𝓛 (LendsHeld self.entry result) }
-        ensures value { Some result.now ≡ self.old.value }
+    // Holds the graph in the box.
+    pub(crate) fn put(&mut self, boxed: Box<Held>)
+        ensures { self.new.held.value ≡ Some boxed.value }
     {
-        unsafe { &mut *(self.at as *mut Held) }
+        *self = GraphHandle {
+            held: Loose::of(boxed),
+            is_open: true,
+        };
+    }
+
+    // Lends the graph where it lies, if one is open.
+    pub(crate) fn lend(&mut self) -> Option<&mut Held>
+        ensures* writes_back { sem 𝓛 (LendsGraph self.entry result) }
+        ensures value { option_map (λ h. h.now) result ≡ self.old.held.value }
+    {
+        if self.is_open {
+            Some(self.held.lend())
+        } else {
+            None
+        }
     }
 }

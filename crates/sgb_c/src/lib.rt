@@ -7,43 +7,32 @@ ghost use Rattle.std.specs.Prelude.{◌≡◌, ◌⊎◌, ◌≤◌, ◌-◌, �
 ghost use Rattle.sgb_file.specs.Saving.{letter_of, text_of_graph};
 ghost use Rattle.sgb_graph.specs.Graphs.{chain_of};
 ghost use Rattle.sgb_graph.specs.Draws.{modulus, plain_draws, seed_of, uniform_draws};
-ghost use Rattle.sgb_arrays.specs.Fields.{HoldsInts, IsIntsRefusal, ints_of};
-ghost use Rattle.sgb_arrays.specs.Names.{AreNames, HaveNameLengths};
-ghost use Rattle.sgb_arrays.specs.Rows.{AreRows, HaveRowLengths};
-ghost use Rattle.sgb_c.specs.Answers.{AreSizes, IsFound, number_of_wrong};
-ghost use Rattle.sgb_chunks.specs.Chunks.{AreChunkNames, AreChunkRows, HaveChunkNameLengths, HaveChunkRowLengths, IsThere, chunk_of, name_at};
-ghost use Rattle.sgb_c.specs.Families.{IsAnswerOfCall, IsMisfit, not_there};
+ghost use Rattle.sgb_arrays.specs.Fields.{HoldsInts, ints_of};
+ghost use Rattle.sgb_arrays.specs.Runs.{AreNames, AreRows, HaveNameLengths, HaveRowLengths, IsThere, name_at, parts_of};
+ghost use Rattle.sgb_c.specs.Answers.{AreSizes, IsIntsMisfit, nothing_misfits, number_of};
+ghost use Rattle.sgb_c.specs.Families.{IsAnswerOfCall, IsMisfit};
 ghost use Rattle.sgb_c.specs.Handles.{IsAnswerOn, IsOpened, graph_in};
-ghost use Rattle.sgb_arrays.specs.declared.refusals.Wrong.TheVariants as wrong;
 
-// The answers, as numbers.
+// What calls answer, and the numbers of it.
 mod answers;
 // The graph of a generator's call, which is not built.
 mod families;
 // The handle of a graph.
-mod graphs;
-// A graph that C holds.
 mod handles;
+// A graph that C holds.
+mod held;
 // The graph of a text.
 mod texts;
 
-use answers::{number_of, number_of_fault};
-use families::{
-    arcs_of_call, copy_names, copy_rows, names_of_call, rows_of_call, sizes_of_chunk,
-    vertices_of_call,
-};
-use graphs::GraphHandle;
+use answers::Answer;
+use families::{arcs_of_call, names_of_call, rows_of_call, sizes_of_chunk, vertices_of_call};
+use handles::GraphHandle;
 use sgb_arrays::{
-    Counted, file_len, fill_draws, fill_file, fill_id, fill_ints, fill_kinds, fill_names,
+    PackedGraph, file_len, fill_draws, fill_file, fill_id, fill_ints, fill_kinds, fill_names,
     fill_uniform_draws, names_len,
 };
 use std::alloc::Global;
 use texts::held_graph;
-
-// The number of a call for which another graph is open, and of one for which none is.
-const ALREADY_OPEN: u64 = 104;
-
-const NOT_OPEN: u64 = 105;
 
 /// How large the arrays of a graph are.
 #[repr(C)]
@@ -67,14 +56,14 @@ pub extern "C" fn sgb_open(alloc: Global, text: &[u8], input: &[u8], graph: &mut
     ensures { IsOpened text.now input.now (graph_in graph.old) (graph_in graph.new) result }
 {
     if graph.is_open() {
-        return ALREADY_OPEN;
+        return Answer::AlreadyOpen.number();
     }
     match held_graph(alloc, text, input) {
         Ok(held) => {
             graph.put(held);
-            0
+            Answer::Done.number()
         }
-        Err(fault) => number_of_fault(&fault),
+        Err(answer) => answer.number(),
     }
 }
 
@@ -89,16 +78,16 @@ pub extern "C" fn sgb_close(alloc: Global, graph: &mut GraphHandle)
 /// The sizes of the graph that is open.
 #[unsafe(no_mangle)]
 pub extern "C" fn sgb_sizes(graph: &mut GraphHandle, sizes: &mut Sizes) -> u64
-    ensures answer { IsAnswerOn (graph_in graph.old) (λ g. AreSizes g sizes.new) (λ g number. ⊥)
+    ensures answer { IsAnswerOn (graph_in graph.old) (λ g. AreSizes g sizes.new) nothing_misfits
         (sizes.new ≡ sizes.old) result }
     ensures kept { graph_in graph.new ≡ graph_in graph.old }
 {
     match graph.lend() {
         Some(held) => {
             *sizes = sizes_of(&held.graph);
-            0
+            Answer::Done.number()
         }
-        None => NOT_OPEN,
+        None => Answer::NotOpen.number(),
     }
 }
 
@@ -111,16 +100,16 @@ pub extern "C" fn sgb_rows(
     lengths: &mut [i64],
 ) -> u64
     ensures answer { IsAnswerOn (graph_in graph.old)
-        (λ g. HaveRowLengths g starts.old tips.old lengths.old
-        × AreRows g starts.new tips.new lengths.new)
-        (λ g number. (number ≡ number_of_wrong wrong.Length)
-        × (HaveRowLengths g starts.old tips.old lengths.old → ⊥))
+        (λ g. HaveRowLengths g 0 (length g.vertices) starts.old tips.old lengths.old
+        × AreRows g 0 (length g.vertices) starts.new tips.new lengths.new)
+        (λ g why. (why ≡ Answer.Length)
+        × (HaveRowLengths g 0 (length g.vertices) starts.old tips.old lengths.old → ⊥))
         ((starts.new ≡ starts.old) × (tips.new ≡ tips.old) × (lengths.new ≡ lengths.old)) result }
     ensures kept { graph_in graph.new ≡ graph_in graph.old }
 {
     match graph.lend() {
-        Some(held) => number_of(held.graph.fill_rows(starts, tips, lengths)),
-        None => NOT_OPEN,
+        Some(held) => Answer::of_filling(held.graph.fill_rows(starts, tips, lengths)).number(),
+        None => Answer::NotOpen.number(),
     }
 }
 
@@ -128,15 +117,16 @@ pub extern "C" fn sgb_rows(
 #[unsafe(no_mangle)]
 pub extern "C" fn sgb_names(graph: &mut GraphHandle, starts: &mut [u64], bytes: &mut [u8]) -> u64
     ensures answer { IsAnswerOn (graph_in graph.old)
-        (λ g. HaveNameLengths g starts.old bytes.old × AreNames g starts.new bytes.new)
-        (λ g number. (number ≡ number_of_wrong wrong.Length)
-        × (HaveNameLengths g starts.old bytes.old → ⊥))
+        (λ g. HaveNameLengths g 0 (length g.vertices) starts.old bytes.old
+        × AreNames g 0 (length g.vertices) starts.new bytes.new)
+        (λ g why. (why ≡ Answer.Length)
+        × (HaveNameLengths g 0 (length g.vertices) starts.old bytes.old → ⊥))
         ((starts.new ≡ starts.old) × (bytes.new ≡ bytes.old)) result }
     ensures kept { graph_in graph.new ≡ graph_in graph.old }
 {
     match graph.lend() {
-        Some(held) => number_of(fill_names(held.graph.graph(), starts, bytes)),
-        None => NOT_OPEN,
+        Some(held) => Answer::of_filling(fill_names(held.graph.graph(), starts, bytes)).number(),
+        None => Answer::NotOpen.number(),
     }
 }
 
@@ -146,14 +136,13 @@ pub extern "C" fn sgb_ints(graph: &mut GraphHandle, field: u32, values: &mut [i6
     ensures answer { IsAnswerOn (graph_in graph.old)
         (λ g. HoldsInts g field × (length values.old ≡ length g.vertices)
         × (values.new ≡ ints_of g field))
-        (λ g number. IsFound (λ why. number ≡ number_of_wrong why)
-        (IsIntsRefusal g field (length values.old)))
+        (λ g why. IsIntsMisfit g field (length values.old) why)
         (values.new ≡ values.old) result }
     ensures kept { graph_in graph.new ≡ graph_in graph.old }
 {
     match graph.lend() {
-        Some(held) => number_of(fill_ints(held.graph.graph(), field, values)),
-        None => NOT_OPEN,
+        Some(held) => Answer::of_filling(fill_ints(held.graph.graph(), field, values)).number(),
+        None => Answer::NotOpen.number(),
     }
 }
 
@@ -162,13 +151,13 @@ pub extern "C" fn sgb_ints(graph: &mut GraphHandle, field: u32, values: &mut [i6
 pub extern "C" fn sgb_id(graph: &mut GraphHandle, bytes: &mut [u8]) -> u64
     ensures answer { IsAnswerOn (graph_in graph.old)
         (λ g. (length bytes.old ≡ length g.id) × (bytes.new ≡ g.id))
-        (λ g number. (number ≡ number_of_wrong wrong.Length) × (length bytes.old ≡ length g.id → ⊥))
+        (λ g why. (why ≡ Answer.Length) × (length bytes.old ≡ length g.id → ⊥))
         (bytes.new ≡ bytes.old) result }
     ensures kept { graph_in graph.new ≡ graph_in graph.old }
 {
     match graph.lend() {
-        Some(held) => number_of(fill_id(held.graph.graph(), bytes)),
-        None => NOT_OPEN,
+        Some(held) => Answer::of_filling(fill_id(held.graph.graph(), bytes)).number(),
+        None => Answer::NotOpen.number(),
     }
 }
 
@@ -177,13 +166,13 @@ pub extern "C" fn sgb_id(graph: &mut GraphHandle, bytes: &mut [u8]) -> u64
 pub extern "C" fn sgb_kinds(graph: &mut GraphHandle, letters: &mut [u8]) -> u64
     ensures answer { IsAnswerOn (graph_in graph.old)
         (λ g. (length letters.old ≡ 14) × (letters.new ≡ map letter_of g.kinds))
-        (λ g number. (number ≡ number_of_wrong wrong.Length) × (length letters.old ≡ 14 → ⊥))
+        (λ g why. (why ≡ Answer.Length) × (length letters.old ≡ 14 → ⊥))
         (letters.new ≡ letters.old) result }
     ensures kept { graph_in graph.new ≡ graph_in graph.old }
 {
     match graph.lend() {
-        Some(held) => number_of(fill_kinds(held.graph.graph(), letters)),
-        None => NOT_OPEN,
+        Some(held) => Answer::of_filling(fill_kinds(held.graph.graph(), letters)).number(),
+        None => Answer::NotOpen.number(),
     }
 }
 
@@ -191,16 +180,16 @@ pub extern "C" fn sgb_kinds(graph: &mut GraphHandle, letters: &mut [u8]) -> u64
 #[unsafe(no_mangle)]
 pub extern "C" fn sgb_file_size(graph: &mut GraphHandle, size: &mut u64) -> u64
     ensures answer { IsAnswerOn (graph_in graph.old)
-        (λ g. size.new ≡ min (length (text_of_graph g)) (2 ^ 64 - 1)) (λ g number. ⊥)
+        (λ g. size.new ≡ min (length (text_of_graph g)) (2 ^ 64 - 1)) nothing_misfits
         (size.new ≡ size.old) result }
     ensures kept { graph_in graph.new ≡ graph_in graph.old }
 {
     match graph.lend() {
         Some(held) => {
             *size = file_len(held.graph.graph());
-            0
+            Answer::Done.number()
         }
-        None => NOT_OPEN,
+        None => Answer::NotOpen.number(),
     }
 }
 
@@ -209,49 +198,50 @@ pub extern "C" fn sgb_file_size(graph: &mut GraphHandle, size: &mut u64) -> u64
 pub extern "C" fn sgb_file(graph: &mut GraphHandle, bytes: &mut [u8]) -> u64
     ensures answer { IsAnswerOn (graph_in graph.old)
         (λ g. (length bytes.old ≡ length (text_of_graph g)) × (bytes.new ≡ text_of_graph g))
-        (λ g number. (number ≡ number_of_wrong wrong.Length)
+        (λ g why. (why ≡ Answer.Length)
         × (length bytes.old ≡ length (text_of_graph g) → ⊥))
         (bytes.new ≡ bytes.old) result }
     ensures kept { graph_in graph.new ≡ graph_in graph.old }
 {
     match graph.lend() {
-        Some(held) => number_of(fill_file(held.graph.graph(), bytes)),
-        None => NOT_OPEN,
+        Some(held) => Answer::of_filling(fill_file(held.graph.graph(), bytes)).number(),
+        None => Answer::NotOpen.number(),
     }
 }
 
 /// How many vertices the graph of a generator's call has. The graph is not built.
 #[unsafe(no_mangle)]
 pub extern "C" fn sgb_family_vertices(alloc: Global, text: &[u8], vertices: &mut u64) -> u64
-    ensures { IsAnswerOfCall text.now (λ g. vertices.new ≡ length g.vertices) (λ g number. ⊥)
+    ensures { IsAnswerOfCall text.now (λ g. vertices.new ≡ length g.vertices) nothing_misfits
         (vertices.new ≡ vertices.old) result }
 {
     match vertices_of_call(alloc, text) {
         Ok(n) => {
             *vertices = n;
-            0
+            Answer::Done.number()
         }
-        Err(number) => number,
+        Err(answer) => answer.number(),
     }
 }
 
-/// How many arcs it has, where an edge counts as two: 2^64 - 1 also where there are more. The graph is not built.
+/// How many arcs the graph of a generator's call has, where an edge counts as two: 2^64 - 1 also where there are more. The
+/// graph is not built.
 #[unsafe(no_mangle)]
 pub extern "C" fn sgb_family_arcs(alloc: Global, text: &[u8], arcs: &mut u64) -> u64
-    ensures { IsAnswerOfCall text.now (λ g. arcs.new ≡ min g.m (2 ^ 64 - 1)) (λ g number. ⊥)
+    ensures { IsAnswerOfCall text.now (λ g. arcs.new ≡ min g.m (2 ^ 64 - 1)) nothing_misfits
         (arcs.new ≡ arcs.old) result }
 {
     match arcs_of_call(alloc, text) {
         Ok(m) => {
             *arcs = m;
-            0
+            Answer::Done.number()
         }
-        Err(number) => number,
+        Err(answer) => answer.number(),
     }
 }
 
-/// How many arcs are on the lists of a chunk of such a graph, which are its `count` vertices from `first` on, and how many
-/// bytes their names have.
+/// How many arcs are on the lists of a chunk of a generator's graph, which are its `count` vertices from `first` on, and
+/// how many bytes their names have. The graph is not built.
 #[unsafe(no_mangle)]
 pub extern "C" fn sgb_chunk_sizes(
     alloc: Global,
@@ -262,22 +252,22 @@ pub extern "C" fn sgb_chunk_sizes(
     names: &mut u64,
 ) -> u64
     ensures { IsAnswerOfCall text.now
-        (λ g. IsThere g first count × (listed.new ≡ length (chunk_of (chain_of g) first count))
-        × (names.new ≡ length (chunk_of (name_at g) first count)))
-        (λ g number. (number ≡ not_there) × (IsThere g first count → ⊥))
+        (λ g. IsThere g first count × (listed.new ≡ length (parts_of (chain_of g) first count))
+        × (names.new ≡ length (parts_of (name_at g) first count)))
+        (λ g why. (why ≡ Answer.Vertices) × (IsThere g first count → ⊥))
         ((listed.new ≡ listed.old) × (names.new ≡ names.old)) result }
 {
     match sizes_of_chunk(alloc, text, first, count) {
         Ok((arcs, bytes)) => {
             *listed = arcs;
             *names = bytes;
-            0
+            Answer::Done.number()
         }
-        Err(number) => number,
+        Err(answer) => answer.number(),
     }
 }
 
-/// The lists of a chunk, in compressed sparse rows.
+/// The lists of a chunk of a generator's graph, in compressed sparse rows.
 #[unsafe(no_mangle)]
 pub extern "C" fn sgb_chunk_rows(
     alloc: Global,
@@ -290,19 +280,19 @@ pub extern "C" fn sgb_chunk_rows(
 ) -> u64
     ensures { IsAnswerOfCall text.now
         (λ g. IsThere g first count
-        × HaveChunkRowLengths g first count starts.old tips.old lengths.old
-        × AreChunkRows g first count starts.new tips.new lengths.new)
-        (λ g number. IsMisfit (HaveChunkRowLengths g first count starts.old tips.old lengths.old) g
-        first count number)
+        × HaveRowLengths g first count starts.old tips.old lengths.old
+        × AreRows g first count starts.new tips.new lengths.new)
+        (λ g why. IsMisfit (HaveRowLengths g first count starts.old tips.old lengths.old) g
+        first count why)
         ((starts.new ≡ starts.old) × (tips.new ≡ tips.old) × (lengths.new ≡ lengths.old)) result }
 {
     match rows_of_call(alloc, text, first, count) {
-        Ok(rows) => copy_rows(&rows, starts, tips, lengths),
-        Err(number) => number,
+        Ok(rows) => Answer::of_filling(rows.copy_to(starts, tips, lengths)).number(),
+        Err(answer) => answer.number(),
     }
 }
 
-/// The names of a chunk's vertices.
+/// The names of the vertices of a chunk of a generator's graph.
 #[unsafe(no_mangle)]
 pub extern "C" fn sgb_chunk_names(
     alloc: Global,
@@ -313,19 +303,20 @@ pub extern "C" fn sgb_chunk_names(
     bytes: &mut [u8],
 ) -> u64
     ensures { IsAnswerOfCall text.now
-        (λ g. IsThere g first count × HaveChunkNameLengths g first count starts.old bytes.old
-        × AreChunkNames g first count starts.new bytes.new)
-        (λ g number. IsMisfit (HaveChunkNameLengths g first count starts.old bytes.old) g first
-        count number)
+        (λ g. IsThere g first count × HaveNameLengths g first count starts.old bytes.old
+        × AreNames g first count starts.new bytes.new)
+        (λ g why. IsMisfit (HaveNameLengths g first count starts.old bytes.old) g first
+        count why)
         ((starts.new ≡ starts.old) × (bytes.new ≡ bytes.old)) result }
 {
     match names_of_call(alloc, text, first, count) {
-        Ok(names) => copy_names(&names, starts, bytes),
-        Err(number) => number,
+        Ok(names) => Answer::of_filling(names.copy_to(starts, bytes)).number(),
+        Err(answer) => answer.number(),
     }
 }
 
-/// Draws of a generator that is started from this value, after so many that are left out. No memory is taken.
+/// Random numbers, as GB_FLIP draws them when it is started from this value, after so many that are left out. No memory is
+/// taken.
 #[unsafe(no_mangle)]
 pub extern "C" fn sgb_draws(start: i64, skip: u64, out: &mut [u32])
     ensures { out.new ≡ plain_draws (seed_of start) skip (length out.old) }
@@ -333,27 +324,27 @@ pub extern "C" fn sgb_draws(start: i64, skip: u64, out: &mut [u32])
     fill_draws(start, skip, out);
 }
 
-/// Uniform draws below m of a generator that is started from this value, after so many plain draws that are left out. No
-/// memory is taken.
+/// Uniform random numbers below `m`, as GB_FLIP draws them when it is started from this value, after so many plain draws
+/// that are left out. No memory is taken.
 #[unsafe(no_mangle)]
 pub extern "C" fn sgb_uniform_draws(start: i64, skip: u64, m: u32, out: &mut [u32]) -> u64
-    ensures { ((result ≡ 0) × (1 ≤ m) × (m ≤ modulus)
+    ensures { ((result ≡ number_of Answer.Done) × (1 ≤ m) × (m ≤ modulus)
         × (out.new ≡ uniform_draws (seed_of start) m skip (length out.old)))
-        ⊎ ((result ≡ number_of_wrong wrong.Bound) × ((1 ≤ m) × (m ≤ modulus) → ⊥)
+        ⊎ ((result ≡ number_of Answer.Bound) × ((1 ≤ m) × (m ≤ modulus) → ⊥)
         × (out.new ≡ out.old)) }
 {
-    number_of(fill_uniform_draws(start, skip, m, out))
+    Answer::of_filling(fill_uniform_draws(start, skip, m, out)).number()
 }
 
 // The sizes of a graph.
-fn sizes_of(counted: &Counted) -> Sizes
-    ensures { AreSizes counted.now result }
+fn sizes_of(packed: &PackedGraph) -> Sizes
+    ensures { AreSizes packed.now result }
 {
-    let graph = counted.graph();
+    let graph = packed.graph();
     Sizes {
         vertices: u64::from(graph.n()),
         arcs: graph.m(),
-        listed: counted.arcs_len().min(u128::from(u64::MAX)) as u64,
+        listed: packed.arcs_len().min(u128::from(u64::MAX)) as u64,
         names: names_len(graph),
         id: graph.id().bytes().len() as u64,
     }

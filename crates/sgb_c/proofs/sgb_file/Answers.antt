@@ -7,7 +7,7 @@ use Rattle.sgb_arrays.specs.declared.refusals.Wrong.TheVariants as wrong
 use Rattle.sgb_c.specs.Answers.{number_of_wrong}
 use Rattle.sgb_c.specs.Handles.{IsAnswerOn}
 use Rattle.sgb_c.specs.inner.Numbers.{number_of_result}
-use Rattle.sgb_c.specs.declared.handles.Held.{Held}
+use Rattle.sgb_c.specs.declared.held.Held.{Held}
 use Rattle.sgb_file.specs.Saving.{text_of_graph}
 use Rattle.sgb_c.proofs.sgb_file.Goals as goal
 

@@ -1,12 +1,12 @@
 -- A graph that a handle lends where it lies.
 use Rattle.std.specs.Prelude.{Option, Some, true, refl}
 use Rattle.std.specs.Borrow.{Fml, Lends, LendsIf, MutBor}
-use Rattle.sgb_c.specs.declared.graphs.GraphHandle.{GraphHandle}
-use Rattle.sgb_c.specs.declared.handles.Held.{Held}
-use Rattle.sgb_c.specs.declared.handles.Loose.{Loose}
-use Rattle.sgb_c.specs.contracts.graphs.GraphHandle as handle
-use Rattle.sgb_c.specs.contracts.handles.Held as item
-use Rattle.sgb_c.specs.contracts.handles.Loose as loose
+use Rattle.sgb_c.specs.declared.handles.GraphHandle.{GraphHandle}
+use Rattle.sgb_c.specs.declared.held.Held.{Held}
+use Rattle.sgb_c.specs.declared.held.Loose.{Loose}
+use Rattle.sgb_c.specs.contracts.handles.GraphHandle as handle
+use Rattle.sgb_c.specs.contracts.held.Held as item
+use Rattle.sgb_c.specs.contracts.held.Loose as loose
 
 -- the pointer with this in place of what it held
 abbrev pub with_held : Loose → Held → Loose

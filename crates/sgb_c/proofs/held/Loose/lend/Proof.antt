@@ -28,14 +28,14 @@ use Rattle.std.proofs.raw_atomic.Walks.{proved}
 use Rattle.std.specs.Box.Ownership.{box_owns}
 use Rattle.sgb_c.specs.inner.Lending.{with_held}
 use Rattle.sgb_c.specs.Owns.{gives_back, owns_if}
-use Rattle.sgb_c.specs.declared.handles.Loose.{Loose}
-use Rattle.sgb_c.specs.contracts.handles.Held as item
-use Rattle.sgb_c.specs.contracts.handles.Loose as loose
+use Rattle.sgb_c.specs.declared.held.Loose.{Loose}
+use Rattle.sgb_c.specs.contracts.held.Held as item
+use Rattle.sgb_c.specs.contracts.held.Loose as loose
 use Rattle.sgb_c.proofs.LooseValues.{word, loose_out, loose_in, some_of}
-use Rattle.sgb_c.specs.contracts.handles.Loose.lend.{ended, clauses}
-use Rattle.sgb_c.specs.contracts.handles.Loose.lend.Key.{name as #self}
-use Rattle.sgb_c.proofs.handles.Loose.lend.Statement.{statement}
-use Rattle.sgb_c.proofs.handles.Loose.lend.Code as code
+use Rattle.sgb_c.specs.contracts.held.Loose.lend.{ended, clauses}
+use Rattle.sgb_c.specs.contracts.held.Loose.lend.Key.{name as #self}
+use Rattle.sgb_c.proofs.held.Loose.lend.Statement.{statement}
+use Rattle.sgb_c.proofs.held.Loose.lend.Code as code
 
 abbrev hs : Stays ended.signature.params ended.kept
 hs = (stay_dropped (mut_ref_to (0 ∷ []) tt (plain (λ _. loose.the_row))) no, tt)

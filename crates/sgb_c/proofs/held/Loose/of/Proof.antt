@@ -40,10 +40,10 @@ use denote.Param.Mute as mute'
 use denote.Param.{param, layouts}
 use denote.Param.Laws.{param_laws}
 use mir.Syntax.{method}
-use Rattle.sgb_c.proofs.sgb_c++handles++Held+Destruct.drop.Kinds as drop_kinds
-use Rattle.sgb_c.proofs.sgb_c++handles++Held+Destruct.drop.Met as drop_met
-use Rattle.sgb_c.proofs.sgb_c++handles++Held+Destruct.drop.Reads as drop_reads
-use Rattle.sgb_c.proofs.sgb_c++handles++Held+Destruct.drop.Symbol as drop_symbol
+use Rattle.sgb_c.proofs.sgb_c++held++Held+Destruct.drop.Kinds as drop_kinds
+use Rattle.sgb_c.proofs.sgb_c++held++Held+Destruct.drop.Met as drop_met
+use Rattle.sgb_c.proofs.sgb_c++held++Held+Destruct.drop.Reads as drop_reads
+use Rattle.sgb_c.proofs.sgb_c++held++Held+Destruct.drop.Symbol as drop_symbol
 use denote.Triple.Walked.{Stays, stay_dropped, walk_of, Goes-dropped}
 use denote.Triple.Table.{framed}
 use Rattle.std.specs.Box.Ownership.{box_owns}
@@ -57,20 +57,20 @@ use Rattle.std.proofs.raw_atomic.Walks.{proved_at, leaves}
 use Rattle.std.specs.contracts.boxed.Box.into_raw as callee
 use Rattle.std.specs.contracts.boxed.Box as whole_box
 use Rattle.std.proofs.boxed.Box.into_raw.Met.{met}
-use Rattle.sgb_c.specs.contracts.handles.Held as item
+use Rattle.sgb_c.specs.contracts.held.Held as item
 use Rattle.sgb_c.specs.Owns.{gives_back}
 use Rattle.sgb_c.proofs.BoxTypes.{X, LX, Z, LZ, drops, E}
 use Rattle.sgb_c.proofs.LooseValues.{word, loose_in}
-use Rattle.sgb_c.specs.contracts.handles.Loose.of.{ended, clauses}
-use Rattle.sgb_c.specs.contracts.handles.Loose.of.Key.{name as #self}
-use Rattle.sgb_c.proofs.handles.Loose.of.Statement.{statement}
-use Rattle.sgb_c.proofs.handles.Loose.of.Code as code
+use Rattle.sgb_c.specs.contracts.held.Loose.of.{ended, clauses}
+use Rattle.sgb_c.specs.contracts.held.Loose.of.Key.{name as #self}
+use Rattle.sgb_c.proofs.held.Loose.of.Statement.{statement}
+use Rattle.sgb_c.proofs.held.Loose.of.Code as code
 
 abbrev hs : Stays ended.signature.params ended.kept
 hs = (stay_dropped (plain (λ _. whole_box.the_row item.the_row global.the_row ghosts)) yes, tt)
 
 abbrev gone : Dict
-gone = impl ("sgb_c::sgb_c++handles++Held+Destruct::drop" ∷ []) tnil dnil
+gone = impl ("sgb_c::sgb_c++held++Held+Destruct::drop" ∷ []) tnil dnil
 
 abbrev end' : clauses'.Ended
 end' = kinds'.ended_of 0 drop_kinds.ps drop_kinds.r
@@ -101,8 +101,8 @@ of_spec {M = M} 𝓤 𝓛 𝓜 𝓡 wired =
     (λ κs a x ls. walked'.Fit end' (kinds'.stays drop_kinds.ps) tt a ls × drop_reads.Learnt tt a x (clauses'.at_exit end' tt a ls)) (λ κs a. carry.AllWithin 1 (κs.0, tt) (X.lives, tt) × Unit {0})
     (method gone 0 (layouts [] tt)) 0 tt (λ κs. tt) (λ κs a. drop_reads.Asked tt a) (λ κs a p. (tt, tt))
     (λ κs bd within a vss qs. impl'.method_Known 0 drop_kinds.ps drop_kinds.r drop_reads.requires drop_reads.ensures drop_reads.Asked drop_reads.Learnt drop_reads.known (record { M = M; 𝓤 = 𝓤; 𝓛 = 𝓛; 𝓜 = 𝓜; 𝓡 = 𝓡 }) drop_symbol.name
-    (method gone 0 (layouts [] tt)) (drop_symbol.as_method 𝓡.env (code.calls-sgb_c::sgb_c++handles++Held+Destruct::drop 𝓡.env wired) (method gone 0 (layouts [] tt)) refl)
-    (drop_met.met 𝓤 𝓛 𝓜 𝓡 (code.calls-sgb_c::sgb_c++handles++Held+Destruct::drop 𝓡.env wired)) ((tt, qs, tt, a, vss), tt))))) y (and_then ! (get ! refl) (no_more !)) (λ u.
+    (method gone 0 (layouts [] tt)) (drop_symbol.as_method 𝓡.env (code.calls-sgb_c::sgb_c++held++Held+Destruct::drop 𝓡.env wired) (method gone 0 (layouts [] tt)) refl)
+    (drop_met.met 𝓤 𝓛 𝓜 𝓡 (code.calls-sgb_c::sgb_c++held++Held+Destruct::drop 𝓡.env wired)) ((tt, qs, tt, a, vss), tt))))) y (and_then ! (get ! refl) (no_more !)) (λ u.
     use1 𝓛 (later (some (λ (r : Ptr). (toks ⊛ ‵ (RawPtr.own_val r (u ∷ []))) ⊛ some (λ (ls : Lasts (callee.ended X Z ghosts dict drops gone) y.0.0 y.0.3). ‵ (lasts (callee.ended X Z ghosts dict drops gone) y.0.0 y.0.3 ls) ⊛ ‵ (box_owns gives_back item.the_row r v.value))))) (id⊢ 𝓤 (k.post y u)) $
     await ! tt $ pick ! (λ r. split ! $ move ! (1 ∷ []) $ pick ! (λ _. split ! $ drop ! $
     in_a_block ! r (λ p. box_owns gives_back item.the_row p v.value) (fst∗ 𝓤 (never 𝓤) (sem 𝓛 (gives_back (bare (lone item.the_row.mir)) null_ptr))) (λ b' o' e'.

@@ -13,9 +13,9 @@ use denote.Triple.Entry.{on_entry}
 use denote.Triple.Walked.{Stays, walk_of, says, ends_at}
 use Rattle.std.proofs.raw_atomic.Walks.{proved}
 use Rattle.sgb_c.proofs.LooseValues.{word, loose_in}
-use Rattle.sgb_c.specs.contracts.handles.Loose.none as f
-use Rattle.sgb_c.proofs.handles.Loose.none.Statement.{statement}
-use Rattle.sgb_c.proofs.handles.Loose.none.Code as code
+use Rattle.sgb_c.specs.contracts.held.Loose.none as f
+use Rattle.sgb_c.proofs.held.Loose.none.Statement.{statement}
+use Rattle.sgb_c.proofs.held.Loose.none.Code as code
 
 abbrev stayed : Stays f.ended.signature.params f.ended.kept
 stayed = tt

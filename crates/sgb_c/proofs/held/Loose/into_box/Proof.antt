@@ -42,14 +42,14 @@ use Rattle.std.proofs.raw_atomic.Walks.{proved_at, leaves}
 use Rattle.std.specs.contracts.boxed.Box.from_raw as callee
 use Rattle.std.proofs.boxed.Box.from_raw.Met.{met}
 use Rattle.sgb_c.specs.Owns.{gives_back, owns_if}
-use Rattle.sgb_c.specs.contracts.handles.Held as item
-use Rattle.sgb_c.specs.contracts.handles.Loose as loose
+use Rattle.sgb_c.specs.contracts.held.Held as item
+use Rattle.sgb_c.specs.contracts.held.Loose as loose
 use Rattle.sgb_c.proofs.BoxTypes.{X, LX, Z, LZ, drops, E}
 use Rattle.sgb_c.proofs.LooseValues.{word, loose_out, some_of}
-use Rattle.sgb_c.specs.contracts.handles.Loose.into_box.{ended, clauses}
-use Rattle.sgb_c.specs.contracts.handles.Loose.into_box.Key.{name as #self}
-use Rattle.sgb_c.proofs.handles.Loose.into_box.Statement.{statement}
-use Rattle.sgb_c.proofs.handles.Loose.into_box.Code as code
+use Rattle.sgb_c.specs.contracts.held.Loose.into_box.{ended, clauses}
+use Rattle.sgb_c.specs.contracts.held.Loose.into_box.Key.{name as #self}
+use Rattle.sgb_c.proofs.held.Loose.into_box.Statement.{statement}
+use Rattle.sgb_c.proofs.held.Loose.into_box.Code as code
 
 abbrev hs : Stays ended.signature.params ended.kept
 hs = (stay_dropped (plain (λ _. loose.the_row)) yes, (stay_dropped (plain (λ _. global.the_row)) yes, tt))
