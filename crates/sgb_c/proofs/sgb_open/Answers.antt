@@ -5,8 +5,8 @@ use Rattle.sgb_c.proofs.sgb_open.Goals as goal
 
 pub returns-in-Ok : goal.returns-in-Ok
 returns-in-Ok c =
-    opened (λ h. h.graph) c.args.text.now c.args.input.now c.args.graph.now.held.value _ c.in-Ok.held.value.graph (sym c.is_open.ensures ∙ c.if-is_open.false) c.in-Ok.ensures.held (ap (option_map (λ h. h.graph)) c.put.ensures)
+    opened (λ h. h.graph) c.args.text.now c.args.input.now c.args.graph.now.held.value _ c.in-Ok.held.value.graph _ (sym c.is_open.ensures ∙ c.if-is_open.false) c.number.ensures c.in-Ok.ensures.held (ap (option_map (λ h. h.graph)) c.put.ensures)
 
 pub returns-in-Err : goal.returns-in-Err
 returns-in-Err c =
-    unopened (λ h. h.graph) c.args.text.now c.args.input.now c.args.graph.now.held.value c.in-Err.fault _ (sym c.is_open.ensures ∙ c.if-is_open.false) c.number_of_fault.ensures c.in-Err.ensures.refused
+    unopened (λ h. h.graph) c.args.text.now c.args.input.now c.args.graph.now.held.value c.in-Err.answer _ (sym c.is_open.ensures ∙ c.if-is_open.false) c.number-in-Err.ensures c.in-Err.ensures.refused

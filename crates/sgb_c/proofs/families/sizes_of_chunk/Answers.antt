@@ -1,16 +1,16 @@
 use Rattle.std.proofs.Common.{inl}
-use Rattle.sgb_c.specs.inner.ChunkNumbers.{IsChunkNumber}
-use Rattle.sgb_c.proofs.CallGraphs.{chunk_number, number_kept}
+use Rattle.sgb_c.specs.inner.ChunkRefusals.{IsChunkRefusal}
+use Rattle.sgb_c.proofs.CallGraphs.{answer_kept, chunk_refused}
 use Rattle.sgb_c.proofs.families.sizes_of_chunk.Goals as goal
 
 pub returns-in_err-local-clause-refused : goal.returns-in_err-local-clause-refused
 returns-in_err-local-clause-refused c =
-    number_kept (IsChunkNumber c.args.text.now c.args.first c.args.count) c.from_residual.result c.in_err-local.field-0.0 c.from_residual.ensures.1 (inl c.in_err-local.ensures.refused)
+    answer_kept (IsChunkRefusal c.args.text.now c.args.first c.args.count) c.from_residual.result c.in_err-local.field-0.0 c.from_residual.ensures.1 (inl c.in_err-local.ensures.refused)
 
 pub returns-in_err-rows-clause-refused : goal.returns-in_err-rows-clause-refused
 returns-in_err-rows-clause-refused c =
-    chunk_number c.args.text.now c.args.first c.args.count c.in_ok-local.local _ c.from_residual-in_err-rows.result c.from_residual-in_err-rows.ensures.1 c.in_ok-local.ensures.named c.in_err-rows.ensures.refused
+    chunk_refused c.args.text.now c.args.first c.args.count c.in_ok-local.local c.in_err-rows.field-0.0 c.from_residual-in_err-rows.result c.from_residual-in_err-rows.ensures.1 c.in_ok-local.ensures.named c.in_err-rows.ensures.refused
 
 pub returns-in_err-names-clause-refused : goal.returns-in_err-names-clause-refused
 returns-in_err-names-clause-refused c =
-    chunk_number c.args.text.now c.args.first c.args.count c.in_ok-local.local _ c.from_residual-in_err-names.result c.from_residual-in_err-names.ensures.1 c.in_ok-local.ensures.named c.in_err-names.ensures.refused
+    chunk_refused c.args.text.now c.args.first c.args.count c.in_ok-local.local c.in_err-names.field-0.0 c.from_residual-in_err-names.result c.from_residual-in_err-names.ensures.1 c.in_ok-local.ensures.named c.in_err-names.ensures.refused

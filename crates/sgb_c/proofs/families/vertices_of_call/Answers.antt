@@ -7,4 +7,4 @@ use Rattle.sgb_c.proofs.families.vertices_of_call.Goals as goal
 pub returns-clause-count : goal.returns-clause-count
 returns-clause-count c =
     let l = c.in_ok-local.local in
-    (graph_described (described l), graph_of_call c.args.text.now l c.in_ok-local.ensures.named, c.from.ensures ∙ c.vertices_of_family.ensures)
+    (graph_described (described l), graph_of_call c.args.text.now l c.in_ok-local.ensures.named, c.from.ensures ∙ c.size.ensures)
