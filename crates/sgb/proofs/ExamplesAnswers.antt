@@ -1,7 +1,5 @@
 -- Answers of requests on small graphs, worked out by hand, and what they are made of.
-use Rattle.std.specs.Prelude.{◌≡◌, ℕ, ℤ, pos, negsuc, true, false, List, [], ◌∷◌, ◌++◌, length, take, Some, None, Result, Ok, Err, map, codes, refl}
-use Rattle.std.proofs.Common.{inl}
-use Rattle.std.proofs.lemmas.Bool.{leb-true}
+use Rattle.std.specs.Prelude.{◌≡◌, ℕ, ℤ, pos, negsuc, true, false, List, [], ◌∷◌, ◌++◌, length, take, Some, None, Ok, Err, map, codes, refl}
 use Rattle.std.specs.Fmt.{digits}
 use Rattle.std.specs.Result.{result_map_both}
 use Rattle.sgb_vec.specs.Boxes.{box}
@@ -11,8 +9,8 @@ use Rattle.sgb_vec.specs.Sums.{bounded_sums, has_great_count}
 use Rattle.sgb_vec.specs.declared.panics.Panic.{Panic}
 use Rattle.sgb_vec.specs.declared.panics.Panic.TheVariants.{Bad, VeryBad, Early}
 use Rattle.sgb_graph.specs.Events.{list_from}
-use Rattle.sgb_graph.specs.Graphs.{GraphData, numbers_from}
-use Rattle.sgb_graph.specs.Ids.{compound_id, double_compound_id}
+use Rattle.sgb_graph.specs.Graphs.{numbers_from}
+use Rattle.sgb_graph.specs.Ids.{double_compound_id}
 use Rattle.sgb_graph.specs.Made.{graph_described}
 use Rattle.sgb_gen.specs.Boards.{board_id}
 use Rattle.sgb_gen.specs.Displacements.{displacements, vectors_of_norm}
@@ -21,11 +19,8 @@ use Rattle.sgb_gen.specs.Simplexes.{simplex_id, moves_of_simplex}
 use Rattle.sgb_gen.specs.VectorGraphs.{family_graph}
 use Rattle.sgb_ops.specs.Merged.{merged}
 use Rattle.sgb_ops.specs.Taken.{each_edge_once}
-use Rattle.sgb_ops.specs.declared.entries.Entry.TheVariants as entry
-use Rattle.sgb_file.specs.FileLines.{text_of_lines}
-use Rattle.sgb_file.proofs.Examples.GraphFiles.{one_cell, one_cell_lines}
-use Rattle.sgb_file.proofs.Examples.Restoring.{no_file_read, one_cell_read}
-use Rattle.sgb_expr.specs.Expression.{Expression, BiComplete, Complement, EntryThen, Generated, Graph, Gunion, Induced, Intersection, Lines, NoEntries, Number, Product, Stdin, Wheel}
+use Rattle.sgb_file.proofs.Examples.GraphFiles.{one_cell}
+use Rattle.sgb_expr.specs.Expression.{Stdin}
 use Rattle.sgb_expr.specs.declared.expressions.Expr.{Expr}
 use Rattle.sgb_expr.specs.declared.expressions.Expr.TheVariants as expr
 use Rattle.sgb_gen.specs.declared.params.Generator.{Generator}
@@ -36,7 +31,6 @@ use Rattle.sgb.specs.Outcomes.{answer_of, left_out, outcome_of, queen_moves, rea
 use Rattle.sgb_requests.specs.Faults.{fault_line}
 use Rattle.sgb.specs.Texts.{arc_line, block, blocks, head_text, name_lines}
 use Rattle.sgb_gen.specs.Generators.{described}
-use Rattle.sgb_values.specs.Values.{IsStdinValue, most_input, numbered_entry, value_of, values_of}
 use Rattle.sgb_gen.specs.declared.locals.Local.{Local}
 use Rattle.sgb_gen.specs.declared.locals.Local.TheVariants as local
 use Rattle.sgb_requests.specs.declared.faults.Fault.TheVariants as fault

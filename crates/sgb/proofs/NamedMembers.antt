@@ -1,9 +1,9 @@
 -- The members of a family by their names: no two have the same one.
-use Rattle.std.proofs.Common.{◌≡◌, ◌≢◌, ℕ, suc, ◌<◌, true, List, [], ◌∷◌, ◌++◌, length, drop, get_or, map, Option, Some, None, refl, sym, inl, inr, arith, rules}
+use Rattle.std.proofs.Common.{◌≡◌, ◌≢◌, ℕ, ◌<◌, true, List, [], length, drop, get_or, map, Some, None, refl, sym, inl, inr, arith, rules}
 use Rattle.std.specs.List.{Contains, flat_map, slice_get}
 use Rattle.std.specs.Cmp.Lexicographic.{bytes_decides}
 use Rattle.std.proofs.lemmas.Bool.{cases_Bool}
-use Rattle.std.proofs.lemmas.List.{drop-map, get_or-map, get_or_at, get_or_default, length-map, length-append}
+use Rattle.std.proofs.lemmas.List.{drop-map, get_or-map, get_or_default, length-map}
 use Rattle.std.proofs.lemmas.Option.{slice_get-map, slice_get_read}
 use Rattle.sgb_vec.specs.Lexicographic.{IsBefore, IsRising}
 use Rattle.sgb_vec.specs.Names.{name_of_vector}

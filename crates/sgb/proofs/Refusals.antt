@@ -1,14 +1,11 @@
 -- Parameters are refused for what they are: never out of memory.
-use Rattle.std.proofs.Common.{arith, rules, ◌≢◌, ℕ, Bool, cond, List, Result, Err}
-use Rattle.sgb_vec.specs.Results.{and_then}
+use Rattle.std.proofs.Common.{arith, rules, ◌≢◌, ℕ, List, Result, Err}
 use Rattle.sgb_vec.specs.declared.panics.Panic.{Panic}
 use Rattle.sgb_vec.specs.declared.panics.Panic.TheVariants.{NoRoom}
 use Rattle.sgb_graph.specs.Graphs.{GraphData}
-use Rattle.sgb_expr.specs.Expression.{Expression, Generated, Complement, Gunion, Intersection, Lines, Product, Induced, BiComplete, Wheel, Stdin, Entries, NoEntries, EntryThen, Number, Graph}
 use Rattle.sgb_expr.specs.declared.flips.FlipParams.{FlipParams}
 use Rattle.sgb.specs.FlipAnswers.{accepted_draws}
 use Rattle.sgb.specs.Outcomes.{IsAnswered, answer_of, left_out}
-use Rattle.sgb_values.specs.Values.{value_of, values_of}
 use Rattle.sgb_requests.specs.declared.faults.Fault.{Fault}
 use Rattle.sgb_requests.specs.declared.faults.Fault.TheVariants as fault
 use Rattle.sgb_requests.specs.declared.requests.Request.{Request}

@@ -1,26 +1,17 @@
 -- What standard input is read for: answers depend on it only through the graph that it is a file of, and only where a request
 -- reads it.
-use Rattle.std.proofs.Common.{◌≡◌, ◌⊎◌, ◌≤◌, ◌<◌, ◌+◌, ℕ, Bool, true, false, cond, nat_le, List, length, take, Option, Some, None, IfSome, Result, Err, refl, sym, ap, ◌∙◌, arith}
-use Rattle.std.proofs.lemmas.Bool.{leb-true, leb-false}
-use Rattle.std.proofs.lemmas.Bool.Decides.{nat_tests}
-use Rattle.std.proofs.lemmas.List.{length-take-le, take_all}
-use Rattle.sgb_vec.specs.Results.{IsValue}
+use Rattle.std.proofs.Common.{◌≡◌, ℕ, Bool, true, false, List, Option, Some, None, IfSome, Result, refl, sym, ap, ◌∙◌, arith}
 use Rattle.sgb_vec.specs.declared.panics.Panic.{Panic}
-use Rattle.sgb_vec.specs.declared.panics.Panic.TheVariants.{NoRoom, Syntax}
 use Rattle.sgb_graph.specs.Graphs.{GraphData}
-use Rattle.sgb_file.specs.Refused.{IsRestoredAs}
-use Rattle.sgb_file.proofs.RefusedTexts.{a_reader, restored_same}
-use Rattle.sgb_expr.specs.Expression.{Expression, Generated, Complement, Gunion, Intersection, Lines, Product, Induced, BiComplete, Wheel, Stdin, Number, Graph, Entries, NoEntries, EntryThen, expression_of}
-use Rattle.sgb_expr.specs.StdinUses.{entries_have_stdin, has_stdin}
+use Rattle.sgb_expr.specs.Expression.{Expression, expression_of}
+use Rattle.sgb_expr.specs.StdinUses.{has_stdin}
 use Rattle.sgb.specs.Inputs.{IsKeptOfInput}
 use Rattle.sgb.specs.Outcomes.{IsAnswered, answer_from, answer_of, reads_input}
-use Rattle.sgb_gen.specs.Generators.{generator_value, made}
-use Rattle.sgb_values.specs.Values.{IsOn, IsStdinValue, IsValueOn, most_input, value_of, values_of}
+use Rattle.sgb_gen.specs.Generators.{made}
+use Rattle.sgb_values.specs.Values.{IsOn, IsValueOn, value_of}
 use Rattle.sgb_values.proofs.StdinValues.{stdin_cut, stdin_given, stdin_same, value_same}
 use Rattle.sgb_requests.specs.declared.faults.Fault.{Fault}
 use Rattle.sgb_expr.specs.declared.expressions.Expr.{Expr}
-use Rattle.sgb_expr.specs.declared.expressions.Expr.TheVariants as expr
-use Rattle.sgb_gen.specs.declared.params.Generator.{Generator}
 use Rattle.sgb_requests.specs.declared.requests.Request.{Request}
 
 -- the answer of a request

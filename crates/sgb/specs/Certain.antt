@@ -1,17 +1,12 @@
 -- What a request is answered with whatever memory there is.
-use Rattle.std.specs.Prelude.{◌≡◌, ◌⊎◌, ◌≤◌, ◌<◌, ℕ, false, List, length, Result, Ok, Err}
-use Rattle.sgb_vec.specs.Bounds.{simplex_of}
+use Rattle.std.specs.Prelude.{◌≡◌, ◌⊎◌, ℕ, false, List, Result, Ok, Err}
 use Rattle.sgb_vec.specs.declared.panics.Panic.{Panic}
-use Rattle.sgb_vec.specs.declared.panics.Panic.TheVariants.{Early, Syntax}
 use Rattle.sgb_graph.specs.Graphs.{GraphData}
 use Rattle.sgb_file.specs.Devices.{Change}
-use Rattle.sgb_file.specs.Refused.{HasNoOpening}
 use Rattle.sgb_gen.specs.Boards.{board}
 use Rattle.sgb_gen.specs.declared.params.BoardParams.{BoardParams}
-use Rattle.sgb_ops.specs.BiComplete.{accepted_parts}
 use Rattle.sgb_graph.specs.Vertices.{names_of}
-use Rattle.sgb_ops.specs.Wheel.{accepted_middle}
-use Rattle.sgb_expr.specs.Expression.{Expression, Generated, Complement, Gunion, Intersection, Lines, Product, Induced, BiComplete, Wheel, Stdin, expression_of}
+use Rattle.sgb_expr.specs.Expression.{Expression, expression_of}
 use Rattle.sgb_expr.specs.StdinUses.{has_stdin}
 use Rattle.sgb_expr.specs.declared.expressions.Expr.{Expr}
 use Rattle.sgb_expr.specs.declared.expressions.Expr.TheVariants as expr
@@ -24,7 +19,6 @@ use Rattle.sgb_requests.specs.declared.faults.Fault.TheVariants as fault
 use Rattle.sgb.specs.Outcomes.{answer_of, left_out, outcome_of}
 use Rattle.sgb.specs.Runs.{IsGiven}
 use Rattle.sgb_gen.specs.Generators.{made}
-use Rattle.sgb_values.specs.Values.{most_input}
 
 -- an expression that reads no input is refused before memory is taken
 pub record IsRefusedAtOnce (e : Expression) : Type 0 where

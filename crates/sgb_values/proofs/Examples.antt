@@ -1,23 +1,19 @@
 -- Values of expressions on small graphs, worked out by hand.
-use Rattle.std.specs.Prelude.{◌≡◌, ℕ, ℤ, pos, negsuc, true, false, List, [], ◌∷◌, ◌++◌, length, take, Some, None, Result, Ok, Err, map, codes, refl}
+use Rattle.std.specs.Prelude.{◌≡◌, ℕ, ℤ, pos, negsuc, true, false, List, [], ◌∷◌, length, Result, Ok, Err, map, codes, refl}
 use Rattle.std.proofs.Common.{inl}
 use Rattle.std.proofs.lemmas.Bool.{leb-true}
 use Rattle.std.specs.Fmt.{digits}
-use Rattle.std.specs.Result.{result_map_both}
 use Rattle.sgb_vec.specs.Boxes.{box}
 use Rattle.sgb_vec.specs.Names.{name_of_vector}
 use Rattle.sgb_vec.specs.Sizes.{repeated}
-use Rattle.sgb_vec.specs.Sums.{bounded_sums, has_great_count}
 use Rattle.sgb_vec.specs.declared.panics.Panic.{Panic}
 use Rattle.sgb_vec.specs.declared.panics.Panic.TheVariants.{Bad, VeryBad, Early}
 use Rattle.sgb_graph.specs.Events.{list_from}
 use Rattle.sgb_graph.specs.Graphs.{GraphData, numbers_from}
 use Rattle.sgb_graph.specs.Ids.{compound_id, double_compound_id}
-use Rattle.sgb_graph.specs.Made.{graph_described}
 use Rattle.sgb_gen.specs.Boards.{board_id}
 use Rattle.sgb_gen.specs.Displacements.{displacements, vectors_of_norm}
 use Rattle.sgb_gen.specs.Moves.{board_moves}
-use Rattle.sgb_gen.specs.Simplexes.{simplex_id, moves_of_simplex}
 use Rattle.sgb_gen.specs.VectorGraphs.{family_graph}
 use Rattle.sgb_ops.specs.Merged.{merged}
 use Rattle.sgb_ops.specs.Taken.{each_edge_once}
@@ -26,24 +22,9 @@ use Rattle.sgb_file.specs.FileLines.{text_of_lines}
 use Rattle.sgb_file.proofs.Examples.GraphFiles.{one_cell, one_cell_lines}
 use Rattle.sgb_file.proofs.Examples.Restoring.{no_file_read, one_cell_read}
 use Rattle.sgb_expr.specs.Expression.{Expression, BiComplete, Complement, EntryThen, Generated, Graph, Gunion, Induced, Intersection, Lines, NoEntries, Number, Product, Stdin, Wheel}
-use Rattle.sgb_expr.specs.declared.expressions.Expr.{Expr}
-use Rattle.sgb_expr.specs.declared.expressions.Expr.TheVariants as expr
 use Rattle.sgb_gen.specs.declared.params.Generator.{Generator}
 use Rattle.sgb_gen.specs.declared.params.Generator.TheVariants as generator
-use Rattle.sgb_gen.specs.Generators.{vectors_of}
-use Rattle.sgb.specs.Locals.{family_text, start_after}
-use Rattle.sgb.specs.Outcomes.{answer_of, left_out, outcome_of, queen_moves, reads_input}
-use Rattle.sgb_requests.specs.Faults.{fault_line}
-use Rattle.sgb.specs.Texts.{arc_line, block, blocks, head_text, name_lines}
-use Rattle.sgb_gen.specs.Generators.{described}
 use Rattle.sgb_values.specs.Values.{IsStdinValue, most_input, numbered_entry, value_of, values_of}
-use Rattle.sgb_gen.specs.declared.locals.Local.{Local}
-use Rattle.sgb_gen.specs.declared.locals.Local.TheVariants as local
-use Rattle.sgb_requests.specs.declared.faults.Fault.TheVariants as fault
-use Rattle.sgb_requests.specs.declared.requests.Request.TheVariants as request
-use Rattle.sgb_requests.specs.declared.requests.Resume.TheVariants as resume
-use Rattle.sgb_graph.specs.Draws.{back_to_first, plain_draws, uniform_draws, y_number}
-use Rattle.sgb.specs.FlipAnswers.{flip_answer, number_lines}
 
 -- board(n1,n2,0,0,piece,0,0)
 abbrev squares : ℤ → ℤ → ℤ → Generator

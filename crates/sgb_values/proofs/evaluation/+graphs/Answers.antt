@@ -49,7 +49,7 @@ if_ok r P p = grind (arith)
 
 pub evaluate-returns-in-Generator-clause-value : goal.evaluate-returns-in-Generator-clause-value
 evaluate-returns-in-Generator-clause-value t c =
-    rw c.in-Generator.is (λ stdin gives. value_made _ _ c.generator_graph.ensures.answer)
+    rw c.in-Generator.is (λ stdin gives. value_made _ _ c.graph.ensures.answer)
 
 pub evaluate-returns-in_ok-operand-in-Complement-clause-value : goal.evaluate-returns-in_ok-operand-in-Complement-clause-value
 evaluate-returns-in_ok-operand-in-Complement-clause-value t c =
@@ -93,7 +93,7 @@ evaluate-returns-in-Stdin-clause-value t c =
 
 pub evaluate-returns-in-Generator-clause-refused : goal.evaluate-returns-in-Generator-clause-refused
 evaluate-returns-in-Generator-clause-refused t c =
-    rw c.in-Generator.is c.generator_graph.ensures.refused
+    rw c.in-Generator.is c.graph.ensures.refused
 
 pub evaluate-returns-in_err-operand-in-Complement-clause-refused : goal.evaluate-returns-in_err-operand-in-Complement-clause-refused
 evaluate-returns-in_err-operand-in-Complement-clause-refused t c =
