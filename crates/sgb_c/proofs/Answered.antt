@@ -21,7 +21,7 @@ pub rows_answered : {T : Type 0} (text : List ℕ) (g : GraphData) (first count 
     → OnOk r (HaveLengthsOfRows rows starts tips lengths × (begins ≡ rows.starts.items) × (leads ≡ rows.tips.items) × (weights ≡ rows.lengths.items))
     → IfErr r (λ why. (why ≡ wrong.Length) × (HaveLengthsOfRows rows starts tips lengths → ⊥) × (begins ≡ starts) × (leads ≡ tips) × (weights ≡ lengths))
     → IsAnswerOfCall text (λ h. IsThere h first count × HaveRowLengths h first count starts tips lengths × AreRows h first count begins leads weights)
-        (λ h why. IsMisfit (HaveRowLengths h first count starts tips lengths) h first count why) ((begins ≡ starts) × (leads ≡ tips) × (weights ≡ lengths)) number
+    (λ h why. IsMisfit (HaveRowLengths h first count starts tips lengths) h first count why) ((begins ≡ starts) × (leads ≡ tips) × (weights ≡ lengths)) number
 rows_answered text g first count rows (Ok x) answer number starts tips lengths begins leads weights graph there are of is copied refused =
     let (fit, hold) = rows_copied g first count rows are starts tips lengths begins leads weights copied in
     inl (is ∙ ap number_of of, (g, graph, (there, fit, hold)))
@@ -35,7 +35,7 @@ pub names_answered : {T : Type 0} (text : List ℕ) (g : GraphData) (first count
     → OnOk r (HaveLengthsOfNames names starts bytes × (begins ≡ names.starts.items) × (letters ≡ names.bytes.items))
     → IfErr r (λ why. (why ≡ wrong.Length) × (HaveLengthsOfNames names starts bytes → ⊥) × (begins ≡ starts) × (letters ≡ bytes))
     → IsAnswerOfCall text (λ h. IsThere h first count × HaveNameLengths h first count starts bytes × AreNames h first count begins letters)
-        (λ h why. IsMisfit (HaveNameLengths h first count starts bytes) h first count why) ((begins ≡ starts) × (letters ≡ bytes)) number
+    (λ h why. IsMisfit (HaveNameLengths h first count starts bytes) h first count why) ((begins ≡ starts) × (letters ≡ bytes)) number
 names_answered text g first count names (Ok x) answer number starts bytes begins letters graph there are of is copied refused =
     let (fit, hold) = names_copied g first count names are starts bytes begins letters copied in
     inl (is ∙ ap number_of of, (g, graph, (there, fit, hold)))

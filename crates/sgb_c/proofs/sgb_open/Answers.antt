@@ -5,7 +5,7 @@ use Rattle.sgb_c.proofs.sgb_open.Goals as goal
 
 pub returns-in-Ok : goal.returns-in-Ok
 returns-in-Ok c =
-    opened (λ h. h.graph) c.args.text.now c.args.input.now c.args.graph.now.held.value _ c.in-Ok.held.value.graph _ (sym c.is_open.ensures ∙ c.if-is_open.false) c.number.ensures c.in-Ok.ensures.held (ap (option_map (λ h. h.graph)) c.put.ensures)
+    opened (λ h. h.graph) c.args.text.now c.args.input.now c.args.graph.now.held.value _ c.in-Ok.held.value.graph _ (sym c.is_open.ensures ∙ c.if-is_open.false) c.number-in-Ok.ensures c.in-Ok.ensures.held (ap (option_map (λ h. h.graph)) c.put.ensures)
 
 pub returns-in-Err : goal.returns-in-Err
 returns-in-Err c =
