@@ -21,7 +21,8 @@ import tempfile
 import time
 
 TOP = os.path.dirname(os.path.dirname(os.path.abspath(__file__)))
-BELOW = ["sgb_text", "sgb_vec", "sgb_graph", "sgb_gen", "sgb_ops", "sgb_file", "sgb_expr", "sgb_requests", "sgb"]
+BELOW = ["sgb_text", "sgb_vec", "sgb_graph", "sgb_gen", "sgb_ops", "sgb_file", "sgb_expr", "sgb_requests", "sgb_values",
+         "sgb"]
 FAILS = 2000  # as in bench/calls/main.in
 CASES = 900  # more than there are allocations
 CALLS = [

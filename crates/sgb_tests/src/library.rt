@@ -4,12 +4,12 @@ ghost use Rattle.std.specs.Prelude.{⊤};
 use crate::calls::words_of;
 use crate::inputs::EMPTY;
 use sgb::{
-    Answer, Expr, Fault, Local, Request, Visit, Visitor, answered_once_law, graph_of,
-    input_unread_law, list_family, local_of, parse_expr, read_input, report, request, run,
-    run_answer, run_endings_law, run_program, status, unread_fault, write_bytes,
+    Answer, Expr, Fault, Local, Request, answered_once_law, graph_of, input_unread_law,
+    list_family, local_of, parse_expr, read_input, report, request, run, run_answer,
+    run_endings_law, run_program, status, unread_fault, write_bytes,
 };
 use sgb_file::{CutSource, MemSink, MemSource};
-use sgb_gen::{Board, BoardParams, Links, Listed};
+use sgb_gen::{Board, BoardParams, Links, Listed, Visit, Visitor};
 use sgb_vec::{Family, Panic};
 use std::alloc::Global;
 use std::io::{Error, ErrorKind};
