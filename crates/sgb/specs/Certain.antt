@@ -4,7 +4,6 @@ use Rattle.sgb_vec.specs.Bounds.{simplex_of}
 use Rattle.sgb_vec.specs.declared.panics.Panic.{Panic}
 use Rattle.sgb_vec.specs.declared.panics.Panic.TheVariants.{Early, Syntax}
 use Rattle.sgb_graph.specs.Graphs.{GraphData}
-use Rattle.sgb_file.specs.Devices.{Change}
 use Rattle.sgb_file.specs.Refused.{HasNoOpening}
 use Rattle.sgb_gen.specs.Boards.{board}
 use Rattle.sgb_gen.specs.declared.params.BoardParams.{BoardParams}
@@ -22,7 +21,7 @@ use Rattle.sgb_requests.specs.declared.requests.Request.TheVariants as request
 use Rattle.sgb_requests.specs.declared.requests.Resume.{Resume}
 use Rattle.sgb_requests.specs.declared.faults.Fault.TheVariants as fault
 use Rattle.sgb.specs.Outcomes.{answer_of, left_out, outcome_of}
-use Rattle.sgb.specs.Runs.{IsGiven}
+use Rattle.sgb.specs.Runs.{IsGiven, Left}
 use Rattle.sgb_gen.specs.Generators.{made}
 use Rattle.sgb_values.specs.Values.{most_input}
 
@@ -52,6 +51,5 @@ NeedsNoMemory (request.Flip p) = Unit {0}
 
 -- a request whose answer takes no memory was answered in full where the output sink is sound: with its output, or with the line
 -- and the status of its refusal
-abbrev pub IsCertain : Request → Change → Change → ℕ → Type 0
-IsCertain r out err status = NeedsNoMemory r → out.failed ≡ false
-    → (stdin : Result GraphData Panic) → IsGiven (outcome_of (answer_of r stdin)) out err status
+abbrev pub IsCertain : {S : Type 0} → Request → Left S → Type 0
+IsCertain r l = NeedsNoMemory r → l.out.failed ≡ false → (stdin : Result GraphData Panic) → IsGiven (outcome_of (answer_of r stdin)) l
