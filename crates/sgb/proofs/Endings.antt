@@ -87,12 +87,12 @@ pub read_sound : {T : Type 0} (failed : Bool) (a : Result (List ℕ) Fault) (sam
 read_sound failed a same out r sound p = rw sound p
 
 -- the request was answered in full
-pub answers_from_ok : {T : Type 0} (failed : Bool) (a : Result (List ℕ) Fault) (same : Type 0) (x : T) (w v e : Option (List ℕ)) (wf ef : Bool)
-    → IsEndedFrom failed a same (change_of w v wf) (Ok x) → IsRunFrom failed a same (change_of w v wf) (change_of e e ef) 0
-answers_from_ok failed a same x w v e wf ef p = grind (arith, no_line)
+pub answers_from_ok : {T S : Type 0} (failed : Bool) (a : Result (List ℕ) Fault) (old new : S) (x : T) (w v e : Option (List ℕ)) (wf ef : Bool)
+    → IsEndedFrom failed a (new ≡ old) (change_of w v wf) (Ok x) → IsRunFrom failed a (record { old = old; new = new; out = change_of w v wf; err = change_of e e ef; status = 0 })
+answers_from_ok failed a old new x w v e wf ef p = grind (arith, no_line)
 
 -- the request ended with a fault, and its line was written
-pub answers_from_err : (T : Type 0) (failed : Bool) (a : Result (List ℕ) Fault) (same : Type 0) (f : Fault) (w v e d : Option (List ℕ)) (wf ef : Bool)
-    → IsEndedFrom {T = T} failed a same (change_of w v wf) (Err f) → AppendsUnlessFailed (change_of e d ef) (fault_line f)
-    → IsRunFrom failed a same (change_of w v wf) (change_of e d ef) (status_of f)
-answers_from_err T failed a same f w v e d wf ef p line = grind arith
+pub answers_from_err : (T : Type 0) {S : Type 0} (failed : Bool) (a : Result (List ℕ) Fault) (old new : S) (f : Fault) (w v e d : Option (List ℕ)) (wf ef : Bool)
+    → IsEndedFrom {T = T} failed a (new ≡ old) (change_of w v wf) (Err f) → AppendsUnlessFailed (change_of e d ef) (fault_line f)
+    → IsRunFrom failed a (record { old = old; new = new; out = change_of w v wf; err = change_of e d ef; status = status_of f })
+answers_from_err T failed a old new f w v e d wf ef p line = grind arith

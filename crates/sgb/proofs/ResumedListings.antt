@@ -1,8 +1,8 @@
 -- Where the answer to a request about a family begins.
-use Rattle.std.proofs.Common.{rules, ◌≡◌, ◌∙◌, ◌+◌, ◌-◌, ◌<◌, ◌≤◌, min, ℕ, suc, List, Bool, true, false, length, map, drop, Option, Some, None, option_map, Result, Err, refl, sym, ap, arith}
+use Rattle.std.proofs.Common.{rules, ◌≡◌, ◌∙◌, ◌+◌, ◌-◌, ◌<◌, ◌≤◌, min, ℕ, suc, List, Bool, true, false, length, map, drop, Option, Some, None, option_map, Result, refl, sym, ap, arith}
 use Rattle.std.specs.Bool.{OnTrue, OnFalse}
-use Rattle.std.specs.List.{slice_get}
-use Rattle.std.specs.Result.{MatchResult}
+use Rattle.std.specs.List.{Contains, slice_get}
+use Rattle.std.specs.Option.{IfSome}
 use Rattle.std.proofs.lemmas.Bool.{cases_lt}
 use Rattle.std.proofs.lemmas.List.{drop_min, length-drop}
 use Rattle.sgb_vec.specs.Lexicographic.{IsRising}
@@ -33,12 +33,6 @@ skipped_begins members rising count (Some x) (k, there, same) =
     let here : slice_get (drop k members) 0 ≡ Some x = first_in_drop k members ∙ there in
     (contains_in_drop k members x here, (count, refl, same ∙ ap (λ j. drop (suc j) members) (sym place)))
 
--- where an answer begins is the same for the vectors that are the members
-pub begins_alike : {X : Type 0} (r : Result (Option X) Fault) (items : X → List ℕ) (resume : Resume) (members vectors : List (List ℕ)) → members ≡ vectors
-    → MatchResult r (λ start. BeginsAfter members resume (option_map items start)) (λ fault. left_out (map name_of_vector members) resume ≡ Err fault)
-    → MatchResult r (λ start. BeginsAfter vectors resume (option_map items start)) (λ fault. left_out (map name_of_vector vectors) resume ≡ Err fault)
-begins_alike r items resume members vectors same begins = rw (← same) begins
-
 -- the blocks are the same where as many are left
 blocks_alike : (g : GraphData) (n j k : ℕ) → length (names_of g) ≡ n → n - j ≡ n - k → blocks g j ≡ blocks g k
 blocks_alike g n j k count alike = search (rules, cases_lt, blocks-none)
@@ -62,3 +56,9 @@ skipped_last members count n skipped place true v size least some next there non
     let same : suc place ≡ min count (length members) = omega (arith, least, next, size) in
     (place, there, sym (drop_min count members) ∙ ap (λ k. drop k members) (sym same))
 skipped_last members count n skipped place false v size least some next there none = absurd (omega (arith, none, size, least, next))
+
+-- what is found of such a member is among the vectors
+pub some_member : {X : Type 0} (r : Option X) (value : X → List ℕ) (start : Option (List ℕ)) (members vectors : List (List ℕ)) → members ≡ vectors
+    → option_map value r ≡ start → IfSome start (λ x. Contains members x) → IfSome r (λ x. Contains vectors (value x))
+some_member None value start members vectors same alike is = tt
+some_member (Some x) value start members vectors same alike is = grind (arith)

@@ -2,7 +2,6 @@
 use Rattle.std.specs.Prelude.{◌≡◌, ◌⊎◌, ℕ, false, List, Result, Ok, Err}
 use Rattle.sgb_vec.specs.declared.panics.Panic.{Panic}
 use Rattle.sgb_graph.specs.Graphs.{GraphData}
-use Rattle.sgb_file.specs.Devices.{Change}
 use Rattle.sgb_gen.specs.Boards.{board}
 use Rattle.sgb_gen.specs.declared.params.BoardParams.{BoardParams}
 use Rattle.sgb_graph.specs.Vertices.{names_of}
@@ -17,8 +16,9 @@ use Rattle.sgb_requests.specs.declared.requests.Request.TheVariants as request
 use Rattle.sgb_requests.specs.declared.requests.Resume.{Resume}
 use Rattle.sgb_requests.specs.declared.faults.Fault.TheVariants as fault
 use Rattle.sgb.specs.Outcomes.{answer_of, left_out, outcome_of}
-use Rattle.sgb.specs.Runs.{IsGiven}
+use Rattle.sgb.specs.Runs.{IsGiven, Left}
 use Rattle.sgb_gen.specs.Generators.{made}
+use Rattle.sgb_values.specs.FirstRefusals.{IsRefusedFirst}
 
 -- an expression that reads no input is refused before memory is taken
 pub record IsRefusedAtOnce (e : Expression) : Type 0 where
@@ -46,6 +46,5 @@ NeedsNoMemory (request.Flip p) = Unit {0}
 
 -- a request whose answer takes no memory was answered in full where the output sink is sound: with its output, or with the line
 -- and the status of its refusal
-abbrev pub IsCertain : Request → Change → Change → ℕ → Type 0
-IsCertain r out err status = NeedsNoMemory r → out.failed ≡ false
-    → (stdin : Result GraphData Panic) → IsGiven (outcome_of (answer_of r stdin)) out err status
+abbrev pub IsCertain : {S : Type 0} → Request → Left S → Type 0
+IsCertain r l = NeedsNoMemory r → l.out.failed ≡ false → (stdin : Result GraphData Panic) → IsGiven (outcome_of (answer_of r stdin)) l

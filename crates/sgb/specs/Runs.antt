@@ -11,40 +11,49 @@ use Rattle.sgb_requests.specs.declared.faults.Fault.{Fault}
 use Rattle.sgb_requests.specs.declared.faults.Fault.TheVariants as fault
 use Rattle.sgb_requests.specs.declared.requests.Request.{Request}
 
+-- what a run leaves: the output sink as it was and as it is; what that sink, and standard error, tell of their bytes; the exit
+-- status
+pub record Left (S : Type 0) : Type 0 where
+  pub old : S
+  pub new : S
+  pub out : Change
+  pub err : Change
+  pub status : ℕ
+
 -- the answer was given in full: all of its output, its line unless standard error failed, its status
-pub record IsGiven (answer : Outcome) (out err : Change) (status : ℕ) : Type 0 where
-  pub output : Appends out.before out.after answer.output
-  pub line : AppendsUnlessFailed err answer.line
-  pub exit : status ≡ answer.status
+pub record IsGiven {S : Type 0} (answer : Outcome) (l : Left S) : Type 0 where
+  pub output : Appends l.out.before l.out.after answer.output
+  pub line : AppendsUnlessFailed l.err answer.line
+  pub exit : l.status ≡ answer.status
 
 -- the run was stopped by this fault: a prefix of the answer's output, the fault's line and status
-pub record IsStopped (by : Fault) (answer : Outcome) (out err : Change) (status : ℕ) : Type 0 where
-  pub output : AppendsPrefix out.before out.after answer.output
-  pub line : AppendsUnlessFailed err (fault_line by)
-  pub exit : status ≡ status_of by
+pub record IsStopped {S : Type 0} (by : Fault) (answer : Outcome) (l : Left S) : Type 0 where
+  pub output : AppendsPrefix l.out.before l.out.after answer.output
+  pub line : AppendsUnlessFailed l.err (fault_line by)
+  pub exit : l.status ≡ status_of by
 
 -- A run with this outcome leaves this. Where the output sink has failed, that stopped the run. Where it is sound, the
 -- answer was given, or the run was stopped when memory ran out.
-abbrev pub IsRunOf : Outcome → Change → Change → ℕ → Type 0
-IsRunOf answer out err status = MatchBool out.failed
-    (IsStopped fault.Write answer out err status)
-    (IsGiven answer out err status ⊎ IsStopped (fault.Panic NoRoom) answer out err status)
+abbrev pub IsRunOf : {S : Type 0} → Outcome → Left S → Type 0
+IsRunOf answer l = MatchBool l.out.failed
+    (IsStopped fault.Write answer l)
+    (IsGiven answer l ⊎ IsStopped (fault.Panic NoRoom) answer l)
 
--- Only this fault was reported: nothing was written to the output, its line to standard error unless that failed,
--- and its status was returned. `same` says that the output is as it was: there was neither a put nor a flush.
-pub record IsReported (f : Fault) (same : Type 0) (out err : Change) (status : ℕ) : Type 0 where
-  pub left : same
-  pub untouched : out.after ≡ out.before
-  pub sound : out.failed ≡ false
-  pub line : AppendsUnlessFailed err (fault_line f)
-  pub exit : status ≡ status_of f
+-- Only this fault was reported: the output sink is as it was, with neither a put nor a flush, and tells so; its line went to
+-- standard error unless that failed, and its status was returned.
+pub record IsReported {S : Type 0} (f : Fault) (l : Left S) : Type 0 where
+  pub left : l.new ≡ l.old
+  pub untouched : l.out.after ≡ l.out.before
+  pub sound : l.out.failed ≡ false
+  pub line : AppendsUnlessFailed l.err (fault_line f)
+  pub exit : l.status ≡ status_of f
 
 -- what a run leaves: where standard input was read and failed, this was reported and nothing else done; where the request
--- is refused the output is as it was, also out of memory
-abbrev pub IsRunFrom : Bool → Result (List ℕ) Fault → Type 0 → Change → Change → ℕ → Type 0
-IsRunFrom failed answer same out err status = MatchBool failed
-    (IsReported fault.Read same out err status)
-    (IsRunOf (outcome_of answer) out err status × IfErr answer (λ f. same))
+-- is refused the output sink is as it was, also out of memory
+abbrev pub IsRunFrom : {S : Type 0} → Bool → Result (List ℕ) Fault → Left S → Type 0
+IsRunFrom failed answer l = MatchBool failed
+    (IsReported fault.Read l)
+    (IsRunOf (outcome_of answer) l × IfErr answer (λ f. l.new ≡ l.old))
 
 -- the bytes that standard input tells before a run, and whether it has failed afterwards
 pub record Input : Type 0 where
@@ -53,16 +62,18 @@ pub record Input : Type 0 where
 
 -- a run that answers this request leaves this: standard input holds a text, the one that it tells, on which the request is
 -- answered (one that does not read it is answered alike on every text: input_unread_law)
-abbrev pub IsRunOn : Request → Input → Type 0 → Change → Change → ℕ → Type 0
-IsRunOn r source same out err status =
+abbrev pub IsRunOn : {S : Type 0} → Request → Input → Left S → Type 0
+IsRunOn r source l =
     (held : List ℕ) × IfSome source.bytes (λ bytes. held ≡ bytes)
-    × (answer : Result (List ℕ) Fault) × IsAnswered r held answer × IsRunFrom (reads_input r && source.failed) answer same out err status
+    × (answer : Result (List ℕ) Fault) × IsAnswered r held answer × IsRunFrom (reads_input r && source.failed) answer l
 
--- a program that answers leaves this: of standard input these first bytes count, and for each answer on them it was answered so,
--- in full where no input is read, `certain` says that no memory is wanted, and the output sink is sound
-abbrev pub IsAnswerRun : Bool → (List ℕ → Result (List ℕ) Fault → Type 0) → Type 0 → Input → Type 0 → Change → Change → ℕ → Type 0
-IsAnswerRun reads answers certain source same out err status =
+-- a program that answers leaves this: of standard input these first bytes count, and for each answer on them it was answered so
+abbrev pub IsAnswerRun : {S : Type 0} → Bool → (List ℕ → Result (List ℕ) Fault → Type 0) → Input → Left S → Type 0
+IsAnswerRun reads answers source l =
     (kept : List ℕ) × (reads ≡ true → IsKeptOfInput source.bytes kept)
-    × ((a : Result (List ℕ) Fault) → answers kept a
-    → IsRunFrom (reads && source.failed) a same out err status
-    × (reads ≡ false → certain → out.failed ≡ false → IsGiven (outcome_of a) out err status))
+    × ((a : Result (List ℕ) Fault) → answers kept a → IsRunFrom (reads && source.failed) a l)
+
+-- a program that reads no input has answered in full where the output sink is sound: so for each answer on some bytes
+abbrev pub IsAnswerGiven : {S : Type 0} → (List ℕ → Result (List ℕ) Fault → Type 0) → Left S → Type 0
+IsAnswerGiven answers l =
+    l.out.failed ≡ false → (kept : List ℕ) × ((a : Result (List ℕ) Fault) → answers kept a → IsGiven (outcome_of a) l)

@@ -5,7 +5,7 @@ ghost use Rattle.sgb_file.specs.Devices.{change};
 ghost use Rattle.sgb_vec.specs.declared.panics.Panic.TheVariants.{NoRoom};
 ghost use Rattle.sgb_requests.specs.declared.faults.Fault.{Fault};
 ghost use Rattle.sgb.specs.Inputs.{IsKeptOfInput, IsReadFrom, LosesAtMost};
-ghost use Rattle.sgb.specs.Runs.{IsAnswerRun};
+ghost use Rattle.sgb.specs.Runs.{IsAnswerGiven, IsAnswerRun};
 ghost use Rattle.sgb_values.specs.Values.{most_input};
 ghost use Rattle.sgb.specs.Writing.{IsEnded, IsEndedFrom};
 
@@ -54,12 +54,24 @@ pub fn run_answer<A: Answer, R: Source, W: Sink, E: Sink>(
     errors: &mut E,
 ) -> u8
     requires { W.has_failed out.old ≡ false }
-    ensures answers { IsAnswerRun (A.reads answer.now) (A.answers answer.now) (A.certain answer.now)
+    ensures answers { IsAnswerRun (A.reads answer.now) (A.answers answer.now)
         (record { bytes = R.remaining source.old; failed = R.has_failed source.new })
-        (out.new ≡ out.old)
-        (change W.written W.has_failed out.old out.new)
-        (change E.written E.has_failed errors.old errors.new)
-        result }
+        (record {
+          old = out.old;
+          new = out.new;
+          out = change W.written W.has_failed out.old out.new;
+          err = change E.written E.has_failed errors.old errors.new;
+          status = result;
+        }) }
+    // Where no input is read and writing takes no memory, the answer is never cut off for want of it.
+    ensures certain { A.reads answer.now ≡ false → A.certain answer.now → IsAnswerGiven (A.answers answer.now)
+        (record {
+          old = out.old;
+          new = out.new;
+          out = change W.written W.has_failed out.old out.new;
+          err = change E.written E.has_failed errors.old errors.new;
+          status = result;
+        }) }
     ensures flushed { result ≡ 0 → W.held out.new ≡ [] }
     ensures unread { A.reads answer.now ≡ false → source.new ≡ source.old }
     ensures bounded { LosesAtMost (most_input + 1) (R.remaining source.old)

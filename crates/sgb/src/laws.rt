@@ -34,9 +34,11 @@ pub fn run_endings_law()
     ensures answered { (failed : Bool) (answer : Result (List ℕ) Fault) (out err : Change)
         → err.after ≡ err.before
         → IsEndedFrom {T = ℕ} failed answer (out.after ≡ out.before) out (Ok 0)
-        → IsRunFrom failed answer (out.after ≡ out.before) out err 0 }
+        → IsRunFrom failed answer
+        (record { old = out.before; new = out.after; out = out; err = err; status = 0 }) }
     ensures reported { (failed : Bool) (answer : Result (List ℕ) Fault) (fault : Fault) (out err : Change)
         → AppendsUnlessFailed err (fault_line fault)
         → IsEndedFrom {T = ℕ} failed answer (out.after ≡ out.before) out (Err fault)
-        → IsRunFrom failed answer (out.after ≡ out.before) out err (status_of fault) }
+        → IsRunFrom failed answer
+        (record { old = out.before; new = out.after; out = out; err = err; status = status_of fault }) }
 {}

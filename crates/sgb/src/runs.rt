@@ -50,15 +50,21 @@ pub fn run<R: Source, W: Sink, E: Sink>(
     requires { W.has_failed out.old ≡ false }
     ensures answers { IsRunOn request.now
         (record { bytes = R.remaining source.old; failed = R.has_failed source.new })
-        (out.new ≡ out.old)
-        (change W.written W.has_failed out.old out.new)
-        (change E.written E.has_failed errors.old errors.new)
-        result }
+        (record {
+          old = out.old;
+          new = out.new;
+          out = change W.written W.has_failed out.old out.new;
+          err = change E.written E.has_failed errors.old errors.new;
+          status = result;
+        }) }
     // What needs no memory is never out of memory.
-    ensures certain { IsCertain request.now
-        (change W.written W.has_failed out.old out.new)
-        (change E.written E.has_failed errors.old errors.new)
-        result }
+    ensures certain { IsCertain request.now (record {
+      old = out.old;
+      new = out.new;
+      out = change W.written W.has_failed out.old out.new;
+      err = change E.written E.has_failed errors.old errors.new;
+      status = result;
+    }) }
     ensures flushed { result ≡ 0 → W.held out.new ≡ [] }
     // What the request asks for is never that memory runs out: code 1 is the machine's alone.
     ensures apart { (input : List ℕ) (answer : Result (List ℕ) Fault)

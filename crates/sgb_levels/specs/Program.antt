@@ -2,7 +2,7 @@
 use Rattle.std.specs.Prelude.{◌≡◌, ◌⊎◌, ◌&&◌, ℕ, false, List, [], ◌∷◌, codes, IfSome, Result, Ok, Err}
 use Rattle.sgb_vec.specs.declared.panics.Panic.{Panic}
 use Rattle.sgb_graph.specs.Graphs.{GraphData}
-use Rattle.sgb_file.specs.Devices.{AppendsUnlessFailed, Change}
+use Rattle.sgb_file.specs.Devices.{AppendsUnlessFailed}
 use Rattle.sgb_expr.specs.Expression.{Expression, expression_of}
 use Rattle.sgb_expr.specs.StdinUses.{has_stdin}
 use Rattle.sgb_expr.specs.declared.expressions.Expr.{Expr}
@@ -10,7 +10,7 @@ use Rattle.sgb_requests.specs.Faults.{fault_line, status_of}
 use Rattle.sgb_requests.specs.Reading.{IsReadAs}
 use Rattle.sgb_requests.specs.declared.faults.Fault.{Fault}
 use Rattle.sgb_requests.specs.declared.faults.Fault.TheVariants as fault
-use Rattle.sgb.specs.Runs.{Input, IsRunFrom}
+use Rattle.sgb.specs.Runs.{Input, IsRunFrom, Left}
 use Rattle.sgb_values.specs.Values.{IsValueOn}
 use Rattle.sgb_levels.specs.Lines.{IsLevelsAnswer}
 
@@ -33,14 +33,14 @@ abbrev pub refusal_line : Fault → List ℕ
 refusal_line fault.Usage = levels_usage_line
 refusal_line f = fault_line f
 
--- Only this refusal of the words was reported: nothing was written to the output, its line to standard error unless that
--- failed, and its status was returned. `same` says that the output is as it was.
-pub record IsRefused (f : Fault) (same : Type 0) (out err : Change) (status : ℕ) : Type 0 where
-  pub left : same
-  pub untouched : out.after ≡ out.before
-  pub sound : out.failed ≡ false
-  pub line : AppendsUnlessFailed err (refusal_line f)
-  pub exit : status ≡ status_of f
+-- Only this refusal of the words was reported: the output sink is as it was, with neither a put nor a flush, and tells so; its
+-- line went to standard error unless that failed, and its status was returned.
+pub record IsRefused {S : Type 0} (f : Fault) (l : Left S) : Type 0 where
+  pub left : l.new ≡ l.old
+  pub untouched : l.out.after ≡ l.out.before
+  pub sound : l.out.failed ≡ false
+  pub line : AppendsUnlessFailed l.err (refusal_line f)
+  pub exit : l.status ≡ status_of f
 
 -- the answer of the program where standard input has these bytes
 abbrev pub AreLevelsOn : List ℕ → Expression → Result (List ℕ) Fault → Type 0
@@ -48,14 +48,14 @@ AreLevelsOn input e answer = (value : Result GraphData Panic) × IsValueOn input
 
 -- The distances in this expression's graph were written: standard input holds a text, the one that it tells, and the answer on
 -- it was given, or the run was stopped, as runs of `sgb` are.
-abbrev pub AreLevelsWritten : Expression → Input → Type 0 → Change → Change → ℕ → Type 0
-AreLevelsWritten e source same out err status =
+abbrev pub AreLevelsWritten : {S : Type 0} → Expression → Input → Left S → Type 0
+AreLevelsWritten e source l =
     (held : List ℕ) × IfSome source.bytes (λ bytes. held ≡ bytes)
     × ((a : Result (List ℕ) Fault) → AreLevelsOn held e a
-    → IsRunFrom (has_stdin e && source.failed) a same out err status)
+    → IsRunFrom (has_stdin e && source.failed) a l)
 
 -- what these words ask for was done, or their refusal was reported
-abbrev pub IsLevelsRun : List (List ℕ) → Input → Type 0 → Change → Change → ℕ → Type 0
-IsLevelsRun words source same out err status =
-    ((e : Expr) × AskFor words (Ok e) × AreLevelsWritten (expression_of e) source same out err status)
-    ⊎ ((f : Fault) × AskFor words (Err f) × IsRefused f same out err status)
+abbrev pub IsLevelsRun : {S : Type 0} → List (List ℕ) → Input → Left S → Type 0
+IsLevelsRun words source l =
+    ((e : Expr) × AskFor words (Ok e) × AreLevelsWritten (expression_of e) source l)
+    ⊎ ((f : Fault) × AskFor words (Err f) × IsRefused f l)

@@ -43,14 +43,20 @@ pub fn run_levels<R: Source, W: Sink, E: Sink>(
     ensures read { MatchResult words
         (λ words. IsLevelsRun (map string_bytes words.items)
         (record { bytes = R.remaining source.old; failed = R.has_failed source.new })
-        (out.new ≡ out.old)
-        (change W.written W.has_failed out.old out.new)
-        (change E.written E.has_failed errors.old errors.new)
-        result)
-        (λ error. IsRefused (unread_fault (error_kind error)) (out.new ≡ out.old)
-        (change W.written W.has_failed out.old out.new)
-        (change E.written E.has_failed errors.old errors.new)
-        result) }
+        (record {
+          old = out.old;
+          new = out.new;
+          out = change W.written W.has_failed out.old out.new;
+          err = change E.written E.has_failed errors.old errors.new;
+          status = result;
+        }))
+        (λ error. IsRefused (unread_fault (error_kind error)) (record {
+          old = out.old;
+          new = out.new;
+          out = change W.written W.has_failed out.old out.new;
+          err = change E.written E.has_failed errors.old errors.new;
+          status = result;
+        })) }
     ensures flushed { result ≡ 0 → W.held out.new ≡ [] }
     ensures unread { MatchResult words
         (λ words. AskForNoStdin (map string_bytes words.items) → source.new ≡ source.old)

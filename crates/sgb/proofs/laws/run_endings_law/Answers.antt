@@ -8,11 +8,11 @@ use Rattle.sgb.proofs.Endings.{no_line}
 use Rattle.sgb.proofs.laws.run_endings_law.Goals as goal
 
 answered : (failed : Bool) (answer : Result (List ℕ) Fault) (out err : Change) → err.after ≡ err.before → IsEndedFrom {T = ℕ} failed answer (out.after ≡ out.before) out (Ok 0)
-    → IsRunFrom failed answer (out.after ≡ out.before) out err 0
+    → IsRunFrom failed answer (record { old = out.before; new = out.after; out = out; err = err; status = 0 })
 answered failed answer out err left ended = grind (arith, no_line)
 
 reported : (failed : Bool) (answer : Result (List ℕ) Fault) (fault : Fault) (out err : Change) → AppendsUnlessFailed err (fault_line fault)
-    → IsEndedFrom {T = ℕ} failed answer (out.after ≡ out.before) out (Err fault) → IsRunFrom failed answer (out.after ≡ out.before) out err (status_of fault)
+    → IsEndedFrom {T = ℕ} failed answer (out.after ≡ out.before) out (Err fault) → IsRunFrom failed answer (record { old = out.before; new = out.after; out = out; err = err; status = status_of fault })
 reported failed answer fault out err line ended = grind arith
 
 pub returns : goal.returns

@@ -2,30 +2,29 @@ use Rattle.std.proofs.Common.{rules, ◌∙◌, sym, ◌≡◌, ℕ, List, Match
 use Rattle.sgb.proofs.Endings.{fault_status}
 use Rattle.sgb.proofs.program.run_program.Goals as goal
 use Rattle.std.specs.declared.io.ErrorKind.{ErrorKind}
-use Rattle.sgb_file.specs.Devices.{Change}
 use Rattle.sgb.specs.Certain.{IsCertain}
 use Rattle.sgb.specs.Program.{IsProgramRun, unread_fault}
 use Rattle.sgb_requests.specs.Requests.{IsCommandLineReadAs}
-use Rattle.sgb.specs.Runs.{Input, IsReported, IsRunOn}
+use Rattle.sgb.specs.Runs.{Input, IsReported, IsRunOn, Left}
 use Rattle.sgb_requests.specs.declared.faults.Fault.{Fault}
 use Rattle.sgb_requests.specs.declared.requests.Request.{Request}
 
 -- the words make a request, and it was run
-program_ran : {W E : Type 0} (words : Result W E) (texts : W → List (List ℕ)) (kind : E → ErrorKind) (r : Request) (source : Input) (same : Type 0) (out err : Change) (status : ℕ)
+program_ran : {W E S : Type 0} (words : Result W E) (texts : W → List (List ℕ)) (kind : E → ErrorKind) (r : Request) (source : Input) (l : Left S)
     → MatchResult words (λ w. IsCommandLineReadAs (texts w) (Ok r)) (λ e. ◌≡◌ {A = Result Request Fault} (Ok r) (Err (unread_fault (kind e))))
-    → IsRunOn r source same out err status → IsCertain r out err status
-    → MatchResult words (λ w. IsProgramRun (texts w) source same out err status) (λ e. IsReported (unread_fault (kind e)) same out err status)
-program_ran words texts kind r source same out err status is run certain = grind (arith)
+    → IsRunOn r source l → IsCertain r l
+    → MatchResult words (λ w. IsProgramRun (texts w) source l) (λ e. IsReported (unread_fault (kind e)) l)
+program_ran words texts kind r source l is run certain = grind (arith)
 
 -- they are refused, and that was reported
-program_refused : {W E : Type 0} (words : Result W E) (texts : W → List (List ℕ)) (kind : E → ErrorKind) (f : Fault) (source : Input) (same : Type 0) (out err : Change) (status : ℕ)
+program_refused : {W E S : Type 0} (words : Result W E) (texts : W → List (List ℕ)) (kind : E → ErrorKind) (f : Fault) (source : Input) (l : Left S)
     → MatchResult words (λ w. IsCommandLineReadAs (texts w) (Err f)) (λ e. ◌≡◌ {A = Result Request Fault} (Err f) (Err (unread_fault (kind e))))
-    → IsReported f same out err status
-    → MatchResult words (λ w. IsProgramRun (texts w) source same out err status) (λ e. IsReported (unread_fault (kind e)) same out err status)
-program_refused words texts kind f source same out err status is reported = grind (arith)
+    → IsReported f l
+    → MatchResult words (λ w. IsProgramRun (texts w) source l) (λ e. IsReported (unread_fault (kind e)) l)
+program_refused words texts kind f source l is reported = grind (arith)
 
 pub returns-in-Ok-clause-read : goal.returns-in-Ok-clause-read
-returns-in-Ok-clause-read g c = program_ran c.args.words _ _ c.in-Ok.request _ _ _ _ c.run.result c.in-Ok.ensures c.run.ensures.answers c.run.ensures.certain
+returns-in-Ok-clause-read g c = program_ran c.args.words _ _ c.in-Ok.request _ _ c.in-Ok.ensures c.run.ensures.answers c.run.ensures.certain
 
 pub returns-in-Err-clause-read : goal.returns-in-Err-clause-read
 returns-in-Err-clause-read g c = search (rules, program_refused)

@@ -10,13 +10,14 @@ pub returns-clause-answers : goal.returns-clause-answers
 returns-clause-answers g c =
     let (kept, is, each) = c.run_answer.ensures.answers in
     let (held, told, answer, on_held, on_kept) = kept_answer _ kept c.args.request.now is in
-    (held, told, answer, on_held, (each answer on_kept).0)
+    (held, told, answer, on_held, each answer on_kept)
 
 pub returns-clause-certain : goal.returns-clause-certain
 returns-clause-certain g c =
-    let (kept, is, each) = c.run_answer.ensures.answers in
-    let (stdin, gives) = stdin_given in
-    certain_run c.args.request.now (stdin kept) _ _ _ ((each (answer_of c.args.request.now (stdin kept)) (stdin kept, gives kept, refl)).1)
+    certain_run c.args.request.now _ (λ unread needs sound.
+        let (kept, each) = c.run_answer.ensures.certain unread needs sound in
+        let (stdin, gives) = stdin_given in
+        (stdin kept, each (answer_of c.args.request.now (stdin kept)) (stdin kept, gives kept, refl)))
 
 pub returns-clause-apart : goal.returns-clause-apart
 returns-clause-apart g c = answer_own c.args.request.now

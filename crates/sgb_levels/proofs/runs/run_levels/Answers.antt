@@ -7,12 +7,12 @@ use Rattle.sgb_levels.proofs.runs.run_levels.Goals as goal
 pub returns-in-Ok-clause-read : goal.returns-in-Ok-clause-read
 returns-in-Ok-clause-read g c =
     let (kept, is, each) = c.run_answer.ensures.answers in
-    levels_ran c.args.words _ _ (Ok c.in-Ok.expression) _ _ _ _ c.run_answer.result c.in-Ok.ensures
-    (levels_written (expression_of c.in-Ok.expression) _ kept _ _ _ _ is (λ a answer. (each a answer).0))
+    levels_ran c.args.words _ _ (Ok c.in-Ok.expression) _ _ c.in-Ok.ensures
+    (levels_written (expression_of c.in-Ok.expression) _ kept _ is each)
 
 pub returns-in-Err-clause-read : goal.returns-in-Err-clause-read
 returns-in-Err-clause-read g c =
-    levels_ran c.args.words _ _ (Err c.in-Err.fault) _ _ _ _ c.report_refusal.result c.in-Err.ensures
+    levels_ran c.args.words _ _ (Err c.in-Err.fault) _ _ c.in-Err.ensures
     (record { left = refl; untouched = refl; sound = c.requires; line = c.report_refusal.ensures.line; exit = c.report_refusal.ensures.status })
 
 pub returns-in-Err-clause-flushed : goal.returns-in-Err-clause-flushed
