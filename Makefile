@@ -2,7 +2,7 @@
 # make            proves every crate, builds the programs, leaves them as ./sgb and ./sgb_levels
 # make demo       that, and three small graphs
 # make examples   tries the examples: forms of listings, by the readers installed, Python, parts of a listing, the cookbook,
-#                 and callers of the library for C where make lib has left it
+#                 and callers of the library for C where make lib has left it, among them Dask's where it is installed
 # make outside    checks the built program from outside: refused memory, failing devices, broken files, tour, examples
 # make conformance  holds the program against a table of graphs and refusals
 # make graphbase GRAPHBASE=FOLDER  holds it against the published library in FOLDER: gb_graph.h .. and libgb.a
@@ -53,6 +53,7 @@ examples: sgb
 	examples/cookbook_test.py ./sgb
 	examples/shards_test.sh
 	examples/callers_test.py ./sgb ./sgb_levels
+	examples/dask_degrees_test.py ./sgb
 
 outside: sgb
 	bench/outside.py ./sgb
