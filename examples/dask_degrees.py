@@ -71,9 +71,12 @@ def degrees_of(client, text, part=PART, chunk=CHUNK, heard=None):
     n = sgb.vertices(text)
     head = client.submit(told, text, pure=False)
     wanted = {first: min(part, n - first) for first in range(0, n, part)}
-    tasks = client.map(functools.partial(counted, text, chunk), list(wanted), list(wanted.values()), pure=False)
+    count = functools.partial(counted, text, chunk)
     vertices, arcs, degrees = 0, 0, collections.Counter()
-    for _, came in distributed.as_completed(tasks, with_results=True):
+    # no task is held here once it came, so that a worker lost later has no part in it
+    for _, came in distributed.as_completed(
+        client.map(count, list(wanted), list(wanted.values()), pure=False), with_results=True
+    ):
         if isinstance(came, BaseException):
             raise came
         first, seen, more, found = came
