@@ -90,7 +90,8 @@ def no_venv():
 
 def no_browser():
     lacking = built.missing("chromium", "chromedriver")
-    if subprocess.run(["/usr/bin/python3", "-c", "import selenium"], capture_output=True, check=False).returncode:
+    debian = "/usr/bin/python3"  # which runs page/test.py
+    if not os.path.exists(debian) or subprocess.run([debian, "-c", "import selenium"], stderr=subprocess.DEVNULL).returncode:
         lacking.append("selenium (Debian package python3-selenium)")
     return f"there is no {', no '.join(lacking)}" if lacking else None
 
@@ -149,8 +150,9 @@ def sums():
 
 
 def write_sums():
-    """Writes the digests. Files of two commits under one version are none that can be told apart."""
+    """Writes the digests. Beside what is made here, all has to be of the same commit."""
     if any(os.path.exists(path) for machine in MACHINES for path in names(machine)):
+        moment()
         with open(COMMIT, encoding="ascii") as file:
             if file.read() != commit():
                 raise Failed("dist/ has files of another commit: make dist makes them anew, and then make wasm page the others")
