@@ -153,9 +153,8 @@ def write_sums():
     """Writes the digests. Beside what is made here, all has to be of the same commit."""
     if any(os.path.exists(path) for machine in MACHINES for path in names(machine)):
         moment()
-        with open(COMMIT, encoding="ascii") as file:
-            if file.read() != commit():
-                raise Failed("dist/ has files of another commit: make dist makes them anew, and then make wasm page the others")
+        if not os.path.exists(COMMIT) or packed.read(COMMIT).decode() != commit():
+            raise Failed("dist/ has files of another commit: make dist makes them anew, and then make wasm page the others")
     with open(SUMS, "w", encoding="ascii") as file:
         file.write(sums())
 
@@ -211,8 +210,6 @@ def same_sums():
 
 
 def make_all(here):
-    if NATIVE not in here:
-        raise Failed(left_out(NATIVE))
     when = moment()
     clear()
     for machine in here:
@@ -224,8 +221,10 @@ def main():
     if not set(words) <= set(WORDS):
         sys.exit(f"usage: packaging/dist.py [{'|'.join(WORDS)} ..]")
     here = [machine for machine in MACHINES if not left_out(machine)]
-    reasons = [*map(left_out, MACHINES), no_deb(), no_venv()] if "make" in words or "try" in words else []
+    reasons = [*map(left_out, MACHINES), no_deb(), no_venv()] if {"make", "try"} & set(words) else []
     try:
+        if {"make", "try"} & set(words) and NATIVE not in here:
+            raise Failed(left_out(NATIVE))
         if "make" in words:
             make_all(here)
         if "page" in words:

@@ -3,11 +3,11 @@
 
     make page
 
-FOLDER is what `make page` leaves; it is served by Python on this machine. At an address, as http://localhost:8000/, it
-is only seen whether the page opens with Petersen's graph. The listings and files of the graphs of
+FOLDER is what `make page` leaves; it is served by Python on this machine. The listings and files of the graphs of
 conformance/graphs.tsv are made in the browser and have their digests, and the refusals their codes; then the page is
 used: expressions, errors, a file, a link, stop, downloads. With a folder for screenshots it leaves there what the page
-looks like. The last line is `N passed, M failed`.
+looks like. At an ADDRESS, as http://localhost:8000/, it is seen whether the page opens with Petersen's graph, and no
+more. The last line is `N passed, M failed`.
 
 It is Debian's own Python that runs it, which has Debian's selenium. PAGE_SECONDS is how long one step may take, 120 if
 it is not set.
@@ -311,7 +311,7 @@ def main():
         missing.append("python3-selenium")
     if missing:
         sys.exit(f"page/test.py: these Debian packages are wanted: apt-get install {' '.join(missing)}")
-    tally, is_served = Tally(), sys.argv[1].startswith("http")
+    tally, is_served = Tally(), sys.argv[1].startswith("http://")
     others = () if is_served else (conformance, expressions, great, faults, files, links, stop, drawing)
     with tempfile.TemporaryDirectory() as downloads:
         page = Page(webdriver, sys.argv[1] if is_served else served(sys.argv[1]), downloads)
