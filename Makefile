@@ -15,6 +15,7 @@
 # make dist       proves all, and leaves in dist/ what runs on machines without the toolchain: tarballs, Debian packages and
 #                 wheels for x86-64 and aarch64, each tried (dist.mk)
 # make wasm       makes the package for Node and browsers of the proved library, and tests it: dist/sgb-VERSION.tgz (wasm.mk)
+# make page       makes a page of that package, and tests it: dist/page, dist/sgb-page-VERSION.tar.gz (wasm.mk)
 # make install    puts what is built below $(PREFIX), with its manual page and completion for bash, and the library for C
 #                 where it is there; it builds nothing
 # make uninstall  takes them away again

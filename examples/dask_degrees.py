@@ -139,6 +139,8 @@ def main():
                 where = stack.enter_context(cluster_here(given.workers, folder))
             client = stack.enter_context(distributed.Client(where))
             n, m, degrees = degrees_of(client, given.text, given.part, given.chunk)
+    except ModuleNotFoundError as why:
+        sys.exit(f"dask_degrees.py: {why}: it takes distributed and sgb here and on each worker")
     except concurrent.futures.CancelledError:
         sys.exit("dask_degrees.py: the scheduler is gone, or has dropped the tasks")
     except Exception as why:  # whatever it is, nothing was written
