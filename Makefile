@@ -2,7 +2,7 @@
 # make            proves every crate, builds the programs, leaves them as ./sgb and ./sgb_levels
 # make demo       that, and three small graphs
 # make examples   tries the examples: forms of listings, by the readers installed, Python, parts of a listing, the cookbook,
-#                 and callers of the library for C where make lib has left it
+#                 and callers of the library for C where make lib has left it, among them Dask's where it is installed
 # make outside    checks the built program from outside: refused memory, failing devices, broken files, tour, examples
 # make conformance  holds the program against a table of graphs and refusals
 # make graphbase GRAPHBASE=FOLDER  holds it against the published library in FOLDER: gb_graph.h .. and libgb.a
@@ -15,6 +15,7 @@
 # make dist       proves all, and leaves in dist/ what runs on machines without the toolchain: tarballs, Debian packages and
 #                 wheels for x86-64 and aarch64, each tried (dist.mk)
 # make wasm       makes the package for Node and browsers of the proved library, and tests it: dist/sgb-VERSION.tgz (wasm.mk)
+# make page       makes a page of that package, and tests it: dist/page, dist/sgb-page-VERSION.tar.gz (wasm.mk)
 # make install    puts what is built below $(PREFIX), with its manual page and completion for bash, and the library for C
 #                 where it is there; it builds nothing
 # make uninstall  takes them away again
@@ -53,6 +54,7 @@ examples: sgb
 	examples/cookbook_test.py ./sgb
 	examples/shards_test.sh
 	examples/callers_test.py ./sgb ./sgb_levels
+	examples/dask_degrees_test.py ./sgb
 
 outside: sgb
 	bench/outside.py ./sgb

@@ -29,7 +29,7 @@ MACHINES = [NATIVE, ARM]
 PACKAGES = {
     "cc": "gcc", "ar": "binutils", "readelf": "binutils", "dpkg": "dpkg", "dpkg-deb": "dpkg",
     "aarch64-linux-gnu-gcc": "gcc-aarch64-linux-gnu", "aarch64-linux-gnu-ar": "binutils-aarch64-linux-gnu",
-    "qemu-aarch64-static": "qemu-user-static",
+    "qemu-aarch64-static": "qemu-user-static", "node": "nodejs", "chromium": "chromium", "chromedriver": "chromium-driver",
 }
 
 

@@ -1,19 +1,30 @@
 #!/usr/bin/env python3
-"""Makes dist/ of what `make` and `make lib` proved and left, and tries it: packaging/dist.py [make|try|sums]
+"""Makes dist/ of what `make` and `make lib` proved and left, and tries it: packaging/dist.py [make|page|sums|try|commands ..]
 
     make dist
 
 The programs, the library for C and the Python package for x86-64 and aarch64, as tarballs, Debian packages and wheels, and
-SHA256SUMS. The same commit gives the same bytes. Without a word it makes them and tries them; `try` only tries what is there,
-and `sums` writes the digests of all that is there, which has what `make wasm` left, too.
-It says what it leaves out where a Debian package is missing; the status is 1 where something that it made does not work.
+SHA256SUMS. The same commit gives the same bytes. Without a word it makes them, tries them, and gives the commands of
+docs/INSTALL.md; else it does what the words say, in this order:
+
+- `make` takes away what is in dist/, which may be of another commit, and makes these files anew;
+- `page` packs dist/page, which `make page` leaves, as one file;
+- `sums` writes the digests of all files there, those of `make wasm` and `make page` among them;
+- `try` tries the files that `make` makes;
+- `commands` gives the commands of docs/INSTALL.md for which there are files.
+
+It says what it leaves out where a file or a Debian package is missing; the status is 1 where something that it made does
+not work.
 """
 
 import hashlib
 import importlib.util
 import os
 import re
+import shutil
+import subprocess
 import sys
+import tarfile
 
 import built
 import packed
@@ -23,6 +34,8 @@ from built import MACHINES, NATIVE, ROOM, TOP, Failed, ran
 DIST = os.path.join(TOP, "dist")
 SUMS = os.path.join(DIST, "SHA256SUMS")
 OLDEST = (2, 17)  # the glibc that wheels name
+COMMIT = os.path.join(ROOM, "commit")  # that of the files that were made here
+WORDS = ["make", "page", "sums", "try", "commands"]
 
 
 def version():
@@ -48,6 +61,16 @@ def names(machine):
     return [os.path.join(DIST, name) for name in made]
 
 
+def package():
+    """The package for Node and browsers, which `make wasm` leaves."""
+    return os.path.join(DIST, f"sgb-{version()}.tgz")
+
+
+def page():
+    """The page as one file."""
+    return os.path.join(DIST, f"sgb-page-{version()}.tar.gz")
+
+
 def left_out(machine):
     """Why nothing is made for a processor, or nothing."""
     wanted = [machine.cc, machine.ar, "readelf"] + ([machine.runner] if machine.runner else [])
@@ -63,6 +86,33 @@ def no_deb():
 def no_venv():
     is_there = importlib.util.find_spec("ensurepip") is not None
     return None if is_there else "the trial of the wheel: there is no ensurepip (Debian package python3-venv)"
+
+
+def no_browser():
+    lacking = built.missing("chromium", "chromedriver")
+    debian = "/usr/bin/python3"  # which runs page/test.py
+    if not os.path.exists(debian) or subprocess.run([debian, "-c", "import selenium"], stderr=subprocess.DEVNULL).returncode:
+        lacking.append("selenium (Debian package python3-selenium)")
+    return f"there is no {', no '.join(lacking)}" if lacking else None
+
+
+def no_node():
+    lacking = built.missing("node")
+    return f"there is no {lacking[0]}" if lacking else None
+
+
+def sections():
+    """The sections of docs/INSTALL.md that have commands: of each its file, what makes it, and why it is not tried."""
+    tarball, _, wheel = names(NATIVE)
+    needs = {
+        "In a shell": (tarball, "dist", None), "In C": (tarball, "dist", None), "In Python": (wheel, "dist", no_venv()),
+        "In Node": (package(), "wasm", no_node()), "In a browser": (page(), "page", no_browser()),
+        "What is known of these files": (tarball, "dist", None),
+    }
+    is_there = {path: os.path.exists(path) for path, _, _ in needs.values()}
+    absent = {heading: f"there is no dist/{os.path.basename(path)}, which make {target} makes"
+              for heading, (path, target, _) in needs.items() if not is_there[path]}
+    return {heading: absent.get(heading, why) for heading, (_, _, why) in needs.items()}
 
 
 def make(machine, when):
@@ -100,16 +150,39 @@ def sums():
 
 
 def write_sums():
+    """Writes the digests. Beside what is made here, all has to be of the same commit."""
+    if any(os.path.exists(path) for machine in MACHINES for path in names(machine)):
+        moment()
+        if not os.path.exists(COMMIT) or packed.read(COMMIT).decode() != commit():
+            raise Failed("dist/ has files of another commit: make dist makes them anew, and then make wasm page the others")
     with open(SUMS, "w", encoding="ascii") as file:
         file.write(sums())
 
 
+def commit():
+    return ran(["git", "rev-parse", "HEAD"])
+
+
 def clear():
-    """Takes away what an earlier run made."""
-    os.makedirs(DIST, exist_ok=True)
-    for name in os.listdir(DIST):
-        if name.endswith((".tar.gz", ".deb", ".whl")):
-            os.remove(os.path.join(DIST, name))
+    """Takes away what is in dist/: it may be of another commit."""
+    shutil.rmtree(DIST, ignore_errors=True)
+    os.makedirs(DIST)
+    os.makedirs(ROOM, exist_ok=True)
+    with open(COMMIT, "w", encoding="ascii") as file:
+        file.write(commit())
+
+
+def pack_page():
+    """Packs the page, whose wasm and calls have to be those of the package that is there."""
+    folder = os.path.join(DIST, "page")
+    if not os.path.exists(package()):
+        raise Failed(f"there is no dist/{os.path.basename(package())}: make wasm makes it")
+    tree = {name: (packed.read(folder, name), 0o644) for name in sorted(os.listdir(folder))}
+    with tarfile.open(package()) as tar:
+        for name in "sgb.js", "sgb.wasm":
+            if tar.extractfile("package/" + name).read() != tree[name][0]:
+                raise Failed(f"dist/page has another {name} than the package: make wasm page makes both anew")
+    packed.write_tar(page(), os.path.basename(page())[: -len(".tar.gz")], tree, moment())
 
 
 def try_all(machine):
@@ -136,29 +209,34 @@ def same_sums():
                 raise Failed(f"dist/{os.path.basename(path)} is not there")
 
 
+def make_all(here):
+    when = moment()
+    clear()
+    for machine in here:
+        make(machine, when)
+
+
 def main():
-    words = sys.argv[1:] or ["make", "try"]
-    if not set(words) <= {"make", "try", "sums"}:
-        sys.exit("usage: packaging/dist.py [make|try|sums]")
-    if words == ["sums"]:
-        write_sums()
-        return
+    words = sys.argv[1:] or ["make", "sums", "try", "commands"]
+    if not set(words) <= set(WORDS):
+        sys.exit(f"usage: packaging/dist.py [{'|'.join(WORDS)} ..]")
     here = [machine for machine in MACHINES if not left_out(machine)]
-    reasons = [*map(left_out, MACHINES), no_deb(), no_venv()]
+    reasons = [*map(left_out, MACHINES), no_deb(), no_venv()] if {"make", "try"} & set(words) else []
     try:
-        if NATIVE not in here:
+        if {"make", "try"} & set(words) and NATIVE not in here:
             raise Failed(left_out(NATIVE))
         if "make" in words:
-            when = moment()
-            clear()
-            for machine in here:
-                make(machine, when)
+            make_all(here)
+        if "page" in words:
+            pack_page()
+        if "sums" in words:
             write_sums()
         if "try" in words:
             same_sums()
             for machine in here:
                 try_all(machine)
-            tried.page_works([os.path.join(DIST, name) for name in files()], ROOM, ["In Python"] if no_venv() else [])
+        if "commands" in words:
+            reasons += tried.install_works([os.path.join(DIST, name) for name in files()], ROOM, sections())
     except (Failed, OSError) as why:
         sys.exit(f"dist.py: {why}")
     for why in filter(None, reasons):

@@ -5,9 +5,11 @@ import hashlib
 import os
 import re
 import shutil
+import socket
 import subprocess
 import sys
 import tarfile
+import time
 
 import built
 from built import HERE, TOP, Failed, ran
@@ -193,23 +195,57 @@ def commands(page):
     return found
 
 
-def page_works(files, room, skipped):
-    """Gives the commands of docs/INSTALL.md in a fresh folder, which has the files of dist/ and is the home."""
+def install_works(files, room, sections):
+    """Gives the commands of docs/INSTALL.md in a fresh folder, which has the files of dist/ and is the home. Of each section
+    there is a reason to leave it out, or none; the reasons that held."""
     folder = fresh(room, "page")
     for path in files:
         shutil.copy(path, folder)
     environment = {name: value for name, value in os.environ.items() if name not in ("PYTHONPATH", "SGB_LIBRARY")}
+    environment["HOME"] = folder
     with open(os.path.join(TOP, "docs/INSTALL.md"), encoding="utf-8") as file:
         found = commands(file.read())
-    for heading, command, wanted in found:
-        if heading in skipped:
-            continue
+    if {heading for heading, _, _ in found} != {"", *sections}:
+        raise Failed(f"docs/INSTALL.md has commands in other sections than {', '.join(sections)}")
+    given = [one for one in found if not sections.get(one[0])]
+    for _, command, wanted in given:
         if command.startswith("cat "):
             with open(os.path.join(folder, command[len("cat "):]), "w", encoding="utf-8") as file:
                 file.write(wanted)
-        elif (seen := ran(["sh", "-c", command], folder, env={**environment, "HOME": folder})) != wanted:
+        elif command.startswith("python3 -m http.server "):
+            serves(command, folder, environment)
+        elif (seen := ran(["sh", "-c", command], folder, env=environment)) != wanted:
             raise Failed(f"docs/INSTALL.md: {command} writes {seen[-2000:]!r}, and not {wanted!r}")
-    print(f"  docs/INSTALL.md: {len(found)} commands in a fresh folder", flush=True)
+    print(f"  docs/INSTALL.md: {len(given)} of {len(found)} commands in a fresh folder", flush=True)
+    return [f"'{heading}' of docs/INSTALL.md: {why}" for heading, why in sections.items() if why]
+
+
+def serves(command, folder, environment):
+    """Gives a command that serves the page, at a port that is free, tries the page there, and ends it."""
+    with socket.create_server(("", 0)) as free:
+        port = free.getsockname()[1]
+    server = subprocess.Popen(
+        ["sh", "-c", f"exec {command} {port}"], cwd=folder, env=environment, stdin=subprocess.DEVNULL,
+        stdout=subprocess.DEVNULL, stderr=subprocess.DEVNULL,
+    )
+    try:
+        end = time.monotonic() + 20
+        while not answers(port):
+            if server.poll() is not None or time.monotonic() > end:
+                raise Failed(f"docs/INSTALL.md: {command} serves nothing")
+            time.sleep(0.1)
+        ran([os.path.join(TOP, "page/test.py"), f"http://localhost:{port}/"])
+    finally:
+        server.terminate()
+        server.wait()
+
+
+def answers(port):
+    try:
+        socket.create_connection(("localhost", port), 1).close()
+    except OSError:
+        return False
+    return True
 
 
 def wheel_works(machine, path, room):

@@ -1,12 +1,13 @@
 #!/usr/bin/python3
-"""Tries the page in headless Chromium: page/test.py FOLDER [SCREENSHOTS]
+"""Tries the page in headless Chromium: page/test.py FOLDER [SCREENSHOTS], or page/test.py ADDRESS
 
     make page
 
 FOLDER is what `make page` leaves; it is served by Python on this machine. The listings and files of the graphs of
 conformance/graphs.tsv are made in the browser and have their digests, and the refusals their codes; then the page is
 used: expressions, errors, a file, a link, stop, downloads. With a folder for screenshots it leaves there what the page
-looks like. The last line is `N passed, M failed`.
+looks like. At an ADDRESS, as http://localhost:8000/, it is seen whether the page opens with Petersen's graph, and no
+more. The last line is `N passed, M failed`.
 
 It is Debian's own Python that runs it, which has Debian's selenium. PAGE_SECONDS is how long one step may take, 120 if
 it is not set.
@@ -55,6 +56,8 @@ V1,0,7
 V0,0,-3
 * Checksum -1
 """
+# the first list of Petersen's graph
+FIRST = "0.0.0.1.1\n  -> 1.1.0.0.0, length 1\n  -> 1.0.1.0.0, length 1\n  -> 0.1.1.0.0, length 1"
 # what runs in the browser: of each expression the digests of its listing and its file, or the code of its refusal
 DIGESTS = """
 const [expressions, done] = arguments;
@@ -77,11 +80,11 @@ const digest = async (bytes) => [...new Uint8Array(await crypto.subtle.digest("S
   done(found);
 })();
 """
-# what is looked at: an expression, how wide the window is, and its colours
+# what is looked at: an expression, how wide the window is, its colours, and the vertex that is chosen
 SHOTS = [
-    ("board(8,8,0,0,5,0,0)", 1280, "light"), ("petersen()", 400, "light"), ("board(3, 4", 400, "light"),
-    ("gunion(petersen(),circuit(7),0,0)", 1280, "dark"), ("board(1000000000,0,0,0,1,0,0)", 1280, "dark"),
-    ("simplex(8,-2,0,0,0,0,0)", 800, "light"),
+    ("board(8,8,0,0,5,0,0)", 1080, "light", 27), ("petersen()", 400, "light", 0), ("board(3, 4", 400, "light", 0),
+    ("gunion(petersen(),circuit(7),0,0)", 1280, "dark", 0), ("board(1000000000,0,0,0,1,0,0)", 1280, "dark", 0),
+    ("simplex(8,-2,0,0,0,0,0)", 800, "light", 0), ("board(8,8,0,0,5,0,0)", 1280, "light", 0),
 ]
 QUIET = """
 const [stop, state] = ["stop", "state"].map((id) => document.getElementById(id));
@@ -277,16 +280,22 @@ def drawing(page, tally):
     tally.same(drawn.is_displayed(), False, "a drawing of it")
 
 
+def opens(page, tally):
+    """As the page opens it has Petersen's graph."""
+    tally.same(page.at("counts").text, "10 vertices and 30 arcs", "how many vertices and arcs the page opens with")
+    tally.same(page.lists()[:1], [FIRST], "the list that the page opens with")
+
+
 def looks(page, folder):
     os.makedirs(folder, exist_ok=True)
-    for k, (text, wide, scheme) in enumerate(SHOTS):
+    for k, (text, wide, scheme, vertex) in enumerate(SHOTS):
         page.browser.set_window_size(wide, 1000)
         media = {"features": [{"name": "prefers-color-scheme", "value": scheme}]}
         page.browser.execute_cdp_cmd("Emulation.setEmulatedMedia", media)
         page.open()
         page.make(text)
         if page.at("drawing").is_displayed():
-            page.at("drawing").send_keys("\ue014")
+            page.at("drawing").send_keys((vertex + 1) * "\ue014")
         shot = page.browser.execute_cdp_cmd("Page.captureScreenshot", {"format": "png", "captureBeyondViewport": True})
         with open(os.path.join(folder, f"page{k}.png"), "wb") as file:
             file.write(base64.b64decode(shot["data"]))
@@ -294,7 +303,7 @@ def looks(page, folder):
 
 def main():
     if len(sys.argv) not in (2, 3):
-        sys.exit("usage: page/test.py FOLDER [SCREENSHOTS]")
+        sys.exit("usage: page/test.py FOLDER [SCREENSHOTS], or page/test.py ADDRESS")
     missing = [package for command, package in WANTED.items() if not shutil.which(command)]
     try:
         from selenium import webdriver
@@ -302,12 +311,13 @@ def main():
         missing.append("python3-selenium")
     if missing:
         sys.exit(f"page/test.py: these Debian packages are wanted: apt-get install {' '.join(missing)}")
-    tally = Tally()
+    tally, is_served = Tally(), sys.argv[1].startswith("http://")
+    others = () if is_served else (conformance, expressions, great, faults, files, links, stop, drawing)
     with tempfile.TemporaryDirectory() as downloads:
-        page = Page(webdriver, served(sys.argv[1]), downloads)
+        page = Page(webdriver, sys.argv[1] if is_served else served(sys.argv[1]), downloads)
         try:
             tally.same(page.open(), True, "whether the page opens")
-            for part in conformance, expressions, great, faults, files, links, stop, drawing:
+            for part in opens, *others:
                 part(page, tally)
                 print(f"  {part.__name__}", flush=True)
             severe = [entry["message"] for entry in page.browser.get_log("browser") if entry["level"] == "SEVERE"]
