@@ -44,7 +44,12 @@ pub(crate) fn events_within(
 {
     let mut events = Vec::new(alloc);
     for v in 0..n {
-        push_inner_events(&mut events, &entries[v as usize], copies.first(v), flags)?;
+        push_inner_events(
+            &mut events,
+            &entries[v as usize],
+            copies.own_start(v),
+            flags,
+        )?;
     }
     Ok(events)
 }

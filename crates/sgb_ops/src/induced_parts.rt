@@ -98,7 +98,7 @@ pub(crate) fn add_events_within(
     ensures memory { IsOkUnless result Panic.NoRoom }
 {
     for v in 0..n {
-        let start = copies.first(v);
+        let start = copies.own_start(v);
         add_inner_events(built, alloc, &entries[v as usize], start, flags)?;
     }
     Ok(())
