@@ -63,7 +63,7 @@ fn broken_text(alloc: Global, first: &[u8], lines: &mut Lines<'_>) -> Result<Tex
     Text::new(alloc, bytes.as_slice())
 }
 
-// The same of an id.
+// An id of several parts, of which the first one was taken.
 fn broken_id(first: &[u8], lines: &mut Lines<'_>) -> Result<Id, Panic>
     ensures found { IsFoundBy (string_from most_id_bytes first.now (text_left lines.old)) result
         (text_left lines.new) }

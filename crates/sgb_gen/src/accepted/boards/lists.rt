@@ -208,7 +208,8 @@ impl Board {
         Ok(())
     }
 
-    // The same where no move is longer than 1: of the edge that starts at `x` and the one that comes to it the later first.
+    // Puts the arcs of `x` by the edges of the displacement `t` behind the others, where no move is longer than 1: of the
+    // edge that starts at `x` and the one that comes to it the later first.
     fn push_leaps(
         &self,
         x: &[u32],
