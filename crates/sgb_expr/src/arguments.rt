@@ -10,8 +10,8 @@ use crate::names::GeneratorName;
 use crate::numbers::{bits, integers};
 use crate::wrong::Mismatch;
 use sgb_gen::{
-    BoardParams, Generator, SimplexParams, SubsetsParams, circuit, complete, cycle, disjoint_subsets,
-    empty, petersen, transitive,
+    BoardParams, Generator, SimplexParams, SubsetsParams, circuit, complete, cycle,
+    disjoint_subsets, empty, petersen, transitive,
 };
 
 /// The graph of the generator whose name has been read, and the text after its `)`; or where the text goes wrong.
