@@ -1,6 +1,6 @@
 //! What the utility fields of a graph hold, in an array.
 ghost use Rattle.std.specs.Prelude.{◌≡◌, length, map, OnOk, IfErr};
-ghost use Rattle.sgb_file.specs.Saving.{letter_of};
+ghost use Rattle.sgb_graph.specs.Kinds.{letter_of};
 ghost use Rattle.sgb_arrays.specs.declared.refusals.Wrong.TheVariants as wrong;
 
 use crate::refusals::Wrong;
@@ -29,19 +29,6 @@ fn put_letters(kinds: &[Kind; 14], letters: &mut [u8])
     ensures { letters.new ≡ map letter_of kinds.now }
 {
     for place in 0..14 {
-        letters[place] = letter(kinds[place]);
-    }
-}
-
-// The letter of a kind.
-fn letter(kind: Kind) -> u8
-    ensures { result ≡ letter_of kind }
-{
-    match kind {
-        Kind::Z => b'Z',
-        Kind::I => b'I',
-        Kind::V => b'V',
-        Kind::S => b'S',
-        Kind::A => b'A',
+        letters[place] = kinds[place].letter();
     }
 }

@@ -4,9 +4,10 @@
 #![tactic(auto)]
 
 ghost use Rattle.std.specs.Prelude.{◌≡◌, ◌⊎◌, ◌≤◌, ◌-◌, ◌^◌, length, map, min, None};
-ghost use Rattle.sgb_file.specs.Saving.{letter_of, text_of_graph};
+ghost use Rattle.sgb_file.specs.Saving.{text_of_graph};
 ghost use Rattle.sgb_graph.specs.Graphs.{chain_of};
 ghost use Rattle.sgb_graph.specs.Draws.{modulus, plain_draws, seed_of, uniform_draws};
+ghost use Rattle.sgb_graph.specs.Kinds.{letter_of};
 ghost use Rattle.sgb_arrays.specs.Fields.{HoldsInts, ints_of};
 ghost use Rattle.sgb_arrays.specs.Runs.{AreNames, AreRows, HaveNameLengths, HaveRowLengths, IsThere, name_at, parts_of};
 ghost use Rattle.sgb_c.specs.Answers.{AreSizes, IsIntsMisfit, nothing_misfits, number_of};

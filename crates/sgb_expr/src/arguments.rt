@@ -1,7 +1,7 @@
 //! The arguments of each generator's form, and the graph that they name.
-ghost use Rattle.std.specs.Prelude.{◌≡◌, ◌<◌, ◌^◌, IfOk, [], ◌∷◌, codes, length, nat_abs};
+ghost use Rattle.std.specs.Prelude.{◌≡◌, ◌<◌, ◌^◌, IfOk, [], ◌∷◌, codes, nat_abs};
 ghost use Rattle.sgb_gen.specs.Shorthands.{complete, transitive, empty, circuit, cycle, disjoint_subsets, petersen};
-ghost use Rattle.sgb_expr.specs.Forms.{board_params, simplex_params, subsets_params, nth_number};
+ghost use Rattle.sgb_expr.specs.Forms.{board_params, simplex_params, subsets_params};
 ghost use Rattle.sgb_expr.specs.inner.Gives.{Finds};
 ghost use Rattle.sgb_expr.specs.inner.Reading.{generator_at, subsets_at};
 ghost use Rattle.sgb_expr.specs.inner.Readings.{integers_at};
@@ -10,8 +10,8 @@ use crate::names::GeneratorName;
 use crate::numbers::{bits, integers};
 use crate::wrong::Mismatch;
 use sgb_gen::{
-    BoardParams, Generator, SimplexParams, SubsetsParams, circuit, complete, cycle, disjoint_subsets,
-    empty, petersen, transitive,
+    BoardParams, Generator, SimplexParams, SubsetsParams, circuit, complete, cycle,
+    disjoint_subsets, empty, petersen, transitive,
 };
 
 /// The graph of the generator whose name has been read, and the text after its `)`; or where the text goes wrong.

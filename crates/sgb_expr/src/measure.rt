@@ -1,5 +1,5 @@
 //! How large a text may be that is read: an expression, or what is asked of the random generator.
-ghost use Rattle.std.specs.Prelude.{◌≡◌, ◌↔◌, IsTrue};
+ghost use Rattle.std.specs.Prelude.{◌↔◌, IsTrue};
 ghost use Rattle.sgb_expr.specs.Expressions.{IsTooLarge};
 ghost use Rattle.sgb_expr.specs.inner.Measure.{IsDeep};
 

@@ -152,6 +152,7 @@ fn entry_list(alloc: Global, text: &[u8]) -> Result<(Entries, &[u8]), Wrong>
 {
     let mut list = Vec::new(alloc);
     let mut rest = fixed(b"[", text)?;
+    // The proof names the loop by its label.
     'entries: loop {
         if let Some(after) = rest.strip_prefix(b"]") {
             return Ok((Entries::new(list), after));

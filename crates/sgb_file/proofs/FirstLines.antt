@@ -10,12 +10,12 @@ use Rattle.std.proofs.lemmas.List.Sums.{take_while-cons}
 use Rattle.sgb_text.proofs.Findings.{Found, after_prefix, prefix_is, taken_and_left, was_given, was_mapped, was_let_through}
 use Rattle.sgb_vec.specs.Limits.{most_vertices}
 use Rattle.sgb_graph.specs.declared.fields.Kind.{Kind}
+use Rattle.sgb_graph.specs.Kinds.{letter_of}
 use Rattle.sgb_file.specs.Fields.{most_number_digits}
 use Rattle.sgb_text.specs.Numbers.{IsNumber}
 use Rattle.sgb_file.specs.inner.FieldValues.{is_decimal_digit, number_of}
 use Rattle.sgb_file.specs.inner.Heads.{Head, BeginsWithNoDigit, SaysHead}
 use Rattle.sgb_file.specs.inner.ReadFiles.{kind_of_letter, kinds_at, leading_number, head_of_line}
-use Rattle.sgb_file.specs.Saving.{letter_of}
 use Rattle.sgb_file.proofs.NumberReading.{at_most, number_says}
 use Rattle.sgb_file.proofs.FieldsAndTexts.{digits_again, digits_found}
 

@@ -2,9 +2,10 @@
 use Rattle.std.proofs.Common.{◌≡◌, ◌+◌, ◌*◌, ◌%◌, ◌^◌, ◌++◌, ◌∙◌, ℕ, List, [], ◌∷◌, length, map, codes, decimal, ap, append_assoc, append-nil, arith}
 use Rattle.std.proofs.lemmas.List.Concat.{flat_map-append}
 use Rattle.sgb_graph.specs.Graphs.{GraphData}
+use Rattle.sgb_graph.specs.Kinds.{letter_of}
 use Rattle.sgb_file.specs.FileLines.{text_of_lines}
 use Rattle.sgb_file.specs.Checksum.{checksum_of_lines, checksum_prime, weighted_sum}
-use Rattle.sgb_file.specs.Saving.{letter_of, middle_lines, text_of_graph}
+use Rattle.sgb_file.specs.Saving.{middle_lines, text_of_graph}
 use Rattle.sgb_file.specs.inner.SavedLines.{head_line, checksum_line}
 use Rattle.sgb_file.specs.inner.Layouts.{checksum_after, checksum_from, checksum_text, counted_bytes, head_text, place_of}
 use Rattle.sgb_file.proofs.ChecksumLemmas.{running_from}

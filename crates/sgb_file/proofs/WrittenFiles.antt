@@ -16,7 +16,7 @@ use Rattle.sgb_file.specs.Checksum.{checksum_prime, weighted_sum, has_star, chec
 use Rattle.sgb_file.specs.Fields.{most_number_digits}
 use Rattle.sgb_file.specs.Files.{IsComment, IsChecksumLine, IsVertexRecord, IsArcRecord, AreRecordsOf, IsFileOf}
 use Rattle.sgb_file.specs.inner.Heads.{head_of, SaysHead, Counts}
-use Rattle.sgb_file.specs.Saving.{record_lines, middle_lines, text_of_graph, letter_of, field_texts}
+use Rattle.sgb_file.specs.Saving.{record_lines, middle_lines, text_of_graph, field_texts}
 use Rattle.sgb_file.specs.inner.SavedLines.{graph_texts, vertex_texts, arc_texts, head_line, checksum_line}
 use Rattle.sgb_file.specs.Saved.{CanBeSaved, ValueCanBeSaved}
 use Rattle.sgb_file.proofs.LineLemmas.{is_line, list_all-join, clean_lines_read, is_one_line, is_within_line, ends_well, ends_with}
@@ -31,6 +31,7 @@ use Rattle.sgb_vec.proofs.Lists.{All-flat_map}
 use Rattle.sgb_graph.specs.Sound.{util_fits, utils_fit, graph_kinds}
 use Rattle.sgb_graph.specs.declared.fields.Kind.{Kind}
 use Rattle.sgb_graph.specs.declared.fields.Util.{Util}
+use Rattle.sgb_graph.specs.Kinds.{letter_of}
 use Rattle.sgb_file.proofs.LaidOutText.{record_are_lines}
 
 -- the texts of a field are lines

@@ -12,10 +12,10 @@ use Rattle.sgb_graph.specs.declared.fields.Util.{Util}
 use Rattle.sgb_graph.specs.declared.fields.Util.TheVariants.{Nothing, Int, Vertex as VertexField, Str, Chain}
 use Rattle.sgb_graph.specs.declared.fields.Vertex.{Vertex}
 use Rattle.sgb_graph.specs.declared.fields.ArcRec.{ArcRec}
+use Rattle.sgb_graph.specs.Kinds.{letter_of}
 use Rattle.sgb_file.specs.FileLines.{clean_lines, text_of_lines}
 use Rattle.sgb_file.specs.Checksum.{has_star, checksum_of_lines}
 use Rattle.sgb_file.specs.Fields.{IsIntegerText, IsNumberText, IsRecordNumberText, IsRefText, IsStringText}
-use Rattle.sgb_file.specs.Saving.{letter_of}
 
 -- the text of a field of this kind with this value, where there are n vertices and m arc records; there is none of kind Z
 abbrev pub IsFieldText : ℕ → ℕ → Kind → List ℕ → Util → Type 0

@@ -1,10 +1,9 @@
 -- The one text that is written for a graph [GB_SAVE, save_graph].
-use Rattle.std.specs.Prelude.{ℕ, ◌+◌, ◌-◌, ◌*◌, ◌/◌, List, [], ◌∷◌, ◌++◌, map, length, take, drop, codes, decimal, Option, Some, None, slice_index, nat_le, ◌==◌, if◌then◌else◌}
+use Rattle.std.specs.Prelude.{ℕ, ◌+◌, ◌-◌, ◌*◌, ◌/◌, List, [], ◌∷◌, ◌++◌, map, length, take, drop, codes, decimal, Option, Some, None, nat_le, ◌==◌, if◌then◌else◌}
 use Rattle.std.specs.List.{flat_map, range_with_len}
 use Rattle.std.specs.Fmt.{signed_decimal}
 use Rattle.sgb_graph.specs.Graphs.{GraphData}
-use Rattle.sgb_graph.specs.declared.fields.Kind.{Kind}
-use Rattle.sgb_graph.specs.declared.fields.Kind.TheVariants.{Z, I, V, S, A}
+use Rattle.sgb_graph.specs.Kinds.{letter_of}
 use Rattle.sgb_graph.specs.declared.fields.Ref.{Ref}
 use Rattle.sgb_graph.specs.declared.fields.Ref.TheVariants.{Null, One, At}
 use Rattle.sgb_graph.specs.declared.fields.Util.{Util}
@@ -15,14 +14,6 @@ use Rattle.sgb_file.specs.Checksum.{checksum_of_lines}
 -- a line has at most this many bytes
 abbrev pub most_file_line_bytes : ℕ
 most_file_line_bytes = 79
-
--- the letter of a kind
-abbrev pub letter_of : Kind → ℕ
-letter_of Z = slice_index (codes "Z") 0
-letter_of I = slice_index (codes "I") 0
-letter_of V = slice_index (codes "V") 0
-letter_of S = slice_index (codes "S") 0
-letter_of A = slice_index (codes "A") 0
 
 -- the text of a string: the bytes between quotes (34)
 abbrev pub quoted : List ℕ → List ℕ

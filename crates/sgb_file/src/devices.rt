@@ -5,7 +5,7 @@
 //! tell. What a sink holds back until a flush is known also of one that does not tell its bytes: so an answer without
 //! its flush is refused by the contract of a run, and a `Buffered` whose flush leaves the buffer as it is by that of
 //! the trait. What a failure means the caller says: nothing turns it into a fault.
-ghost use Rattle.std.specs.Prelude.{◌≡◌, ℕ, ◌<◌, ◌≤◌, Bool, true, List, [], Option, length, is_err, IfOk, OnOk};
+ghost use Rattle.std.specs.Prelude.{◌≡◌, ℕ, ◌<◌, Bool, true, List, [], Option, length, is_err, IfOk, OnOk};
 ghost use Rattle.std.specs.Io.{ReadsAtMost, WritesAtMost};
 ghost use Rattle.std.specs.Io.KnownBytes.{ReadConsumes, WriteAppends, Keeps};
 

@@ -1,14 +1,10 @@
-ghost use Rattle.std.specs.Prelude.{ℕ, List, ◌↔◌, ◌≡◌, ◌<◌, ◌≤◌, ◌++◌, ◌⊎◌, All, Result, Ok, Err, Some, length};
-ghost use Rattle.sgb_text.proofs.Findings.{Found};
+ghost use Rattle.std.specs.Prelude.{ℕ, List, ◌↔◌, ◌≡◌, ◌<◌, ◌≤◌, ◌++◌, All, Result, length};
 ghost use Rattle.sgb_vec.specs.declared.panics.Panic.{Panic};
-ghost use Rattle.sgb_vec.specs.declared.panics.Panic.TheVariants.{Early, Late, Syntax};
 ghost use Rattle.sgb_graph.specs.Graphs.{GraphData};
 ghost use Rattle.sgb_file.specs.Checksum.{IsOrder, checksum, running_checksum};
 ghost use Rattle.sgb_file.specs.FileLines.{text_of_lines};
 ghost use Rattle.sgb_file.specs.Files.{AreRecordsOf, IsFileOf, IsFirstLine};
-ghost use Rattle.sgb_file.specs.inner.ReadRecords.{records_at};
 ghost use Rattle.sgb_file.specs.Refused.{IsRestoredAs};
-ghost use Rattle.sgb_file.specs.inner.ReadFiles.{graph_of_text, head_of_line};
 ghost use Rattle.sgb_file.specs.Saved.{CanBeChecked, CanBeSaved};
 ghost use Rattle.sgb_file.specs.Saving.{breaks_of, most_file_line_bytes, part_from_break, record_lines, text_of_graph};
 

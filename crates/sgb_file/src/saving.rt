@@ -1,9 +1,10 @@
 //! The text of a graph as a `.gb` file, written to a sink (GB_SAVE, save_graph).
 ghost use Rattle.std.specs.Prelude.{◌≡◌, [], true, length, map, OnOk};
 ghost use Rattle.std.specs.List.{flat_map};
+ghost use Rattle.sgb_graph.specs.Kinds.{letter_of};
 ghost use Rattle.sgb_file.specs.Devices.{change, IsPut};
 ghost use Rattle.sgb_file.specs.inner.Layouts.{IsLaid, checksum_text, head_text, stage};
-ghost use Rattle.sgb_file.specs.Saving.{letter_of, middle_lines, text_of_graph};
+ghost use Rattle.sgb_file.specs.Saving.{middle_lines, text_of_graph};
 
 mod fields;
 mod layouts;
@@ -70,22 +71,9 @@ fn letters(kinds: &[Kind; 14]) -> [u8; 14]
 {
     let mut letters = [b'Z'; 14];
     for place in 0..14 {
-        letters[place] = letter(kinds[place]);
+        letters[place] = kinds[place].letter();
     }
     letters
-}
-
-// The letter of a kind.
-fn letter(kind: Kind) -> u8
-    ensures { result ≡ letter_of kind }
-{
-    match kind {
-        Kind::Z => b'Z',
-        Kind::I => b'I',
-        Kind::V => b'V',
-        Kind::S => b'S',
-        Kind::A => b'A',
-    }
 }
 
 // Writes the records, of the graph, of its vertices and of its arcs.

@@ -1,5 +1,5 @@
 -- Moves turned back: from where a move leads, the opposite displacement leads back through the same places.
-use Rattle.std.proofs.Common.{◌≡◌, ℕ, zero, suc, ◌+◌, ◌-◌, ◌*◌, ◌/◌, ◌<◌, ◌≤◌, ◌≢◌, ℤ, pos, negsuc, ◌+ℤ◌, ◌*ℤ◌, neg_ℤ, nat_abs, Bool, true, false, not, cond, ltb, List, [], ◌∷◌, map, Option, Some, refl, sym, ap, ap₂, subst, ◌∙◌, arith, true≢false, rules}
+use Rattle.std.proofs.Common.{◌≡◌, ◌↔◌, ℕ, zero, suc, ◌+◌, ◌-◌, ◌*◌, ◌/◌, ◌<◌, ◌≤◌, ◌≢◌, ℤ, pos, negsuc, ◌+ℤ◌, ◌*ℤ◌, neg_ℤ, nat_abs, Bool, true, false, not, cond, ltb, List, [], ◌∷◌, map, Option, Some, refl, sym, ap, ap₂, subst, ◌∙◌, arith, true≢false, rules}
 use Rattle.std.proofs.Math.IntN.{+ℤ_idr, zero-*ℤ, neg_ℤ-neg_ℤ}
 use Rattle.std.proofs.Math.Nat.{mod-eq_of_lt}
 use Rattle.std.specs.Cmp.Lexicographic.{bytes_decides}
@@ -8,7 +8,7 @@ use Rattle.std.proofs.lemmas.Bool.{cases_Bool, cases_lt, cond-true, cond-false, 
 use Rattle.std.proofs.lemmas.Int.{ints, int_rem_euclid_is}
 use Rattle.std.proofs.lemmas.Nat.{mul-le}
 use Rattle.sgb_vec.specs.Lexicographic.{IsBelow}
-use Rattle.sgb_gen.specs.Moves.{Side, within_size, coordinate_on, in_front, place, is_elsewhere, opposite, LeadsTo, MovesTurnBack}
+use Rattle.sgb_gen.specs.Moves.{Side, within_size, coordinate_on, in_front, place, is_elsewhere, opposite, LeadsTo}
 use Rattle.sgb_gen.specs.VectorGraphs.{same_vector}
 use Rattle.sgb_gen.proofs.Riders.{Contains-rider_reach}
 
@@ -155,7 +155,8 @@ turned_back sides (negsuc p) t x y l b h m =
     ((Contains-rider_reach sides x (opposite t) l b).1 (goes.0, rider_back sides y t l x h goes.1 m.1), home)
 
 -- and only such moves are turned into one
-pub moves_turned : MovesTurnBack
+pub moves_turned : (sides : List Side) (piece : ℤ) (t : List ℤ) (x y : List ℕ) (l : ℕ) → IsBelow x (map (λ s. s.size) sides) → IsBelow y (map (λ s. s.size) sides)
+    → LeadsTo sides piece y t l x ↔ LeadsTo sides piece x (opposite t) l y
 moves_turned sides piece t x y l b h = (
   turned_back sides piece t x y l b h,
   λ m. subst (λ u. LeadsTo sides piece y u l x) (opposite_twice t) (turned_back sides piece (opposite t) y x l h b m),

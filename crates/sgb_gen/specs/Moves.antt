@@ -1,9 +1,8 @@
 -- The moves of a piece on a board [GB_BASIC, board].
-use Rattle.std.specs.Prelude.{◌≡◌, ◌≤◌, ◌↔◌, ℕ, ◌+◌, ◌/◌, ◌%◌, ◌^◌, ◌==◌, ℤ, pos, negsuc, ◌+ℤ◌, ◌*ℤ◌, neg_ℤ, nat_abs, nat_lt, Bool, true, false, not, List, [], ◌∷◌, map, filter, filter_map, take_while, Option, Some, None, option_map, is_some, Contains, if◌then◌else◌}
+use Rattle.std.specs.Prelude.{◌≡◌, ℕ, ◌+◌, ◌/◌, ◌%◌, ◌^◌, ◌==◌, ℤ, pos, negsuc, ◌+ℤ◌, ◌*ℤ◌, neg_ℤ, nat_abs, nat_lt, Bool, false, not, List, [], ◌∷◌, map, filter, filter_map, take_while, Option, Some, None, option_map, is_some, Contains, if◌then◌else◌}
 use Rattle.std.specs.Int.{int_rem_euclid}
 use Rattle.std.specs.List.{flat_map, range_with_len}
 use Rattle.sgb_vec.specs.Boxes.{product_of}
-use Rattle.sgb_vec.specs.Lexicographic.{IsBelow}
 use Rattle.sgb_gen.specs.Displacements.{displacements}
 use Rattle.sgb_gen.specs.VectorGraphs.{Move, same_vector}
 
@@ -80,19 +79,6 @@ unfoldable pub board_moves : List Side → ℤ → List (List ℕ) → ℕ → L
 board_moves sides piece vectors dimensions =
     flat_map (λ t. flat_map (λ x. moves_from sides piece x t) vectors) (displacements (nat_abs piece) dimensions)
 
--- a rider from a place x of the board always stops, after as many steps as there are places at the latest; and
--- its lengths are those l from 1 on where at each length up to l the place exists and is not x
-pub record RidersStop : Type 0 where
-  pub stops : (sides : List Side) (x : List ℕ) (t : List ℤ) → IsBelow x (map (λ s. s.size) sides)
-      → is_elsewhere x (place sides x t (places_count sides)) ≡ false
-  pub lengths : (sides : List Side) (x : List ℕ) (t : List ℤ) (l : ℕ) → IsBelow x (map (λ s. s.size) sides)
-      → Contains (rider_reach sides x t) l ↔ (1 ≤ l) × ((k : ℕ) → 1 ≤ k → k ≤ l → is_elsewhere x (place sides x t k) ≡ true)
-
--- from a place of the board each move leads to a place of the board
-abbrev pub MovesStayOnBoard : Type 0
-MovesStayOnBoard = (sides : List Side) (x : List ℕ) (t : List ℤ) (l : ℕ) (y : List ℕ)
-    → IsBelow x (map (λ s. s.size) sides) → place sides x t l ≡ Some y → IsBelow y (map (λ s. s.size) sides)
-
 -- the displacement t with each step turned the other way
 abbrev pub opposite : List ℤ → List ℤ
 opposite t = map neg_ℤ t
@@ -100,10 +86,3 @@ opposite t = map neg_ℤ t
 -- a move of length l leads from x to y by t
 abbrev pub LeadsTo : List Side → ℤ → List ℕ → List ℤ → ℕ → List ℕ → Type 0
 LeadsTo sides piece x t l y = Contains (reach sides piece x t) l × (place sides x t l ≡ Some y)
-
--- for places x and y of the board: a move of length l leads from y to x by t exactly where one of that length leads
--- from x to y by the opposite of t
-abbrev pub MovesTurnBack : Type 0
-MovesTurnBack = (sides : List Side) (piece : ℤ) (t : List ℤ) (x y : List ℕ) (l : ℕ)
-    → IsBelow x (map (λ s. s.size) sides) → IsBelow y (map (λ s. s.size) sides)
-    → LeadsTo sides piece y t l x ↔ LeadsTo sides piece x (opposite t) l y

@@ -1,9 +1,8 @@
 -- The graphs of simplexes [GB_BASIC, simplex].
-use Rattle.std.specs.Prelude.{◌≡◌, ◌<◌, ℕ, ◌+◌, ◌-◌, nat_lt, ℤ, Bool, true, ◌&&◌, List, [], ◌∷◌, ◌++◌, length, map, filter, slice_index, slice_set, sum, Result, Ok, codes}
+use Rattle.std.specs.Prelude.{ℕ, ◌+◌, ◌-◌, nat_lt, ℤ, Bool, ◌&&◌, List, [], ◌∷◌, ◌++◌, length, map, filter, slice_index, slice_set, sum, Result, Ok, codes}
 use Rattle.std.specs.List.{flat_map, range_with_len}
 use Rattle.sgb_vec.specs.Results.{and_then}
 use Rattle.sgb_vec.specs.Bounds.{simplex_of}
-use Rattle.sgb_vec.specs.Lexicographic.{IsWithin}
 use Rattle.sgb_vec.specs.Sums.{BoundedSum, bounded_sums, sum_of}
 use Rattle.sgb_vec.specs.declared.panics.Panic.{Panic}
 use Rattle.sgb_graph.specs.Descriptions.{Description}
@@ -70,9 +69,3 @@ simplex_vector_graph s =
 -- the graph of simplex(n,n0,n1,n2,n3,n4,directed), or why it is refused
 abbrev pub simplex : SimplexParams → Result Description Panic
 simplex p = and_then (accepted_simplex p) (λ s. Ok (described_by (simplex_vector_graph s)))
-
--- a unit that goes to a higher place leaves the vector within its bounds, and its sum as it is
-abbrev pub ShiftsStayInSum : Type 0
-ShiftsStayInSum = (bounds v : List ℕ) (at : Places) → at.lower < at.higher → at.higher < length v
-    → can_move_unit bounds v at.lower at.higher ≡ true → IsWithin v bounds
-    → IsWithin (unit_moved v at.lower at.higher) bounds × (sum (unit_moved v at.lower at.higher) ≡ sum v)

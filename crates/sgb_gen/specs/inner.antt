@@ -1,5 +1,7 @@
 -- What only the private contracts and the proofs of sgb_gen speak of.
 
+-- laws, as their clauses say them
+pub mod Laws
 -- what accepted boards keep
 pub mod Boards
 -- the displacements within a board's bounds

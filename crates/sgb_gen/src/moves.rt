@@ -96,7 +96,7 @@ pub(crate) fn reach(sizes: &[u32], wrap: i64, x: &[u32], parts: &[Part], most: u
     reach
 }
 
-/// The same, where `near` tells that the steps of length 1 lead to a place: it is then not looked at once more.
+/// What `reach` answers, where `near` tells that the steps of length 1 lead to a place: it is then not looked at once more.
 pub(crate) fn reach_from(
     near: bool,
     sizes: &[u32],

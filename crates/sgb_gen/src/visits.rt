@@ -10,7 +10,6 @@ use crate::accepted::{BoardLists, Simplex, Subsets};
 use crate::listed::Listed;
 use crate::locals::Local;
 
-
 /// What is done with a generator's graph, whichever generator it is of. `S` is what it changes beside its answer.
 pub trait Visitor<S> {
     /// What comes of it.
@@ -23,7 +22,7 @@ pub trait Visitor<S> {
     ghost gives: { Self → VectorGraph → S → S → Self.Answer → Type 0 };
 }
 
-/// The same done with a graph by what a listing asks of it.
+/// A visitor that does it with a graph by what a listing asks of it.
 pub trait Visit<'a, L: Listed<'a>, S>: Visitor<S> {
     /// Does it. What the lists have in common is not made yet: where lists are made, `prepare` comes first.
     fn visit(self, listed: &mut L, state: &mut S) -> Self::Answer

@@ -15,8 +15,8 @@ use Rattle.sgb_graph.specs.declared.fields.Link.{Link}
 
 -- the graph of these parts
 abbrev pub graph_data : List ℕ → ℕ → List Kind → List Util → List Vertex → List ArcRec → GraphData
-graph_data text count fields own nodes arcs =
-    record { id = text; m = count; kinds = fields; util = own; vertices = nodes; records = arcs }
+graph_data id m kinds util vertices records =
+    record { id = id; m = m; kinds = kinds; util = util; vertices = vertices; records = records }
 
 -- parts that a graph keeps: they make up a graph, whose number of arcs leaves room for more
 pub record IsKept (g : GraphData) : Type 0 where

@@ -15,6 +15,8 @@ pub mod Graphs
 pub mod Vertices
 -- how a graph grows, step by step
 pub mod Growth
+-- the letters of kinds
+pub mod Kinds
 -- the texts that ids are made of
 pub mod IdTexts
 -- the ids of graphs

@@ -18,16 +18,16 @@ no_kinds = replicate 14 Z
 abbrev pub no_fields : List Util
 no_fields = replicate 6 Nothing
 
--- a graph with these events, names and id that uses no utility field
+-- a graph with these events, of arcs where directed, else of edges, and these names and id, that uses no utility field
 abbrev pub plain : Bool → List Event → List (List ℕ) → List ℕ → Description
-plain edges_or_arcs list texts text = record {
-  id = text;
-  directed = edges_or_arcs;
-  events = list;
+plain directed events names id = record {
+  id = id;
+  directed = directed;
+  events = events;
   kinds = no_kinds;
   util = no_fields;
-  names = texts;
-  fields = map (λ x. no_fields) texts;
+  names = names;
+  fields = map (λ x. no_fields) names;
 }
 
 -- the number of the first arc of a list

@@ -1,7 +1,7 @@
 //! The values of one utility field, of all vertices or of all arc records of a graph, kept by their kind.
 //!
 //! No value can stand where its kind forbids it, and the kinds of a graph are those of its columns.
-ghost use Rattle.std.specs.Prelude.{◌≡◌, ◌<◌, ◌+◌, ℕ, [], ◌∷◌, ◌++◌, length, slice_get, Some, OnOk};
+ghost use Rattle.std.specs.Prelude.{◌≡◌, ◌<◌, ◌+◌, ℕ, [], ◌∷◌, ◌++◌, slice_get, Some, OnOk};
 ghost use Rattle.std.specs.Bool.{OnTrue};
 ghost use Rattle.sgb_graph.specs.Columns.{util_seen};
 ghost use Rattle.std.specs.List.{list_all};

@@ -1,5 +1,6 @@
 ghost use Rattle.std.specs.Prelude.{◌≡◌};
 ghost use Rattle.sgb_graph.specs.Columns.{util_seen};
+ghost use Rattle.sgb_graph.specs.Kinds.{letter_of};
 ghost use Rattle.sgb_graph.specs.Parts.{vertex_with_ints};
 ghost use Rattle.sgb_graph.specs.inner.Columns.{util_kind};
 
@@ -18,6 +19,21 @@ pub enum Kind {
     S,
     /// An arc.
     A,
+}
+
+impl Kind {
+    /// The letter that stands for it in a file: Z, I, V, S or A (GB_GRAPH, util_types).
+    pub fn letter(self) -> u8
+        ensures { result ≡ letter_of self }
+    {
+        match self {
+            Kind::Z => b'Z',
+            Kind::I => b'I',
+            Kind::V => b'V',
+            Kind::S => b'S',
+            Kind::A => b'A',
+        }
+    }
 }
 
 /// A vertex, or one of the two values that stand for none.

@@ -1,5 +1,5 @@
 //! The arc records of a graph, in little memory: 24 bytes for one without utility fields.
-ghost use Rattle.std.specs.Prelude.{◌≡◌, ◌<◌, ◌+◌, ◌++◌, ◌^◌, ◌&&◌, ℕ, [], ◌∷◌, length, slice_get, All, Some, IfOk, IfSome, OnOk, OnErr};
+ghost use Rattle.std.specs.Prelude.{◌≡◌, ◌<◌, ◌+◌, ◌++◌, ◌^◌, ◌&&◌, ℕ, [], ◌∷◌, length, slice_get, Some, IfSome, OnOk, OnErr};
 ghost use Rattle.sgb_graph.specs.Columns.{arc_seen};
 ghost use Rattle.sgb_graph.specs.Sound.{util_fits};
 ghost use Rattle.sgb_graph.specs.inner.Columns.{column_kind, util_kind, values};

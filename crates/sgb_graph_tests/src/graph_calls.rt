@@ -12,6 +12,8 @@ mod graphs;
 mod ids;
 // jumps over many random numbers
 mod jumps;
+// what utility fields hold
+mod kinds;
 // names of vertices
 mod names;
 // the parts of a graph that a file brings

@@ -1,6 +1,6 @@
 -- The copies of the vertices, one vertex after another.
 use Rattle.std.proofs.Common.{◌≡◌, ◌<◌, ◌≤◌, ◌+◌, ◌-◌, ℕ, zero, suc, List, [], ◌∷◌, ◌++◌, length, take, false, refl, sym, ap, ◌∙◌, inl, inr, append-nil, arith}
-use Rattle.std.specs.Prelude.{◌⊎◌, Contains, Option, Some, None, filter, flat_map, nat_le, slice_get}
+use Rattle.std.specs.Prelude.{◌⊎◌, Contains, Option, Some, None, filter, flat_map, nat_le, slice_get, sum_by}
 use Rattle.std.specs.List.{list_any, range_with_len}
 use Rattle.std.specs.Option.{option_map_or}
 use Rattle.std.proofs.lemmas.Bool.{cases_lt, le-leb, lt-leb}
@@ -10,7 +10,7 @@ use Rattle.std.proofs.lemmas.List.{take_all}
 use Rattle.std.proofs.lemmas.List.Elements.{All-contains}
 use Rattle.sgb_vec.proofs.Lists.{range-within, filter-all, range-joined, range-more}
 use Rattle.sgb_ops.specs.declared.entries.Entry.{Entry}
-use Rattle.sgb_ops.specs.Copies.{CopiesAreAll, CopiesAreApart, own_copies}
+use Rattle.sgb_ops.specs.Copies.{own_copies}
 use Rattle.sgb_ops.specs.Entries.{copies_by, copies_of, first_copy, is_unnumbered, merged_count, merged_number, size_of_entry}
 use Rattle.sgb_ops.specs.inner.Entries.{own_total}
 use Rattle.sgb_ops.specs.declared.entries.Entry.TheVariants as entry
@@ -47,7 +47,8 @@ copies_before entries (suc v) numbered =
     ∙ (ap (λ ks. range_with_len k (own_total (take v entries)) ++ ks) (append-nil (own_copies entries v) ∙ own_range entries v numbered)
     ∙ (sym (range-joined k (own_total (take v entries)) (size_at entries v)) ∙ ap (range_with_len k) next)))))
 
-pub copies_are_all : CopiesAreAll
+pub copies_are_all : (entries : List Entry) → list_any is_unnumbered entries ≡ false
+    → flat_map (own_copies entries) (range_with_len 0 (length entries)) ≡ range_with_len (merged_count entries) (sum_by size_of_entry entries)
 copies_are_all entries numbered =
     copies_before entries (length entries) numbered ∙ ap (λ es. range_with_len (merged_count entries) (own_total es)) (take_all (length entries) entries (omega arith))
 
@@ -84,5 +85,7 @@ firsts_order entries v w less =
 merged_first : (entries : List Entry) (v w u : ℕ) → slice_get entries v ≡ Some (entry.Merged (u + 1)) → u < first_copy entries w
 merged_first entries v w u merged = omega (arith, number_below entries v (entry.Merged (u + 1)) merged)
 
-pub copies_are_apart : CopiesAreApart
+pub copies_are_apart : (entries : List Entry) (u v w : ℕ) → list_any is_unnumbered entries ≡ false
+    → Contains (copies_of entries v) u → Contains (copies_of entries w) u
+    → (v ≡ w) ⊎ ((slice_get entries v ≡ Some (entry.Merged (u + 1))) × (slice_get entries w ≡ Some (entry.Merged (u + 1))))
 copies_are_apart entries u v w numbered first second = grind (arith, copy_between entries v u numbered first, copy_between entries w u numbered second, cases_lt, firsts_order, merged_first)

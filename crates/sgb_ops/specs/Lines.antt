@@ -1,5 +1,5 @@
 -- The line graph: a vertex for each arc or edge [GB_BASIC, lines].
-use Rattle.std.specs.Prelude.{◌≡◌, ◌≢◌, pos, ◌+◌, ◌/◌, ◌==◌, Bool, true, false, not, ◌&&◌, ◌||◌, List, [], ◌∷◌, map, reverse, filter, flat_map, take, length, slice_get, codes, nat_lt, if◌then◌else◌, Result, Ok, Err}
+use Rattle.std.specs.Prelude.{pos, ◌+◌, ◌/◌, ◌==◌, Bool, true, false, not, ◌&&◌, ◌||◌, List, [], ◌∷◌, map, reverse, filter, flat_map, take, length, slice_get, codes, nat_lt, if◌then◌else◌, Result, Ok, Err}
 use Rattle.std.specs.List.{list_all, enumerate_from}
 use Rattle.std.specs.Option.{option_map_or}
 use Rattle.sgb_vec.specs.Limits.{most_vertices}
@@ -7,7 +7,7 @@ use Rattle.sgb_vec.specs.Results.{and_then}
 use Rattle.sgb_vec.specs.declared.panics.Panic.{Panic}
 use Rattle.sgb_vec.specs.declared.panics.Panic.TheVariants.{VeryBad, Invalid}
 use Rattle.sgb_graph.specs.Graphs.{GraphData}
-use Rattle.sgb_graph.specs.Events.{Event, HasArcsOf}
+use Rattle.sgb_graph.specs.Events.{Event}
 use Rattle.sgb_graph.specs.Ids.{compound_id}
 use Rattle.sgb_graph.specs.declared.fields.Ref.TheVariants.{Null, One, At}
 use Rattle.sgb_graph.specs.Descriptions.{Description}
@@ -56,9 +56,3 @@ line_graph_of g directed = and_then (accepted_lines g directed (lines_of_graph g
     Ok (plain directed (line_events directed lines)
     (map (λ line. line_name directed (name_at g line.from) (name_at g line.to)) lines)
     (compound_id (codes "lines(") g.id (closing (flag_text directed ∷ [])))))
-
--- the lines of a graph of edges, and so its line graph, are not refused for its edges: each line has its way back, and
--- they are as many as the edges
-abbrev pub LinesTakesEdges : Type 0
-LinesTakesEdges = (events : List Event) (g : GraphData) → HasArcsOf false events g
-    → (is_of_edges g (lines_of_graph g false) ≡ true) × (line_graph_of g false ≢ Err Invalid)

@@ -1,5 +1,5 @@
 -- Events with the same two ends made into one [GB_BASIC, gunion, induced].
-use Rattle.std.specs.Prelude.{◌≡◌, ◌==◌, ◌≤ℤ◌, ℕ, All, AllPairs, Bool, true, false, not, ◌&&◌, ◌||◌, List, [], ◌∷◌, map, filter, flat_map, take, Contains, if◌then◌else◌}
+use Rattle.std.specs.Prelude.{◌≡◌, ◌==◌, ◌≤ℤ◌, ℕ, All, Bool, true, false, not, ◌&&◌, ◌||◌, List, [], ◌∷◌, map, filter, flat_map, take, Contains, if◌then◌else◌}
 use Rattle.std.specs.List.{list_any, enumerate_from}
 use Rattle.sgb_graph.specs.Events.{Event}
 use Rattle.sgb_ops.specs.Lengths.{least_of}
@@ -20,10 +20,6 @@ merged directed (e ∷ events) =
 abbrev pub merged_unless : Bool → Bool → List Event → List Event
 merged_unless multi directed events = elim multi [ true ↦ events | false ↦ merged directed events ]
 
--- no two events that are left have the same ends
-abbrev pub MergedAreApart : Type 0
-MergedAreApart = (directed : Bool) (events : List Event) → AllPairs (λ e f. has_ends_of directed e f ≡ false) (merged directed events)
-
 -- the two ends of an event, as it names them
 abbrev pub named_ends : Event → ℕ × ℕ
 named_ends e = (e.from, e.to)
@@ -37,16 +33,3 @@ first_ones directed events =
 pub record IsShortest (directed : Bool) (events : List Event) (e : Event) : Type 0 where
   pub one : (f : Event) × Contains events f × (has_ends_of directed e f ≡ true) × (f.len ≡ e.len)
   pub least : All (λ f. has_ends_of directed e f ≡ true → e.len ≤ℤ f.len) events
-
--- the ends that are left are those of the first ones, in their order
-abbrev pub MergedAreTheFirst : Type 0
-MergedAreTheFirst = (directed : Bool) (events : List Event) → map named_ends (merged directed events) ≡ map named_ends (first_ones directed events)
-
--- each event that is left is as short as the shortest with its ends
-abbrev pub MergedAreShortest : Type 0
-MergedAreShortest = (directed : Bool) (events : List Event) → All (IsShortest directed events) (merged directed events)
-
--- each event has its ends in one that is left
-abbrev pub MergedHasEachPair : Type 0
-MergedHasEachPair = (directed : Bool) (events : List Event) (e : Event) → Contains events e
-    → (f : Event) × Contains (merged directed events) f × (has_ends_of directed e f ≡ true)

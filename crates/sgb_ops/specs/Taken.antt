@@ -1,9 +1,9 @@
 -- The arcs that are taken of a vertex's list, so that each edge of an undirected graph is met once
 -- [GB_BASIC, gunion, intersection, lines, product, induced].
-use Rattle.std.specs.Prelude.{◌≡◌, ℕ, ◌+◌, ◌*◌, ◌<◌, ◌≤◌, ◌==◌, min, max, All, Bool, true, false, ◌&&◌, List, [], ◌∷◌, length, map, filter, reverse, nat_lt, if◌then◌else◌}
+use Rattle.std.specs.Prelude.{ℕ, ◌+◌, ◌*◌, ◌==◌, min, max, Bool, true, false, ◌&&◌, List, [], ◌∷◌, filter, nat_lt, if◌then◌else◌}
 use Rattle.std.specs.List.{enumerate_from}
 use Rattle.sgb_graph.specs.Graphs.{GraphData, chain_of}
-use Rattle.sgb_graph.specs.Events.{Event, HasArcsOf}
+use Rattle.sgb_graph.specs.Events.{Event}
 use Rattle.sgb_graph.specs.declared.fields.Link.{Link}
 
 -- of the list of v, the arcs whose tip is at least v; the record that follows a loop is left out where it has the next
@@ -20,10 +20,6 @@ abbrev pub taken : Bool → GraphData → ℕ → List Link
 taken true g v = chain_of g v
 taken false g v = each_edge_once v (chain_of g v)
 
--- an arc that is taken of v for an undirected result leads to no vertex before v
-abbrev pub TakenLeadUp : Type 0
-TakenLeadUp = (g : GraphData) (v : ℕ) → All (λ l. v ≤ l.tip) (taken false g v)
-
 -- the edges whose smaller end is v, each with its place among all
 abbrev pub edges_up_from : ℕ → List Event → List (ℕ × Event)
 edges_up_from v events = filter (λ p. min p.1.from p.1.to == v) (enumerate_from 0 events)
@@ -31,9 +27,3 @@ edges_up_from v events = filter (λ p. min p.1.from p.1.to == v) (enumerate_from
 -- the lower record of the edge at this place: the two of it have the numbers 2 k and 2 k + 1
 abbrev pub lower_record : ℕ × Event → Link
 lower_record p = record { number = 2 * p.0; tip = max p.1.from p.1.to; len = p.1.len }
-
--- in a graph of edges the arcs taken of v for an undirected result are, of each edge with the smaller end v, its
--- lower record, once; later edges come first
-abbrev pub TakenAreLowerRecords : Type 0
-TakenAreLowerRecords = (events : List Event) (g : GraphData) (v : ℕ) → HasArcsOf false events g → v < length g.vertices
-    → taken false g v ≡ reverse (map lower_record (edges_up_from v events))

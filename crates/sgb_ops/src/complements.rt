@@ -1,5 +1,5 @@
 //! The complement of a graph, or a copy of it without parallel arcs (GB_BASIC, complement).
-ghost use Rattle.std.specs.Prelude.{◌≡◌, ◌<◌, ◌+◌, ◌==◌, [], ◌∷◌, ℕ, pos, length, slice_index, map, filter, OnOk, IsOkUnless, if◌then◌else◌};
+ghost use Rattle.std.specs.Prelude.{◌≡◌, ◌<◌, ◌+◌, ◌==◌, [], ◌∷◌, ℕ, pos, length, slice_index, OnOk, IsOkUnless, if◌then◌else◌};
 ghost use Rattle.sgb_graph.specs.Descriptions.{IsAnswerOf};
 ghost use Rattle.sgb_graph.specs.Growth.{AddsEvents, HasPlainArcs};
 ghost use Rattle.sgb_ops.specs.Complement.{complement_events, complement_of, has_arc};

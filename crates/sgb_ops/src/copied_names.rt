@@ -1,7 +1,6 @@
 //! The names of the vertices that stand in the places of others (GB_BASIC, induced).
-ghost use Rattle.std.specs.Prelude.{◌≡◌, ◌<◌, ◌≤◌, ◌++◌, [], ◌∷◌, length, map, OnOk, IfOk, IsOkUnless};
+ghost use Rattle.std.specs.Prelude.{◌≡◌, ◌<◌, ◌++◌, [], ◌∷◌, length, map, OnOk, IfOk, IsOkUnless};
 ghost use Rattle.std.specs.List.{range_with_len};
-ghost use Rattle.sgb_vec.specs.Limits.{most_vertices};
 ghost use Rattle.sgb_ops.specs.declared.entries.Entry.TheVariants as entry;
 ghost use Rattle.sgb_ops.specs.Entries.{merged_count, names_by_entries, names_of_copies};
 ghost use Rattle.sgb_graph.specs.Vertices.{names_of};

@@ -187,7 +187,7 @@ impl Place {
 pub(crate) struct Copies {
     places: Vec<Place>,
     // Where the copies of each vertex begin that stand for it alone, and after them how many there are in all.
-    firsts: Vec<u32>,
+    own_starts: Vec<u32>,
 }
 
 impl Model for Copies {
@@ -201,7 +201,7 @@ impl Model for Copies {
 
     ghost view = { λ c. c.places.items };
 
-    ghost invariant = { λ c. (c.firsts.items ≡ first_copies c.places.items)
+    ghost invariant = { λ c. (c.own_starts.items ≡ first_copies c.places.items)
         × (total_of c.places.items ≤ most_vertices) };
 }
 
@@ -217,16 +217,16 @@ impl Copies {
         ensures memory { IsOkUnless result Panic.NoRoom }
     {
         let places = places_of(alloc, entries)?;
-        let firsts = first_copies(alloc, merged, &places)?;
-        Ok(Copies { places, firsts })
+        let own_starts = first_copies(alloc, merged, &places)?;
+        Ok(Copies { places, own_starts })
     }
 
     /// Where the copies of vertex `v` begin that stand for it alone.
-    pub(crate) fn first(&self, v: u32) -> u32
+    pub(crate) fn own_start(&self, v: u32) -> u32
         requires { v < length self.now }
         ensures value { result ≡ first_copy self.now v }
     {
-        self.firsts[v as usize]
+        self.own_starts[v as usize]
     }
 
     /// The first of all copies of vertex `v`, its own or the merged one. They end before `end(v)`.
@@ -236,7 +236,7 @@ impl Copies {
     {
         match self.places[v as usize].merged() {
             Some(number) => number.saturating_sub(1),
-            None => self.firsts[v as usize],
+            None => self.own_starts[v as usize],
         }
     }
 
@@ -247,7 +247,7 @@ impl Copies {
     {
         match self.places[v as usize].merged() {
             Some(number) => number.saturating_sub(1) + 1,
-            None => self.firsts[v as usize + 1],
+            None => self.own_starts[v as usize + 1],
         }
     }
 }

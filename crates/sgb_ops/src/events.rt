@@ -1,5 +1,5 @@
 //! The events of which the graph of an operation is made (GB_GRAPH, gb_new_arc and gb_new_edge).
-ghost use Rattle.std.specs.Prelude.{◌≡◌, ◌≤◌, ◌<◌, ◌==◌, ◌+◌, ◌^◌, length, All, OnOk, IfOk, IsOkUnless};
+ghost use Rattle.std.specs.Prelude.{◌≡◌, ◌≤◌, ◌<◌, ◌==◌, ◌+◌, ◌^◌, length, OnOk, IfOk, IsOkUnless};
 ghost use Rattle.sgb_vec.specs.Limits.{most_vertices};
 ghost use Rattle.sgb_graph.specs.Descriptions.{IsGraphOf};
 ghost use Rattle.sgb_graph.specs.Growth.{AddsEvents, HasPlainArcs};

@@ -1,5 +1,5 @@
 //! The events of an induced graph (GB_BASIC, induced).
-ghost use Rattle.std.specs.Prelude.{◌≡◌, ◌<◌, ◌≤◌, ◌+◌, ◌++◌, ◌==◌, [], ◌∷◌, length, map, filter, flat_map, nat_lt, All, OnOk, IfOk, IsOkUnless, if◌then◌else◌};
+ghost use Rattle.std.specs.Prelude.{◌≡◌, ◌<◌, ◌≤◌, ◌+◌, ◌++◌, [], ◌∷◌, length, map, filter, flat_map, All, OnOk, IfOk, IsOkUnless, if◌then◌else◌};
 ghost use Rattle.sgb_vec.specs.Limits.{most_vertices};
 ghost use Rattle.sgb_ops.specs.declared.entries.Entry.TheVariants as entry;
 ghost use Rattle.sgb_ops.specs.inner.Copies.{leads_to_copies, sized};
@@ -44,7 +44,12 @@ pub(crate) fn events_within(
 {
     let mut events = Vec::new(alloc);
     for v in 0..n {
-        push_inner_events(&mut events, &entries[v as usize], copies.first(v), flags)?;
+        push_inner_events(
+            &mut events,
+            &entries[v as usize],
+            copies.own_start(v),
+            flags,
+        )?;
     }
     Ok(events)
 }

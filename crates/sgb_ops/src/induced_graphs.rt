@@ -65,8 +65,8 @@ pub fn induced(
     finished(alloc, graph, begun, flags)
 }
 
-/// The same graph of entries that are given up: the graphs that they put in are dropped as soon as their names and the
-/// events inside them are taken. It has the errors of `induced`.
+/// The graph that `induced` gives, of entries that are given up: the graphs that they put in are dropped as soon as their
+/// names and the events inside them are taken. It has the errors of `induced`.
 pub fn induced_from(
     alloc: Global,
     graph: &Graph,
@@ -134,7 +134,7 @@ fn begun_by(
     })
 }
 
-// The same where parts have no ends in common: the events inside the graphs that are put in are added.
+// What is begun by entries whose parts have no ends in common: the events inside the graphs that are put in are added.
 fn begun_in_parts(
     alloc: Global,
     n: u32,

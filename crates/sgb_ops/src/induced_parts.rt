@@ -2,14 +2,14 @@
 //!
 //! So no list of all events is made. It is possible where no vertices are merged and no vertex with a graph in its
 //! place has a loop; else all are merged at once (`induced_graphs`).
-ghost use Rattle.std.specs.Prelude.{◌≡◌, ◌<◌, ◌≤◌, ◌+◌, ◌++◌, ◌==◌, false, length, map, flat_map, filter, All, OnOk, IfOk, IsOkUnless};
+ghost use Rattle.std.specs.Prelude.{◌≡◌, ◌<◌, ◌≤◌, ◌+◌, ◌==◌, false, length, map, flat_map, All, OnOk, IfOk, IsOkUnless};
 ghost use Rattle.std.specs.Bool.{OnTrue};
 ghost use Rattle.std.specs.List.{list_any};
 ghost use Rattle.sgb_vec.specs.Limits.{most_vertices};
 ghost use Rattle.sgb_graph.specs.Growth.{AddsEvents, HasPlainArcs, IsKept};
 ghost use Rattle.sgb_ops.specs.declared.entries.Entry.TheVariants as entry;
 ghost use Rattle.sgb_ops.specs.Entries.{events_within, inner_events, is_unnumbered, merged_count, size_of_entry};
-ghost use Rattle.sgb_ops.specs.Induced.{events_between, induced_events};
+ghost use Rattle.sgb_ops.specs.Induced.{events_between};
 ghost use Rattle.sgb_ops.specs.Merged.{merged_unless};
 ghost use Rattle.sgb_ops.specs.Taken.{taken};
 ghost use Rattle.sgb_ops.specs.inner.Copies.{IsKeptEntry, sized};
@@ -98,7 +98,7 @@ pub(crate) fn add_events_within(
     ensures memory { IsOkUnless result Panic.NoRoom }
 {
     for v in 0..n {
-        let start = copies.first(v);
+        let start = copies.own_start(v);
         add_inner_events(built, alloc, &entries[v as usize], start, flags)?;
     }
     Ok(())

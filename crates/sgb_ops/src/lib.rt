@@ -1,45 +1,45 @@
 //! The operations of GB_BASIC that make graphs from graphs.
 #![tactic(auto)]
 
-// complete bipartite graphs
+// Complete bipartite graphs.
 mod bipartite_graphs;
-// the graphs of boards that operations start from
+// The graphs of boards that operations start from.
 mod boards;
-// complement
+// The complement of a graph.
 mod complements;
-// the names of the copies of vertices
+// The names of the copies of vertices.
 mod copied_names;
-// the entries of an induced graph, and where the copies of each vertex are
+// The entries of an induced graph, and where the copies of each vertex are.
 mod entries;
-// the events of which a graph is made
+// The events of which a graph is made.
 mod events;
-// gunion
+// The union of two graphs.
 mod gunions;
-// the events of an induced graph
+// The events of an induced graph.
 mod induced_events;
-// induced
+// The graph that entries induce.
 mod induced_graphs;
-// the events of an induced graph, merged and added part by part
+// The events of an induced graph, merged and added part by part.
 mod induced_parts;
-// intersection
+// The intersection of two graphs.
 mod intersections;
-// laws of the definitions
+// Laws of the definitions.
 mod laws;
-// lines
+// The line graph of a graph.
 mod line_graphs;
-// parallel arcs and edges made one
+// Parallel arcs and edges made one.
 mod merged;
-// copies of names
+// Copies of names.
 mod operands;
-// product
+// The product of two graphs.
 mod products;
-// the arcs taken of a vertex, each edge once
+// The arcs taken of a vertex, each edge once.
 mod taken;
-// how many arcs lead to each vertex, and the least length
+// How many arcs lead to each vertex, and the least length.
 mod tallies;
-// ids and names made of others
+// Ids and names made of others.
 mod titles;
-// wheel
+// Wheels.
 mod wheels;
 
 pub use bipartite_graphs::bi_complete;

@@ -1,8 +1,8 @@
 //! How many arcs lead to each vertex, and the least of their lengths.
-ghost use Rattle.std.specs.Prelude.{◌≡◌, ◌<◌, ◌+◌, ◌^◌, ℕ, nat_eq, Some, OnOk, IfOk, IsOkUnless, if◌then◌else◌};
+ghost use Rattle.std.specs.Prelude.{◌≡◌, ◌<◌, ◌+◌, ◌^◌, ℕ, nat_eq, Some, IfOk, IsOkUnless};
 ghost use Rattle.std.specs.Option.{option_map_or};
 ghost use Rattle.indexmap.specs.IndexMap.{get};
-ghost use Rattle.sgb_ops.specs.inner.Tallies.{one_more, tally_to, without_one};
+ghost use Rattle.sgb_ops.specs.inner.Tallies.{one_more, tally_to};
 
 use indexmap::IndexMap;
 use sgb_graph::Link;

@@ -97,7 +97,8 @@ pub(crate) type Block = (u32, &'static str, &'static [(u32, i64)]);
 pub(crate) enum Expected {
     /// A graph with this id, so many vertices and arcs, and the lists of some vertices.
     Graph(&'static str, u32, u64, &'static [Block]),
-    /// The same, where the coordinates of the vertices are kept as numbers.
+    /// A graph with this id, so many vertices and arcs, and the lists of some vertices, that keeps the coordinates of its
+    /// vertices as numbers.
     Generated(&'static str, u32, u64, &'static [Block]),
     /// A graph of so many arcs.
     Arcs(u64),

@@ -81,7 +81,7 @@ fn induced_by(
     induced(alloc, graph, &entries, self_loops, multi, directed)
 }
 
-// The same of entries that are handed over.
+// The induced graph, of entries that are handed over.
 fn induced_from_all(
     alloc: Global,
     graph: &Graph,

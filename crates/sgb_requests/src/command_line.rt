@@ -1,5 +1,5 @@
 //! The request that a command line makes.
-ghost use Rattle.std.specs.Prelude.{◌≡◌, MatchOption, MatchResult, ℕ, map};
+ghost use Rattle.std.specs.Prelude.{MatchOption, MatchResult, ℕ, map};
 ghost use Rattle.std.specs.String.{string_bytes};
 ghost use Rattle.sgb_requests.specs.inner.CommandLine.{bytes_of};
 ghost use Rattle.sgb_text.specs.Numbers.{IsNumber};

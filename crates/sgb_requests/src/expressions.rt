@@ -1,5 +1,5 @@
 //! Expressions and flips read for a request.
-ghost use Rattle.std.specs.Prelude.{◌≡◌, Err, IfOk, List, ℕ};
+ghost use Rattle.std.specs.Prelude.{◌≡◌, Err, IfOk};
 ghost use Rattle.sgb_expr.specs.Expression.{Expression, expression_of};
 ghost use Rattle.sgb_expr.specs.Expressions.{IsExpression, IsTooLarge};
 ghost use Rattle.sgb_expr.specs.FlipTexts.{IsFlip};

@@ -9,6 +9,18 @@ use sgb_file::{Failed, Sink, put_all};
 use sgb_vec::Panic;
 use thiserror::Error;
 
+// How the program is called, and what comes after that.
+macro_rules! usage {
+    ($end:literal) => {
+        concat!(
+            "usage: sgb (names|list) EXPR [--after NAME|--skip K], sgb save EXPR, sgb queen, sgb flip EXPR",
+            $end,
+        )
+    };
+}
+
+const USAGE: &str = usage!("");
+
 // A line with a number in it has at most this many bytes.
 const MOST_BYTES: usize = 64;
 
@@ -16,7 +28,7 @@ const MOST_BYTES: usize = 64;
 #[derive(Clone, Copy, Debug, PartialEq, Eq, Error)]
 pub enum Fault {
     /// The words are an invalid command line.
-    #[error("usage: sgb (names|list) EXPR [--after NAME|--skip K], sgb save EXPR, sgb queen, sgb flip EXPR")]
+    #[error("{USAGE}")]
     Usage,
     /// The expression is too large to be read.
     #[error("sgb: expression too large")]
@@ -78,10 +90,7 @@ fn put_line<E: Sink>(fault: &Fault, errors: &mut E) -> Result<(), Failed>
         result }
 {
     match fault {
-        Fault::Usage => put_all(
-            errors,
-            b"usage: sgb (names|list) EXPR [--after NAME|--skip K], sgb save EXPR, sgb queen, sgb flip EXPR\n",
-        ),
+        Fault::Usage => put_all(errors, usage!("\n").as_bytes()),
         Fault::TooLarge => put_all(errors, b"sgb: expression too large\n"),
         Fault::Expr(k) => put_number(b"sgb: bad expression at byte ", *k, b"\n", errors),
         Fault::Panic(panic) => {

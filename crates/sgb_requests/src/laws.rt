@@ -29,7 +29,8 @@ pub fn plain_words_law()
     ensures queen { (program : List ℕ) (result : Result Request Fault)
         → IsCommandLineReadAs (program ∷ codes "queen" ∷ []) result ↔ IsQueenRead result }
     ensures flip { (program text : List ℕ) (result : Result Request Fault) → IsPlain text
-        → IsCommandLineReadAs (program ∷ codes "flip" ∷ text ∷ []) result ↔ IsFlipReadBy text result }
+        → IsCommandLineReadAs (program ∷ codes "flip" ∷ text ∷ []) result
+        ↔ IsFlipReadBy text result }
     ensures expression { (text : List ℕ) (e : Expr) → IsReadAs text (Ok e) → IsPlain text }
     ensures flip_text { (text : List ℕ) (p : FlipParams) → IsFlipReadAs text (Ok p) → IsPlain text }
 {}

@@ -9,6 +9,7 @@ use Rattle.sgb_graph.specs.Graphs.{GraphData}
 use Rattle.sgb_graph.specs.Sound.{is_sound}
 use Rattle.sgb_graph.specs.declared.fields.Kind.{Kind}
 use Rattle.sgb_graph.specs.declared.fields.Kind.TheVariants.{Z, I, V, S, A}
+use Rattle.sgb_graph.specs.Kinds.{letter_of}
 use Rattle.sgb_file.specs.FileLines.{clean_lines, text_of_lines}
 use Rattle.sgb_file.specs.inner.LinesLeft.{lines_of_text}
 use Rattle.sgb_file.specs.Checksum.{has_star, checksum_of_lines}
@@ -16,7 +17,6 @@ use Rattle.sgb_file.specs.Fields.{most_number_digits}
 use Rattle.sgb_file.specs.inner.FieldValues.{is_decimal_digit, number_of}
 use Rattle.sgb_file.specs.inner.Heads.{Head}
 use Rattle.sgb_file.specs.inner.ReadRecords.{records_at}
-use Rattle.sgb_file.specs.Saving.{letter_of}
 
 -- the kind whose letter it is
 abbrev pub kind_of_letter : ℕ → Option Kind

@@ -5,8 +5,9 @@ use Rattle.std.specs.Fmt.{signed_decimal}
 use Rattle.sgb_graph.specs.Graphs.{GraphData}
 use Rattle.sgb_graph.specs.declared.fields.Vertex.{Vertex}
 use Rattle.sgb_graph.specs.declared.fields.ArcRec.{ArcRec}
+use Rattle.sgb_graph.specs.Kinds.{letter_of}
 use Rattle.sgb_file.specs.Checksum.{checksum_of_lines}
-use Rattle.sgb_file.specs.Saving.{breaks_of, field_texts, letter_of, middle_lines, most_file_line_bytes, part_from_break, quoted, record_number_text, ref_text}
+use Rattle.sgb_file.specs.Saving.{breaks_of, field_texts, middle_lines, most_file_line_bytes, part_from_break, quoted, record_number_text, ref_text}
 
 -- the texts of the graph's record, of a vertex's and of an arc's
 abbrev pub graph_texts : GraphData → List (List ℕ)

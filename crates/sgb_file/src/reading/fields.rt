@@ -1,7 +1,6 @@
 //! The fields of a record (GB_SAVE, fill_field).
-ghost use Rattle.std.specs.Prelude.{◌≡◌, ◌==◌, ◌<◌, ◌^◌, drop, length, IfOk};
-ghost use Rattle.std.specs.List.{before_first, position};
-ghost use Rattle.sgb_file.specs.inner.ReadFields.{field_at, plain_at, plain_text};
+ghost use Rattle.std.specs.Prelude.{◌≡◌, ◌<◌, ◌^◌, IfOk};
+ghost use Rattle.sgb_file.specs.inner.ReadFields.{field_at, plain_at};
 ghost use Rattle.sgb_file.specs.Fields.{most_number_digits};
 ghost use Rattle.sgb_file.specs.inner.FieldValues.{integer_of, number_of, record_number_of, ref_of};
 ghost use Rattle.sgb_file.specs.inner.Found.{IsFoundBy, is_used, next_at, next_field_at};

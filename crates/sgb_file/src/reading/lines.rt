@@ -108,7 +108,8 @@ impl<'a> Lines<'a> {
         *self = Lines::begin(self.all, self.rest, sum);
     }
 
-    // The same where nothing of the line was passed over yet, and this is the checksum after it.
+    // Ends the line under way, of which nothing was passed over yet, and begins the next one; this is the checksum after
+    // that line.
     #[inline(always)]
     pub(super) fn next_line_with(&mut self, sum: u32)
         requires { (line : List ℕ) × IsWhole self.old line

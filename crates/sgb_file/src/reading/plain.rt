@@ -41,7 +41,8 @@ pub(super) fn integer_before_comma(line: &[u8]) -> Option<(i64, usize)>
     }
 }
 
-// The same of an integer of at most 18 digits, with the value of a checksum after these bytes. None says nothing of them.
+// The integer of at most 18 digits that the bytes before the first comma write, how many they are, and the value of a
+// checksum after them. None says nothing of them.
 #[inline(always)]
 pub(super) fn counted_integer(text: &[u8], value: u64) -> Option<(i64, usize, u64)>
     ensures { IfSome result (λ x. IsCountedField integer_of text.now value x.0 x.1 x.2) }
@@ -63,7 +64,8 @@ fn minus(number: u64) -> i64
     -(number as i64)
 }
 
-// The same of any integer, with a `-` or with more than 18 digits too.
+// The integer of 64 bits that the bytes before the first comma write, with a `-` or with more than 18 digits too, and
+// how many they are.
 #[inline(never)]
 fn other_integer_before_comma(line: &[u8]) -> Option<(i64, usize)>
     ensures value { option_map (λ x. x.0) result ≡ integer_of
@@ -90,7 +92,8 @@ pub(super) fn ref_before_comma(counts: &Counts, line: &[u8]) -> Option<(Ref, usi
     Some((vertex, text.len()))
 }
 
-// The same of a vertex by its number, with the value of a checksum after these bytes. None says nothing of them.
+// The vertex whose number the bytes before the first comma write, how many they are, and the value of a checksum after
+// them. None says nothing of them.
 #[inline(always)]
 pub(super) fn counted_ref(counts: &Counts, line: &[u8], value: u64) -> Option<(Ref, usize, u64)>
     ensures { IfSome result (λ x. IsCountedField (ref_of counts.now.vertices) line.now value
@@ -120,7 +123,8 @@ pub(super) fn record_number_before_comma(
     Some((first, text.len()))
 }
 
-// The same with the value of a checksum after these bytes. None says nothing of them.
+// The arc record that the bytes before the first comma stand for, or none, how many they are, and the value of a
+// checksum after them. None says nothing of them.
 #[inline(always)]
 pub(super) fn counted_record_number(
     counts: &Counts,
@@ -170,7 +174,8 @@ pub(super) fn number_before_comma(text: &[u8]) -> Option<(u64, usize)>
     Some((number, len))
 }
 
-// The same with the value of a checksum after these bytes: all in one pass.
+// The number of 1 to 18 digits that the bytes before the first comma write, how many they are, and the value of a
+// checksum after them: all in one pass.
 #[inline(always)]
 fn counted_number(text: &[u8], value: u64) -> Option<(u64, usize, u64)>
     ensures value { option_map (λ x. x.0) result ≡ number_of most_number_digits

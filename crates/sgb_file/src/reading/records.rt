@@ -111,7 +111,8 @@ fn is_integer(kind: Kind) -> bool
     matches!(kind, Kind::I)
 }
 
-// The same of any vertex, field by field. The fields are taken by a `match`: a `?` would move the six of them once more.
+// Reads any vertex, field by field, and adds it to the parts. The fields are taken by a `match`: a `?` would move the six
+// of them once more.
 #[inline(never)]
 fn read_any_vertex(
     alloc: Global,
@@ -189,7 +190,7 @@ fn are_arcs_plain(head: &Head) -> bool
     !is_used(head.kinds[6]) && !is_used(head.kinds[7])
 }
 
-// The same of any arc record, field by field.
+// Reads any arc record, field by field, and adds it to the parts.
 #[inline(never)]
 fn read_any_arc(
     alloc: Global,

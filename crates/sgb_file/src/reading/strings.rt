@@ -1,5 +1,5 @@
 //! The strings of a `.gb` file, which may be broken at the ends of lines (GB_SAVE, fill_field).
-ghost use Rattle.std.specs.Prelude.{◌≡◌, ◌==◌, ◌≤◌, ◌<◌, ◌++◌, [], length, IfOk, IfErr, OnOk};
+ghost use Rattle.std.specs.Prelude.{◌≡◌, ◌==◌, ◌<◌, ◌++◌, [], length, IfOk, IfErr, OnOk};
 ghost use Rattle.std.specs.List.{position};
 ghost use Rattle.sgb_vec.specs.Limits.{most_bytes};
 ghost use Rattle.sgb_graph.specs.Ids.{most_id_bytes};
@@ -63,7 +63,7 @@ fn broken_text(alloc: Global, first: &[u8], lines: &mut Lines<'_>) -> Result<Tex
     Text::new(alloc, bytes.as_slice())
 }
 
-// The same of an id.
+// An id of several parts, of which the first one was taken.
 fn broken_id(first: &[u8], lines: &mut Lines<'_>) -> Result<Id, Panic>
     ensures found { IsFoundBy (string_from most_id_bytes first.now (text_left lines.old)) result
         (text_left lines.new) }

@@ -4,9 +4,9 @@ use Rattle.std.proofs.Common.{arith, subst}
 use Rattle.std.proofs.lemmas.Bool.Decides.{nat_tests}
 use Rattle.sgb_vec.specs.Boxes.{box}
 use Rattle.sgb_vec.specs.Lexicographic.{IsBelow, IsWithin}
-use Rattle.sgb_gen.specs.Displacements.{DisplacementsHaveTheirNorm, displacements, vectors_of_norm}
-use Rattle.sgb_gen.specs.Moves.{MovesStayOnBoard, RidersStop, Side, is_elsewhere, place, rider_reach, sides_of}
-use Rattle.sgb_gen.specs.Simplexes.{ShiftsStayInSum}
+use Rattle.sgb_gen.specs.Displacements.{displacements, vectors_of_norm}
+use Rattle.sgb_gen.specs.Moves.{Side, is_elsewhere, place, rider_reach, sides_of}
+use Rattle.sgb_gen.specs.inner.Laws.{DisplacementsHaveTheirNorm, MovesStayOnBoard, RidersStop, ShiftsStayInSum}
 
 -- the last displacement of a piece of 5 in two dimensions, (2,-1), has the squares 4 and 1
 pub norm_of_last : DisplacementsHaveTheirNorm → sum_by (λ x. nat_abs x * nat_abs x) (pos 2 ∷ negsuc 0 ∷ []) ≡ 5

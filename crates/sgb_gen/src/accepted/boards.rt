@@ -160,7 +160,8 @@ impl Board {
 
     // How many arc records the board's graph has. `NoRoom` where no memory holds so many, and nothing else.
     fn records_count(&self) -> Result<usize, Panic>
-        ensures count { IfOk result (λ m. m ≡ (graph_described (described_by (board_vector_graph self.now))).m) }
+        ensures count { IfOk result (λ m.
+            m ≡ (graph_described (described_by (board_vector_graph self.now))).m) }
         ensures memory { IsOkUnless result Panic.NoRoom }
     {
         let arcs = self.arcs_count()?;

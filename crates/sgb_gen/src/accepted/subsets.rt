@@ -241,7 +241,7 @@ pub fn common(u: &[u32], v: &[u32]) -> u64
     total + common_one_by_one(our_rest, their_rest)
 }
 
-// The same, entry by entry.
+// How many elements two multisets have in common, entry by entry.
 fn common_one_by_one(u: &[u32], v: &[u32]) -> u64
     requires widths { length u.now ≡ length v.now }
     requires fits { length u.now ≤ 2 ^ 31 }
@@ -254,7 +254,7 @@ fn common_one_by_one(u: &[u32], v: &[u32]) -> u64
     total
 }
 
-// The same of eight entries.
+// How many elements eight entries of two multisets have in common.
 fn common_in_chunk(u: &[u32; 8], v: &[u32; 8]) -> u64
     ensures { result ≡ common_size u.now v.now }
 {

@@ -49,7 +49,7 @@ static FAMILIES: [(i64, &[u32]); 44] = [
     (2, &[3; 20]),
 ];
 
-// The same of families that are too great to be walked.
+// The sums and the bounds of families that are too great to be walked.
 static GREAT_FAMILIES: [(i64, &[u32]); 9] = [
     (44_000, &[44_000; 3]),
     (50_000, &[36_000; 3]),

@@ -68,7 +68,7 @@ static COUNTED: [(i64, &[u32], u32); 9] = [
     (1_000_000_000, &[1], 0),
 ];
 
-// The same of great sums.
+// Great sums and bounds, with the number of their vectors.
 static GREAT: [(i64, &[u32], u32); 15] = [
     (999_999_999, &[999_999_999; 2], 1_000_000_000),
     (999_999_998, &[999_999_998; 2], 999_999_999),

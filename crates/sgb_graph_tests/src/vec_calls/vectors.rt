@@ -62,7 +62,7 @@ const FROM_THE_FRONT: [Step; 4] = [
     Step::Next(&[1, 1]),
 ];
 
-// The same from the back.
+// All of the box of the sizes 2 and 2, from the back.
 const FROM_THE_BACK: [Step; 4] = [
     Step::NextBack(&[1, 1]),
     Step::NextBack(&[1, 0]),

@@ -170,7 +170,8 @@ fn is_cut_off(graph: &Graph, text: &[u8], each: usize, limit: usize) -> bool
     is_whole == (most == text.len()) && sink.bytes() == &text[..most]
 }
 
-// The same for each smaller number of bytes than the text has.
+// Whether a sink that takes seven bytes a call has the first bytes of the text and fails, for each number of bytes below
+// those of the text.
 fn is_cut_off_anywhere(graph: &Graph, text: &[u8]) -> bool {
     for limit in 0..text.len() {
         if !is_cut_off(graph, text, 7, limit) {
@@ -197,7 +198,7 @@ fn makes(graph: &mut Graph, alloc: Global, case: Case, saved: Saved) -> bool
     make(graph, case.made, case.id).is_ok() && is_saved(alloc, graph, saved, case.text)
 }
 
-// The same of a graph that stands here alone.
+// Makes the graph of a case, which stands here alone, and tells whether it is saved as it should be.
 fn is_met(alloc: Global, case: Case, saved: Saved) -> bool {
     match graph_of(alloc, case.digits) {
         Ok(mut graph) => makes(&mut graph, alloc, case, saved),

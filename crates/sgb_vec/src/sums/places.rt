@@ -1,7 +1,7 @@
 //! The vector at a place of a bounded sum, and the place of a vector.
 //!
 //! Each entry is found by how many vectors have a smaller one there, so nothing is walked.
-ghost use Rattle.std.specs.Prelude.{◌≡◌, ◌+◌, ◌<◌, ◌≤◌, ℕ, List, ◌∷◌, length, Contains, IfSome, Some, slice_get};
+ghost use Rattle.std.specs.Prelude.{◌≡◌, ◌+◌, ◌<◌, ◌≤◌, ◌∷◌, length, Contains, IfSome, Some, slice_get};
 ghost use Rattle.std.specs.Bool.{OnTrue};
 ghost use Rattle.sgb_vec.specs.Limits.{most_dimensions, most_vertices};
 ghost use Rattle.sgb_vec.specs.Sums.{bounded_sums, count_of_sum};

@@ -58,7 +58,8 @@ fn count_with_three(total: u32, a: u32, b: u32, c: u32, others: &[u32]) -> Optio
     count_by_row(&mut row[..length], total, a, b, c, others)
 }
 
-// The same, where the row has a place for each sum that is counted.
+// How many vectors within `a`, `b`, `c` and the others add to `total`, where the row has a place for each sum that is
+// counted. `None` as above.
 fn count_by_row(row: &mut [u64], total: u32, a: u32, b: u32, c: u32, others: &[u32]) -> Option<u32>
     requires low { total ≤ most_vertices }
     requires long { length row.old ≡ min total (sum others.now) + 1 }

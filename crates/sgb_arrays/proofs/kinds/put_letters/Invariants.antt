@@ -1,5 +1,5 @@
 use Rattle.std.proofs.Common.{◌≡◌, take, map, length}
-use Rattle.sgb_file.specs.Saving.{letter_of}
+use Rattle.sgb_graph.specs.Kinds.{letter_of}
 use Rattle.sgb_arrays.proofs.kinds.put_letters.Given as goal
 
 -- the letters before this place stand

@@ -1,5 +1,5 @@
 use Rattle.std.proofs.Common.{codes, decimal, map, sym}
-use Rattle.sgb_file.specs.Saving.{letter_of}
+use Rattle.sgb_graph.specs.Kinds.{letter_of}
 use Rattle.sgb_file.proofs.WholeText.{seven_texts}
 use Rattle.sgb_file.proofs.saving.put_head.Goals as goal
 

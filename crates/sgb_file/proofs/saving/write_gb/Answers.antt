@@ -1,7 +1,8 @@
 use Rattle.std.proofs.Common.{rules, refl, ap, map, arith, ◌≡◌}
 use Rattle.std.proofs.lemmas.Result.{err_from_is_err_and}
+use Rattle.sgb_graph.specs.Kinds.{letter_of}
 use Rattle.sgb_file.specs.Checksum.{checksum_of_lines}
-use Rattle.sgb_file.specs.Saving.{letter_of, middle_lines}
+use Rattle.sgb_file.specs.Saving.{middle_lines}
 use Rattle.sgb_file.proofs.WrittenPrefixes.{put_after, prefix_more, prefix_after}
 use Rattle.sgb_file.proofs.SavedGraphs.{six_fields}
 use Rattle.sgb_file.proofs.WholeText.{text-parts, checksum-whole}

@@ -1,5 +1,8 @@
+use Rattle.sgb_gen.specs.inner.Laws.{RidersStop}
 use Rattle.sgb_gen.proofs.Riders.{rider-stops, Contains-rider_reach}
 use Rattle.sgb_gen.proofs.laws.riders_stop.Goals as goal
 
 pub returns : goal.returns
-returns c = record { stops = rider-stops; lengths = Contains-rider_reach }
+returns c =
+    let law : RidersStop = record { stops = rider-stops; lengths = Contains-rider_reach } in
+    record { stops = law.stops; lengths = law.lengths }

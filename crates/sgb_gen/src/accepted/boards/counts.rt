@@ -30,8 +30,10 @@ impl Board {
     /// `NoRoom` where the number is 2^128 or more, and nothing else: only a board that wraps around in hundreds of
     /// dimensions has so many arcs, and no time would do to list them.
     pub fn arcs_count(&self) -> Result<u128, Panic>
-        ensures count { IfOk result (λ m. m ≡ (graph_described (described_by (board_vector_graph self.now))).m) }
-        ensures great { IfErr result (λ e. 2 ^ 128 ≤ (graph_described (described_by (board_vector_graph self.now))).m) }
+        ensures count { IfOk result (λ m.
+            m ≡ (graph_described (described_by (board_vector_graph self.now))).m) }
+        ensures great { IfErr result (λ e.
+            2 ^ 128 ≤ (graph_described (described_by (board_vector_graph self.now))).m) }
         ensures memory { IsOkUnless result Panic.NoRoom }
     {
         let Some(moves) = self.moves_count() else {

@@ -6,11 +6,10 @@
 //! comparison (`push_leaps`), those of a rider by a sort (`push_sorted`).
 //!
 //! Displacements come in order and not backwards. So a list without a table is made oldest arc first, and turned round.
-ghost use Rattle.std.specs.Prelude.{◌≡◌, ◌≤◌, ◌<◌, [], ◌++◌, ◌==◌, ℕ, List, true, false, length, map, reverse, nat_abs, None, Some, if◌then◌else◌, All, Contains, OnOk, OnErr, IsOkUnless};
+ghost use Rattle.std.specs.Prelude.{◌≡◌, ◌<◌, [], ◌++◌, ◌==◌, ℕ, List, true, false, length, map, reverse, None, Some, Contains, OnOk, OnErr, IsOkUnless};
 ghost use Rattle.std.specs.Bool.{OnTrue, OnFalse};
 ghost use Rattle.sgb_vec.specs.Boxes.{box};
 ghost use Rattle.sgb_vec.specs.Lexicographic.{IsBelow};
-ghost use Rattle.sgb_gen.specs.Limits.{most_piece};
 ghost use Rattle.sgb_gen.specs.Boards.{moves_of_board};
 ghost use Rattle.sgb_gen.specs.LocalLists.{list_at};
 ghost use Rattle.sgb_gen.specs.inner.LocalBoards.{move_arc, edge_arcs, own_starts, other_starts, starts_of, arcs_of_starts, arcs_onward, moves_by};
@@ -208,7 +207,8 @@ impl Board {
         Ok(())
     }
 
-    // The same where no move is longer than 1: of the edge that starts at `x` and the one that comes to it the later first.
+    // Puts the arcs of `x` by the edges of the displacement `t` behind the others, where no move is longer than 1: of the
+    // edge that starts at `x` and the one that comes to it the later first.
     fn push_leaps(
         &self,
         x: &[u32],

@@ -38,7 +38,7 @@ pub struct Run<'b> {
     pub ahead: &'b [(usize, i32)],
     /// The greatest length of an arc ahead.
     pub farthest: u32,
-    /// The same coordinates, moved back.
+    /// Those of `ahead`, moved back.
     pub back: &'b [(usize, i32)],
     /// The greatest length of an arc back, or 0.
     pub farthest_back: u32,

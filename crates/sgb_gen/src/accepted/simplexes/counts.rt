@@ -30,7 +30,8 @@ impl Simplex {
     /// vectors of one entry, for which none is taken. The memory is from where that of the links comes; for each pair of
     /// bounds, of which there are at most sixteen, it is that of `sgb_vec::SumFamily::new`, as is the time.
     pub fn arcs_count(&self, links: &Links) -> Result<u128, Panic>
-        ensures count { IfOk result (λ m. m ≡ (graph_described (described_by (simplex_vector_graph self.now))).m) }
+        ensures count { IfOk result (λ m.
+            m ≡ (graph_described (described_by (simplex_vector_graph self.now))).m) }
         ensures memory { IsOkUnless result Panic.NoRoom }
         ensures some { IfErr result (λ p. 0 < self.now.sum.total) }
         ensures pair { IfErr result (λ p. 1 < length self.now.sum.bounds) }

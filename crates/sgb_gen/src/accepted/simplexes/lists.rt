@@ -1,10 +1,9 @@
 //! The list of one vector of a simplex.
-ghost use Rattle.std.specs.Prelude.{◌≡◌, ◌≢◌, ◌<◌, ◌≤◌, ◌+◌, [], ◌∷◌, length, reverse, Contains, OnOk, OnErr, IsOkUnless};
+ghost use Rattle.std.specs.Prelude.{◌≡◌, ◌≢◌, ◌<◌, ◌≤◌, ◌+◌, [], length, reverse, Contains, OnOk, OnErr, IsOkUnless};
 ghost use Rattle.sgb_vec.specs.Limits.{most_dimensions};
 ghost use Rattle.sgb_gen.specs.LocalLists.{list_at};
 ghost use Rattle.sgb_gen.specs.inner.LocalSimplexes.{arc_by_unit, arcs_back, arcs_on, arcs_by_pairs, pairs_down, pairs_back, with_arcs};
 ghost use Rattle.sgb_gen.specs.Simplexes.{simplex_vectors, moves_of_simplex, pairs_of_places};
-ghost use Rattle.sgb_gen.specs.inner.Simplexes.{pairs_from};
 
 use super::Simplex;
 use crate::links::Links;

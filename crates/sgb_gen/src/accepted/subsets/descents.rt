@@ -2,7 +2,7 @@
 //! and a beginning is left as soon as no vector that has it can have a wanted size in common.
 //!
 //! So its time grows with the arcs and the bounds, and not with the vertices.
-ghost use Rattle.std.specs.Prelude.{◌≡◌, ◌+◌, ◌-◌, ◌^◌, ◌≤◌, ◌<◌, min, ℕ, List, Bool, false, [], ◌∷◌, length, reverse, sum, if◌then◌else◌, OnOk, IsOkUnless};
+ghost use Rattle.std.specs.Prelude.{◌≡◌, ◌+◌, ◌-◌, ◌^◌, ◌≤◌, ◌<◌, min, ℕ, List, false, ◌∷◌, length, reverse, sum, OnOk, IsOkUnless};
 ghost use Rattle.std.specs.Bool.{OnFalse};
 ghost use Rattle.sgb_vec.specs.Limits.{most_dimensions, most_vertices};
 ghost use Rattle.sgb_vec.specs.Sums.{bounded_sums};

@@ -1,12 +1,12 @@
 //! The number of moves of many subsets whose sum is small, by the pairs of vectors with a wanted size in common. A table
 //! has how many there are of two sums, and with how many elements in common before; it begins with no bounds, and each of
 //! the bounds, from the last to the first, makes the next table of it.
-ghost use Rattle.std.specs.Prelude.{◌≡◌, ◌+◌, ◌*◌, ◌^◌, ◌≤◌, ◌<◌, ◌∷◌, [], ℕ, List, true, min, length, if◌then◌else◌};
+ghost use Rattle.std.specs.Prelude.{◌≡◌, ◌+◌, ◌*◌, ◌^◌, ◌≤◌, ◌<◌, ◌∷◌, [], ℕ, List, min, length, if◌then◌else◌};
 ghost use Rattle.std.specs.Bool.{OnTrue};
 ghost use Rattle.sgb_vec.specs.Limits.{most_vertices};
 ghost use Rattle.sgb_gen.specs.Subsets.{is_wanted_size, moves_of_subsets, subsets_vectors};
 ghost use Rattle.sgb_gen.specs.inner.Descents.{row, rows};
-ghost use Rattle.sgb_gen.specs.inner.SubsetsPairs.{cell_at, cell_of, kept, pairs_among, table_of};
+ghost use Rattle.sgb_gen.specs.inner.SubsetsPairs.{cell_of, kept, pairs_among, table_of};
 
 use super::{Subsets, is_wanted};
 use arrayvec::ArrayVec;

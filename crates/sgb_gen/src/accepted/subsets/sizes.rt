@@ -1,5 +1,5 @@
 //! Which sizes in common are wanted, as the descents of the subsets ask for them.
-ghost use Rattle.std.specs.Prelude.{◌≡◌, ◌+◌, ◌-◌, ◌^◌, ◌≤◌, ◌<◌, ℕ, List, false, [], ◌∷◌, reverse};
+ghost use Rattle.std.specs.Prelude.{◌≡◌, ◌+◌, ◌-◌, ◌^◌, ◌≤◌, ◌<◌, ℕ, List, false, ◌∷◌, reverse};
 ghost use Rattle.std.specs.Bool.{OnFalse};
 ghost use Rattle.sgb_vec.specs.Limits.{most_vertices};
 ghost use Rattle.sgb_vec.specs.Sums.{bounded_sums};

@@ -21,6 +21,6 @@ push_inner_events-requires c = search (rules, first_read, place_fits)
 pub loop-v-preserved : goal.loop-v-preserved
 loop-v-preserved c =
     let entries = c.args.entries.now in
-    let first = first_read entries c.args.copies.now c.loop-v.v c.first.result c.requires.copies c.first.ensures.value in
+    let first = first_read entries c.args.copies.now c.loop-v.v c.own_start.result c.requires.copies c.own_start.ensures.value in
     let more = step entries c.args.flags.directed c.args.flags.self_loops c.loop-v.v c.index-entries-v.result (omega (arith, c.requires.count)) c.index-entries-v.is in
     grind (arith, append_assoc, first, more)
