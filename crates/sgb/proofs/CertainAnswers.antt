@@ -12,23 +12,25 @@ use Rattle.sgb_gen.specs.declared.params.BoardParams.{BoardParams}
 use Rattle.sgb_expr.specs.Expression.{expression_of}
 use Rattle.sgb_expr.specs.declared.expressions.Expr.{Expr}
 use Rattle.sgb_expr.specs.declared.expressions.Expr.TheVariants as expr
-use Rattle.sgb_expr.specs.declared.expressions.Generator.{Generator}
-use Rattle.sgb_expr.specs.declared.expressions.Generator.TheVariants as generator
+use Rattle.sgb_gen.specs.declared.params.Generator.{Generator}
+use Rattle.sgb_gen.specs.declared.params.Generator.TheVariants as generator
 use Rattle.sgb_requests.specs.Faults.{fault_line, status_of}
 use Rattle.sgb_requests.specs.declared.faults.Fault.{Fault}
 use Rattle.sgb_requests.specs.declared.faults.Fault.TheVariants as fault
 use Rattle.sgb_requests.specs.declared.requests.Request.{Request}
 use Rattle.sgb_requests.specs.declared.requests.Resume.{Resume}
-use Rattle.sgb.specs.Certain.{BeginsNowhere, IsBoard, IsCertain, IsGeneratorRefused, IsRefusedAtOnce, IsRefusedFirst, NeedsNoMemory}
+use Rattle.sgb_gen.specs.Generators.{IsGeneratorRefused}
+use Rattle.sgb_values.specs.FirstRefusals.{IsRefusedFirst}
+use Rattle.sgb.specs.Certain.{BeginsNowhere, IsBoard, IsCertain, IsRefusedAtOnce, NeedsNoMemory}
 use Rattle.sgb.specs.Outcomes.{answer_of, left_out, outcome_of, reads_input}
 use Rattle.sgb.specs.Runs.{IsGiven}
-use Rattle.sgb.specs.Locals.{IsLocalOf}
-use Rattle.sgb.specs.Values.{described, generator_value, made}
-use Rattle.sgb.specs.declared.locals.Local.{Local}
+use Rattle.sgb_gen.specs.Generators.{IsLocalOf}
+use Rattle.sgb_gen.specs.Generators.{described, generator_value, made}
+use Rattle.sgb_gen.specs.declared.locals.Local.{Local}
 use Rattle.sgb.specs.inner.Certain.{HasListingAtOnce, HasNamesAtOnce}
 use Rattle.sgb.specs.Writing.{IsEndedFrom}
 use Rattle.sgb.proofs.Endings.{change_of, no_line}
-use Rattle.sgb.proofs.FirstRefusals.{first_other, generator_other}
+use Rattle.sgb_values.proofs.FirstRefusals.{first_other, generator_other}
 use Rattle.sgb.proofs.Refusals.{left_out_own}
 use Rattle.sgb.proofs.StdinValues.{answer_unread}
 

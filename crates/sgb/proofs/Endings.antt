@@ -17,7 +17,7 @@ use Rattle.sgb_requests.specs.declared.faults.Fault.{Fault}
 use Rattle.sgb_requests.specs.declared.faults.Fault.TheVariants as fault
 use Rattle.sgb_file.proofs.WrittenPrefixes.{prefix_all}
 use Rattle.sgb.specs.Inputs.{IsKeptOfInput, IsReadFault}
-use Rattle.sgb.specs.Values.{most_input}
+use Rattle.sgb_values.specs.Values.{most_input}
 
 -- the bytes that a sink tells, before and after, and whether it has failed
 abbrev pub change_of : Option (List ℕ) → Option (List ℕ) → Bool → Change

@@ -1,7 +1,5 @@
 -- Answers of requests on small graphs, worked out by hand, and what they are made of.
-use Rattle.std.specs.Prelude.{◌≡◌, ℕ, ℤ, pos, negsuc, true, false, List, [], ◌∷◌, ◌++◌, length, take, Some, None, Result, Ok, Err, map, codes, refl}
-use Rattle.std.proofs.Common.{inl}
-use Rattle.std.proofs.lemmas.Bool.{leb-true}
+use Rattle.std.specs.Prelude.{◌≡◌, ℕ, ℤ, pos, negsuc, true, false, List, [], ◌∷◌, ◌++◌, length, take, Some, None, Ok, Err, map, codes, refl}
 use Rattle.std.specs.Fmt.{digits}
 use Rattle.std.specs.Result.{result_map_both}
 use Rattle.sgb_vec.specs.Boxes.{box}
@@ -11,8 +9,8 @@ use Rattle.sgb_vec.specs.Sums.{bounded_sums, has_great_count}
 use Rattle.sgb_vec.specs.declared.panics.Panic.{Panic}
 use Rattle.sgb_vec.specs.declared.panics.Panic.TheVariants.{Bad, VeryBad, Early}
 use Rattle.sgb_graph.specs.Events.{list_from}
-use Rattle.sgb_graph.specs.Graphs.{GraphData, numbers_from}
-use Rattle.sgb_graph.specs.Ids.{compound_id, double_compound_id}
+use Rattle.sgb_graph.specs.Graphs.{numbers_from}
+use Rattle.sgb_graph.specs.Ids.{double_compound_id}
 use Rattle.sgb_graph.specs.Made.{graph_described}
 use Rattle.sgb_gen.specs.Boards.{board_id}
 use Rattle.sgb_gen.specs.Displacements.{displacements, vectors_of_norm}
@@ -21,22 +19,20 @@ use Rattle.sgb_gen.specs.Simplexes.{simplex_id, moves_of_simplex}
 use Rattle.sgb_gen.specs.VectorGraphs.{family_graph}
 use Rattle.sgb_ops.specs.Merged.{merged}
 use Rattle.sgb_ops.specs.Taken.{each_edge_once}
-use Rattle.sgb_ops.specs.declared.entries.Entry.TheVariants as entry
-use Rattle.sgb_file.specs.FileLines.{text_of_lines}
-use Rattle.sgb_file.proofs.Examples.GraphFiles.{one_cell, one_cell_lines}
-use Rattle.sgb_file.proofs.Examples.Restoring.{no_file_read, one_cell_read}
-use Rattle.sgb_expr.specs.Expression.{Expression, BiComplete, Complement, EntryThen, Generated, Graph, Gunion, Induced, Intersection, Lines, NoEntries, Number, Product, Stdin, Wheel}
+use Rattle.sgb_file.proofs.Examples.GraphFiles.{one_cell}
+use Rattle.sgb_expr.specs.Expression.{Stdin}
 use Rattle.sgb_expr.specs.declared.expressions.Expr.{Expr}
 use Rattle.sgb_expr.specs.declared.expressions.Expr.TheVariants as expr
-use Rattle.sgb_expr.specs.declared.expressions.Generator.{Generator}
-use Rattle.sgb_expr.specs.declared.expressions.Generator.TheVariants as generator
-use Rattle.sgb.specs.Locals.{family_text, start_after, vectors_of}
+use Rattle.sgb_gen.specs.declared.params.Generator.{Generator}
+use Rattle.sgb_gen.specs.declared.params.Generator.TheVariants as generator
+use Rattle.sgb_gen.specs.Generators.{vectors_of}
+use Rattle.sgb.specs.Locals.{family_text, start_after}
 use Rattle.sgb.specs.Outcomes.{answer_of, left_out, outcome_of, queen_moves, reads_input}
 use Rattle.sgb_requests.specs.Faults.{fault_line}
 use Rattle.sgb.specs.Texts.{arc_line, block, blocks, head_text, name_lines}
-use Rattle.sgb.specs.Values.{IsStdinValue, described, most_input, numbered_entry, value_of, values_of}
-use Rattle.sgb.specs.declared.locals.Local.{Local}
-use Rattle.sgb.specs.declared.locals.Local.TheVariants as local
+use Rattle.sgb_gen.specs.Generators.{described}
+use Rattle.sgb_gen.specs.declared.locals.Local.{Local}
+use Rattle.sgb_gen.specs.declared.locals.Local.TheVariants as local
 use Rattle.sgb_requests.specs.declared.faults.Fault.TheVariants as fault
 use Rattle.sgb_requests.specs.declared.requests.Request.TheVariants as request
 use Rattle.sgb_requests.specs.declared.requests.Resume.TheVariants as resume
@@ -100,84 +96,13 @@ great_piece = refl
 
 -- ---- standard input
 
--- the file of board(1,0,0,0,1,0,0)
-pub cell_is_stdin : IsStdinValue (text_of_lines one_cell_lines) (Ok one_cell)
-cell_is_stdin = inl (leb-true (length (text_of_lines one_cell_lines)) most_input refl, one_cell_read)
-
-pub no_file_is_stdin : IsStdinValue (codes "0\n") (Err Early)
-no_file_is_stdin = inl (leb-true 2 most_input refl, no_file_read)
-
--- its answers, and those where standard input is no file
+-- answers where it is the file of board(1,0,0,0,1,0,0), and where it is no file
 pub stdin_read :
     (answer_of (request.List expr.Stdin resume.Whole) (Ok one_cell)
     ≡ Ok (codes "  The graph whose official name is\nboard(1,0,0,0,1,0,0)\n  has 1 vertices and 0 arcs:\n\n0\n"))
     × (answer_of (request.Names expr.Stdin resume.Whole) (Err Early) ≡ Err (fault.Panic Early))
 unfolding digits numbers_from blocks block arc_line head_text
 stdin_read = (refl, refl)
-
--- ---- values
-
--- simplex(-1,0,0,0,0,0,0)
-abbrev negative : Expression
-negative = Generated (generator.Simplex (record { n = negsuc 0; n0 = pos 0; n1 = pos 0; n2 = pos 0; n3 = pos 0; n4 = pos 0; directed = false }))
-
-abbrev too_great : Expression
-too_great = Generated (squares (pos 2) (pos 2) (pos 1_000_000_000_000))
-
--- of two operands that are refused the first one's code
-pub refused_first :
-    (value_of (Err Early) (Gunion negative too_great false false) ≡ Err Bad)
-    × (value_of (Err Early) (Gunion too_great negative false false) ≡ Err VeryBad)
-unfolding repeated
-refused_first = (refl, refl)
-
--- entries: each is a number or a graph; the first refusal among them
-pub entries_valued :
-    (values_of (Ok one_cell) (EntryThen (Number (negsuc 2)) (EntryThen (Graph Stdin) NoEntries)) ≡ Ok (entry.Merged 3 ∷ entry.Graph one_cell ∷ []))
-    × (values_of (Err Early) (EntryThen (Number (pos 1)) (EntryThen (Graph negative) (EntryThen (Graph too_great) NoEntries))) ≡ Err Bad)
-entries_valued = (refl, refl)
-
--- what a number stands for: so many copies, or merged vertex k of -k, at most 4,294,967,295 of either
-pub numbers_told : map numbered_entry (pos 0 ∷ pos 7 ∷ pos 4_294_967_296 ∷ negsuc 0 ∷ negsuc 6 ∷ negsuc 4_294_967_296 ∷ [])
-    ≡ entry.Copies 0 ∷ entry.Copies 7 ∷ entry.Copies 4_294_967_295 ∷ entry.Merged 1 ∷ entry.Merged 7 ∷ entry.Merged 4_294_967_295 ∷ []
-numbers_told = refl
-
--- the id of a graph, which has the arguments in their order
-abbrev id_of : Result GraphData Panic → List ℕ
-id_of (Ok g) = g.id
-id_of (Err p) = []
-
--- board(1,1,0,0,1,0,0)
-abbrev one_square : Expression
-one_square = Generated (squares (pos 1) (pos 1) (pos 1))
-
--- the value of each operation, where `stdin` is board(1,0,0,0,1,0,0), by its id
-abbrev ids : List Expression → List (List ℕ)
-ids values = map (λ e. id_of (value_of (Ok one_cell) e)) values
-
-pub one_operand :
-    ids (Complement Stdin true false false ∷ Complement Stdin false true true ∷ Lines Stdin true ∷ Lines Stdin false
-    ∷ Induced Stdin (EntryThen (Number (pos 1)) NoEntries) true false false ∷ Induced Stdin (EntryThen (Number (pos 1)) NoEntries) false true false ∷ Induced Stdin (EntryThen (Number (pos 1)) NoEntries) false false true ∷ [])
-    ≡ codes "complement(board(1,0,0,0,1,0,0),1,0,0)" ∷ codes "complement(board(1,0,0,0,1,0,0),0,1,1)"
-    ∷ codes "lines(board(1,0,0,0,1,0,0),1)" ∷ codes "lines(board(1,0,0,0,1,0,0),0)"
-    ∷ codes "induced(board(1,0,0,0,1,0,0),,1,0,0)" ∷ codes "induced(board(1,0,0,0,1,0,0),,0,1,0)" ∷ codes "induced(board(1,0,0,0,1,0,0),,0,0,1)" ∷ []
-unfolding digits numbers_from list_from each_edge_once merged compound_id
-one_operand = refl
-
-pub two_operands :
-    ids (Gunion Stdin one_square true false ∷ Gunion one_square Stdin false true ∷ Intersection Stdin one_square true false
-    ∷ Intersection one_square Stdin false true ∷ Product Stdin one_square (pos 2) false ∷ Product one_square Stdin (pos 1) true ∷ [])
-    ≡ codes "gunion(board(1,0,0,0,1,0,0),board(1,1,0,0,1,0,0),1,0)" ∷ codes "gunion(board(1,1,0,0,1,0,0),board(1,0,0,0,1,0,0),0,1)"
-    ∷ codes "intersection(board(1,0,0,0,1,0,0),board(1,1,0,0,1,0,0),1,0)" ∷ codes "intersection(board(1,1,0,0,1,0,0),board(1,0,0,0,1,0,0),0,1)"
-    ∷ codes "product(board(1,0,0,0,1,0,0),board(1,1,0,0,1,0,0),2,0)" ∷ codes "product(board(1,1,0,0,1,0,0),board(1,0,0,0,1,0,0),1,1)" ∷ []
-unfolding box repeated digits name_of_vector displacements vectors_of_norm board_moves board_id family_graph numbers_from list_from each_edge_once merged double_compound_id
-two_operands = refl
-
-pub no_operand :
-    ids (BiComplete (pos 1) (pos 2) false ∷ BiComplete (pos 1) (pos 2) true ∷ Wheel (pos 3) (pos 1) false ∷ Wheel (pos 3) (pos 1) true ∷ [])
-    ≡ codes "bi_complete(1,2,0)" ∷ codes "bi_complete(1,2,1)" ∷ codes "wheel(3,1,0)" ∷ codes "wheel(3,1,1)" ∷ []
-unfolding box repeated digits name_of_vector displacements vectors_of_norm board_moves board_id family_graph numbers_from list_from each_edge_once merged compound_id
-no_operand = refl
 
 -- ---- queens, what is seen of an answer, and what reads standard input
 

@@ -1,8 +1,6 @@
 -- The lemmas of sgb, by subject.
 -- what needs no memory is never out of memory
 pub mod CertainAnswers
--- refusals that come before memory is taken
-pub mod FirstRefusals
 -- texts written part by part
 pub mod CutOff
 -- the numbers that a flip draws
@@ -19,8 +17,6 @@ pub mod KeptNames
 mod MovedWords
 -- parts of a listing
 pub mod Listings
--- lists of a generator's graph, by the arcs of its vectors
-pub mod LocalChains
 -- listings from a generator's vectors
 pub mod LocalListings
 -- names of vectors, entry by entry
@@ -43,5 +39,3 @@ pub mod Refusals
 pub mod ResumedListings
 -- what answers depend on of standard input
 pub mod StdinValues
--- values of expressions
-pub mod Values

@@ -2,34 +2,32 @@
 use Rattle.std.proofs.Common.{append_assoc, ◌≡◌, ◌∙◌, ◌+◌, ◌<◌, ℕ, zero, suc, ℤ, Bool, List, [], ◌∷◌, ◌++◌, length, map, drop, drop-cons, get_or, Some, Result, Ok, refl, sym, ap, arith, codes}
 use Rattle.std.specs.Fmt.{signed_decimal}
 use Rattle.std.specs.List.{All, Contains, flat_map, slice_get, slice_index_or}
-use Rattle.std.proofs.lemmas.List.{drop-drop, length-drop, length-map}
-use Rattle.std.proofs.lemmas.List.Elements.{All-map}
-use Rattle.std.proofs.lemmas.Option.{get_or_from_slice_get, slice_get_read, slice_get_within}
+use Rattle.std.proofs.lemmas.List.{drop-drop, length-drop}
+use Rattle.std.proofs.lemmas.Option.{get_or_from_slice_get, slice_get_within}
 use Rattle.sgb_vec.specs.Lexicographic.{IsRising}
 use Rattle.sgb_vec.specs.Names.{name_of_vector}
 use Rattle.sgb_graph.specs.declared.fields.Link.{Link}
 use Rattle.sgb_vec.specs.declared.panics.Panic.{Panic}
 use Rattle.sgb_graph.specs.Descriptions.{Description}
-use Rattle.sgb_graph.specs.Events.{HasEndsBelow, list_of}
+use Rattle.sgb_graph.specs.Events.{list_of}
 use Rattle.sgb_graph.specs.Graphs.{GraphData, chain_of}
 use Rattle.sgb_graph.specs.Made.{graph_described}
-use Rattle.sgb_graph.proofs.Described.{described_is, described_names}
 use Rattle.sgb_gen.specs.LocalLists.{LocalArc, list_at, local_arc}
 use Rattle.sgb_gen.proofs.FamilyWalks.{first_in_drop}
-use Rattle.sgb_gen.specs.VectorGraphs.{HasEnds, Move, VectorGraph, described_by, event_among, family_graph, vertex_among}
+use Rattle.sgb_gen.specs.VectorGraphs.{HasEnds, Move, VectorGraph, described_by, event_among, family_graph}
 use Rattle.sgb_gen.proofs.RisingVectors.{vertex_in_rising}
+use Rattle.sgb_gen.proofs.VectorVertices.{lists_of_graph, named_by_members, named_by_vectors, names_count}
 use Rattle.sgb_graph.specs.Vertices.{names_of}
 use Rattle.sgb.specs.inner.Locals.{local_block, local_line}
 use Rattle.sgb.specs.inner.Remaining.{IsRest}
 use Rattle.sgb.specs.Texts.{arc_line, block, blocks, head, head_text, name_line}
 use Rattle.sgb.specs.Outcomes.{answer_from, names_answer}
-use Rattle.sgb.specs.Locals.{vectors_of}
-use Rattle.sgb.specs.Values.{described, made, vector_graph_of}
+use Rattle.sgb_gen.specs.Generators.{described, made, vector_graph_of, vectors_of}
 use Rattle.sgb.specs.Writing.{IsEnded}
 use Rattle.sgb_file.specs.Devices.{Change}
 use Rattle.sgb_requests.specs.declared.faults.Fault.{Fault}
 use Rattle.sgb_requests.specs.declared.requests.Resume.{Resume}
-use Rattle.sgb.specs.declared.locals.Local.{Local}
+use Rattle.sgb_gen.specs.declared.locals.Local.{Local}
 use Rattle.sgb.proofs.Listings.{block-parts, blocks-first, blocks-none}
 
 -- the name at a place, or the empty one, is that of the vector there, or of the empty one
@@ -70,23 +68,6 @@ line-parts tip len = grind (arith, append_assoc)
 pub rest_of_rest : (members rest after : List (List ℕ)) → IsRest members rest → after ≡ drop 1 rest → IsRest members after
 rest_of_rest members rest after (k, from) one = (k + 1, one ∙ ap (drop 1) from ∙ drop-drop 1 k members)
 
--- a vector that is there has its vertex among theirs
-pub vertex_within : (vectors : List (List ℕ)) (a : List ℕ) → IsRising vectors → Contains vectors a → vertex_among vectors a < length vectors
-vertex_within vectors a rise (k, within, there) = grind (arith, slice_get_read, vertex_in_rising)
-
--- moves between vectors are events between their vertices
-pub events_within : (vectors : List (List ℕ)) (moves : List Move) → IsRising vectors → All (HasEnds vectors) moves → All (HasEndsBelow (length vectors)) (map (event_among vectors) moves)
-events_within vectors moves rise ends = All-map (HasEndsBelow (length vectors)) (event_among vectors) moves (λ k d within. grind (arith, vertex_within, ends k d))
-
--- the lists of the graph
-pub lists_of_graph : (g : VectorGraph) → IsRising g.vectors → All (HasEnds g.vectors) g.moves
-    → (v : ℕ) → v < length g.vectors → chain_of (graph_described (described_by g)) v ≡ list_of g.directed (map (event_among g.vectors) g.moves) v
-unfolding family_graph
-lists_of_graph g rise ends v within =
-    let names = length-map g.vectors name_of_vector in
-    let is = described_is (described_by g) (grind (arith, events_within)) (grind (arith, length-map)) in
-    grind (arith, length-map)
-
 -- how many entries the vector has where the arc at a place leads
 pub tip_width : (n : ℕ) (arcs : List LocalArc) (i : ℕ) (arc : LocalArc) → All (λ (a : LocalArc). length a.tip ≡ n) arcs → slice_get arcs i ≡ Some arc → length arc.tip ≡ n
 tip_width n arcs i arc wide there = grind (arith, get_or_from_slice_get, slice_get_within)
@@ -96,19 +77,6 @@ pub lines-first : (arcs : List LocalArc) (i : ℕ) (arc : LocalArc) → slice_ge
 lines-first arcs i arc there =
     let first = drop-cons arcs i arc (slice_get_within arcs i arc there) in
     grind (arith, get_or_from_slice_get)
-
--- the vertices have the names of the vectors
-pub named_by_vectors : (g : VectorGraph) → names_of (graph_described (described_by g)) ≡ map name_of_vector g.vectors
-unfolding family_graph
-named_by_vectors g = grind (arith, described_names, length-map)
-
--- or of the members of a family that has those vectors
-pub named_by_members : (g : VectorGraph) (members : List (List ℕ)) → members ≡ g.vectors → names_of (graph_described (described_by g)) ≡ map name_of_vector members
-named_by_members g members same = grind (arith, named_by_vectors)
-
--- there are as many
-pub names_count : (g : VectorGraph) → length (names_of (graph_described (described_by g))) ≡ length g.vectors
-names_count g = grind (arith, named_by_vectors, length-map)
 
 -- the names of a generator's vertices, from the members of its family
 pub named_local : {T : Type 0} (v : Result Description Panic) (l : Local) (members : List (List ℕ)) (resume : Resume) (same : Type 0) (out : Change) (r : Result T Fault)

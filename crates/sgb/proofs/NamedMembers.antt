@@ -1,13 +1,11 @@
 -- The members of a family by their names: no two have the same one.
-use Rattle.std.proofs.Common.{◌≡◌, ◌≢◌, ℕ, suc, ◌<◌, true, List, [], ◌∷◌, ◌++◌, length, drop, get_or, map, Option, Some, None, refl, sym, inl, inr, arith, rules}
+use Rattle.std.proofs.Common.{◌≡◌, ◌≢◌, ℕ, ◌<◌, true, List, [], length, drop, get_or, map, Some, None, refl, sym, inl, inr, arith, rules}
 use Rattle.std.specs.List.{Contains, flat_map, slice_get}
-use Rattle.std.specs.Option.{IfSome}
 use Rattle.std.specs.Cmp.Lexicographic.{bytes_decides}
 use Rattle.std.proofs.lemmas.Bool.{cases_Bool}
-use Rattle.std.proofs.lemmas.List.{drop-map, get_or-map, get_or_at, get_or_default, length-map, length-append}
+use Rattle.std.proofs.lemmas.List.{drop-map, get_or-map, get_or_default, length-map}
 use Rattle.std.proofs.lemmas.Option.{slice_get-map, slice_get_read}
 use Rattle.sgb_vec.specs.Lexicographic.{IsBefore, IsRising}
-use Rattle.sgb_vec.specs.Ranges.{ComeAfter}
 use Rattle.sgb_vec.specs.Names.{name_of_vector}
 use Rattle.sgb_vec.specs.NamedVectors.{IsVector}
 use Rattle.sgb_vec.proofs.NameReading.{vector_of-name}
@@ -64,19 +62,3 @@ module _ (members : List (List ℕ)) (vectors : (v : List ℕ) → Contains memb
         | inr differs ↦ differs
       ] in
       grind (arith, named_here, vertex_in_rising)
-
--- what comes after a vector of a list
-after_both : (x : List ℕ) (ys after : List (List ℕ)) → drop (suc (length ys)) (ys ++ x ∷ after) ≡ after
-after_both x [] after = refl
-after_both x (y ∷ ys) after = after_both x ys after
-
--- what is left after the vector at which the listing begins
-pub rest_from : (members : List (List ℕ)) → IsRising members → (x : List ℕ) (r : Option (List (List ℕ))) (rest : List (List ℕ)) → r ≡ Some rest
-    → IfSome r (λ after. ComeAfter members x after) → rest ≡ drop (suc (vertex_among members x)) members
-rest_from members rising x (Some after) rest same (before, whole) =
-    let i = length before in
-    let left : after ≡ rest = cc in
-    let at = get_or_at before x after x i refl in
-    let there : slice_get members i ≡ Some x = slice_get_read members (length members) i x refl (grind (arith, length-append)) (grind (arith)) in
-    rw (← left, vertex_in_rising members i x rising there, whole, after_both x before after) refl
-rest_from members rising x None rest same comes = absurd cc

@@ -21,7 +21,8 @@ use Rattle.sgb_requests.specs.declared.requests.Resume.{Resume}
 use Rattle.sgb_requests.specs.declared.requests.Resume.TheVariants as resume
 use Rattle.sgb.proofs.Listings.{blocks-none}
 use Rattle.sgb_gen.proofs.FamilyWalks.{first_in_drop}
-use Rattle.sgb.proofs.LocalListings.{contains_in_drop, named_by_vectors, names_count}
+use Rattle.sgb.proofs.LocalListings.{contains_in_drop}
+use Rattle.sgb_gen.proofs.VectorVertices.{named_by_vectors, names_count}
 
 -- the answer begins after the last of the first so many members
 pub skipped_begins : (members : List (List ℕ)) → IsRising members → (count : ℕ) (start : Option (List ℕ)) → IsLastSkipped members count start

@@ -1,56 +1,24 @@
 -- What a request is answered with whatever memory there is.
-use Rattle.std.specs.Prelude.{◌≡◌, ◌⊎◌, ◌≤◌, ◌<◌, ℕ, false, List, length, Result, Ok, Err}
-use Rattle.sgb_vec.specs.Bounds.{simplex_of}
+use Rattle.std.specs.Prelude.{◌≡◌, ◌⊎◌, ℕ, false, List, Result, Ok, Err}
 use Rattle.sgb_vec.specs.declared.panics.Panic.{Panic}
-use Rattle.sgb_vec.specs.declared.panics.Panic.TheVariants.{Early, Syntax}
 use Rattle.sgb_graph.specs.Graphs.{GraphData}
 use Rattle.sgb_file.specs.Devices.{Change}
-use Rattle.sgb_file.specs.Refused.{HasNoOpening}
 use Rattle.sgb_gen.specs.Boards.{board}
 use Rattle.sgb_gen.specs.declared.params.BoardParams.{BoardParams}
-use Rattle.sgb_ops.specs.BiComplete.{accepted_parts}
 use Rattle.sgb_graph.specs.Vertices.{names_of}
-use Rattle.sgb_ops.specs.Wheel.{accepted_middle}
-use Rattle.sgb_expr.specs.Expression.{Expression, Generated, Complement, Gunion, Intersection, Lines, Product, Induced, BiComplete, Wheel, Stdin, expression_of}
+use Rattle.sgb_expr.specs.Expression.{Expression, expression_of}
 use Rattle.sgb_expr.specs.StdinUses.{has_stdin}
 use Rattle.sgb_expr.specs.declared.expressions.Expr.{Expr}
 use Rattle.sgb_expr.specs.declared.expressions.Expr.TheVariants as expr
-use Rattle.sgb_expr.specs.declared.expressions.Generator.{Generator}
-use Rattle.sgb_expr.specs.declared.expressions.Generator.TheVariants as generator
+use Rattle.sgb_gen.specs.declared.params.Generator.{Generator}
+use Rattle.sgb_gen.specs.declared.params.Generator.TheVariants as generator
 use Rattle.sgb_requests.specs.declared.requests.Request.{Request}
 use Rattle.sgb_requests.specs.declared.requests.Request.TheVariants as request
 use Rattle.sgb_requests.specs.declared.requests.Resume.{Resume}
 use Rattle.sgb_requests.specs.declared.faults.Fault.TheVariants as fault
 use Rattle.sgb.specs.Outcomes.{answer_of, left_out, outcome_of}
 use Rattle.sgb.specs.Runs.{IsGiven}
-use Rattle.sgb.specs.Values.{made, most_input}
-
--- a generator is refused with this code by what needs no memory: a board for whatever refuses it, a simplex and subsets for
--- all but their counts
-abbrev pub IsGeneratorRefused : Generator → Panic → Type 0
-IsGeneratorRefused (generator.Board p) code = board p ≡ Err code
-IsGeneratorRefused (generator.Simplex p) code = simplex_of p.n p.n0 p.n1 p.n2 p.n3 p.n4 ≡ Err code
-IsGeneratorRefused (generator.Subsets p) code = simplex_of p.n p.n0 p.n1 p.n2 p.n3 p.n4 ≡ Err code
-
--- standard input is refused before a record of it is read: it is too long, or no file begins so
-abbrev pub IsInputRefused : List ℕ → Panic → Type 0
-IsInputRefused input code =
-    ((most_input < length input) × (code ≡ Syntax))
-    ⊎ ((length input ≤ most_input) × HasNoOpening input × (code ≡ Early))
-
--- an expression is refused with this code before memory is taken, where this is standard input: its operand that is made first
--- is, or it has none, and its own numbers are
-abbrev pub IsRefusedFirst : List ℕ → Expression → Panic → Type 0
-IsRefusedFirst input (Generated f) code = IsGeneratorRefused f code
-IsRefusedFirst input (Complement e copy self_loops directed) code = IsRefusedFirst input e code
-IsRefusedFirst input (Gunion e f multi directed) code = IsRefusedFirst input e code
-IsRefusedFirst input (Intersection e f multi directed) code = IsRefusedFirst input e code
-IsRefusedFirst input (Lines e directed) code = IsRefusedFirst input e code
-IsRefusedFirst input (Product e f kind directed) code = IsRefusedFirst input e code
-IsRefusedFirst input (Induced e _ self_loops multi directed) code = IsRefusedFirst input e code
-IsRefusedFirst input (BiComplete n1 n2 directed) code = accepted_parts n1 n2 ≡ Err code
-IsRefusedFirst input (Wheel n n1 directed) code = accepted_middle n1 ≡ Err code
-IsRefusedFirst input Stdin code = IsInputRefused input code
+use Rattle.sgb_gen.specs.Generators.{made}
 
 -- an expression that reads no input is refused before memory is taken
 pub record IsRefusedAtOnce (e : Expression) : Type 0 where

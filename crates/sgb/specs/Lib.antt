@@ -13,8 +13,6 @@ pub mod Program
 pub mod Runs
 -- names and listings of graphs
 pub mod Texts
--- the graphs of expressions
-pub mod Values
 -- listings from a generator's vectors
 pub mod Locals
 -- what writing a text leaves, and how an answer ends

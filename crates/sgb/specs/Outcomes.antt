@@ -8,14 +8,14 @@ use Rattle.sgb_vec.specs.declared.panics.Panic.TheVariants.{Early}
 use Rattle.sgb_graph.specs.Graphs.{GraphData}
 use Rattle.sgb_graph.specs.Vertices.{names_of}
 use Rattle.sgb_expr.specs.Expression.{Expression, Generated, Gunion, expression_of}
-use Rattle.sgb_expr.specs.declared.expressions.Generator.{Generator}
-use Rattle.sgb_expr.specs.declared.expressions.Generator.TheVariants as generator
+use Rattle.sgb_gen.specs.declared.params.Generator.{Generator}
+use Rattle.sgb_gen.specs.declared.params.Generator.TheVariants as generator
 use Rattle.sgb_expr.specs.StdinUses.{has_stdin}
 use Rattle.sgb_file.specs.Saving.{text_of_graph}
 use Rattle.sgb_requests.specs.Faults.{status_of, fault_line}
 use Rattle.sgb.specs.FlipAnswers.{flip_answer}
 use Rattle.sgb.specs.Texts.{name_lines, head, blocks}
-use Rattle.sgb.specs.Values.{IsOn, value_of}
+use Rattle.sgb_values.specs.Values.{IsOn, value_of}
 use Rattle.sgb_requests.specs.declared.faults.Fault.{Fault}
 use Rattle.sgb_requests.specs.declared.faults.Fault.TheVariants as fault
 use Rattle.sgb_requests.specs.declared.requests.Request.{Request}

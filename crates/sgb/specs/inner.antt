@@ -1,10 +1,6 @@
 -- What only the private contracts and the proofs of sgb speak of.
 -- generators whose answers take no memory
 pub mod Certain
--- entries whose expressions are evaluated
-pub mod EntryValues
--- what is left of standard input
-pub mod Inputs
 -- names of vectors that are kept
 pub mod KeptNames
 -- blocks of a generator's graph
@@ -13,8 +9,6 @@ pub mod Locals
 pub mod Numerals
 -- pages of output, and what was put of them
 pub mod Pages
--- functions that give the value of `stdin`
-pub mod StdinValues
 -- what is left of vectors
 pub mod Remaining
 -- the entries of a name, the line of a number, and how long lines are

@@ -6,7 +6,7 @@ ghost use Rattle.sgb_vec.specs.declared.panics.Panic.TheVariants.{NoRoom};
 ghost use Rattle.sgb_requests.specs.declared.faults.Fault.{Fault};
 ghost use Rattle.sgb.specs.Inputs.{IsKeptOfInput, IsReadFrom, LosesAtMost};
 ghost use Rattle.sgb.specs.Runs.{IsAnswerRun};
-ghost use Rattle.sgb.specs.Values.{most_input};
+ghost use Rattle.sgb_values.specs.Values.{most_input};
 ghost use Rattle.sgb.specs.Writing.{IsEnded, IsEndedFrom};
 
 use crate::input::read_input;

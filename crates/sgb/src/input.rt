@@ -1,27 +1,16 @@
-//! Standard input: reading it whole, and the graph that it is a file of.
+//! Standard input, read whole.
 //!
 //! It is kept whole: the definition of an answer reads it before anything is written.
 ghost use Rattle.std.specs.Prelude.{◌≡◌, ◌≤◌, ◌<◌, ◌+◌, ◌-◌, ◌++◌, ℕ, List, true, length, nat_le, Result, Err, IfOk};
 ghost use Rattle.std.specs.Io.KnownBytes.{Consumes, IsAtEnd};
-ghost use Rattle.sgb_vec.specs.declared.panics.Panic.{Panic};
-ghost use Rattle.sgb_graph.specs.Graphs.{GraphData};
-ghost use Rattle.sgb.specs.Certain.{IsInputRefused};
 ghost use Rattle.sgb.specs.Inputs.{IsKeptOfInput, IsReadFrom, LosesAtMost};
-ghost use Rattle.sgb_vec.specs.Results.{IsValue};
-ghost use Rattle.sgb.specs.Values.{IsStdinValue, most_input};
-ghost use Rattle.sgb.specs.inner.Inputs.{left_after};
+ghost use Rattle.sgb_values.specs.Values.{most_input};
 
-mod kept;
-
-pub(crate) use kept::Kept;
-use sgb_file::{Source, read_gb};
-use sgb_graph::Graph;
+use sgb_file::Source;
 use sgb_requests::Fault;
+use sgb_values::MOST_INPUT;
 use sgb_vec::Panic;
 use std::alloc::Global;
-
-// A file on standard input has at most this many bytes.
-const MOST_INPUT: usize = 1 << 30;
 
 // At most this many bytes are read at once.
 const MOST_AT_ONCE: usize = 65_536;
@@ -71,41 +60,4 @@ fn read_more<R: Source>(
         Ok(()) => Ok(count),
         Err(_) => Err(Fault::Panic(Panic::NoRoom)),
     }
-}
-
-/// The graph that standard input is a file of. What is kept of it is then dropped, unless `more` says that it is read
-/// again.
-///
-/// The code of a text that is a file of none; `Syntax` where it has more than 2^30 bytes; `NoRoom` when out of memory.
-pub(crate) fn read_kept(alloc: Global, input: &mut Kept<'_>, more: bool) -> Result<Graph, Panic>
-    ensures value { (value : Result GraphData Panic) → IsStdinValue input.old value
-        → IsValue value result }
-    ensures left { input.new ≡ left_after more true input.old }
-    ensures refused { (p : Panic) → IsInputRefused input.old p → result ≡ Err p }
-{
-    let graph = stdin_graph(alloc, input.bytes());
-    if more {
-        return graph;
-    }
-    input.clear();
-    graph
-}
-
-// The graph that standard input is a file of, from its bytes (GB_SAVE, restore_graph).
-fn stdin_graph(alloc: Global, input: &[u8]) -> Result<Graph, Panic>
-    ensures value { (value : Result GraphData Panic) → IsStdinValue input.now value
-        → IsValue value result }
-    ensures refused { (p : Panic) → IsInputRefused input.now p → result ≡ Err p }
-{
-    if !is_read(input) {
-        return Err(Panic::Syntax);
-    }
-    read_gb(alloc, input)
-}
-
-// Whether standard input is read as a file: it has not too many bytes.
-fn is_read(input: &[u8]) -> bool
-    ensures { result ≡ nat_le (length input.now) most_input }
-{
-    input.len() <= MOST_INPUT
 }

@@ -9,7 +9,7 @@ ghost use Rattle.sgb_requests.specs.declared.faults.Fault.{Fault};
 ghost use Rattle.sgb_requests.specs.declared.requests.Request.{Request};
 ghost use Rattle.sgb.specs.Outcomes.{IsAnswered, answer_of, reads_input};
 ghost use Rattle.sgb.specs.Runs.{IsRunFrom};
-ghost use Rattle.sgb.specs.Values.{IsValueOn};
+ghost use Rattle.sgb_values.specs.Values.{IsValueOn};
 ghost use Rattle.sgb.specs.Writing.{IsEndedFrom};
 
 /// A request that reads no input has the same answer whatever `stdin` is.

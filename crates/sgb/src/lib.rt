@@ -4,32 +4,27 @@
 
 // A program's answer, from standard input to its exit status.
 mod answers;
-// The graph of an expression.
-mod evaluation;
 // Standard input, read whole.
 mod input;
 // What holds of all answers.
 mod laws;
-// Accepted parameters of a generator.
-mod locals;
 // A call of the program: from its words to its exit status.
 mod program;
+// The moves of queens.
+mod queens;
 // A request answered.
 mod runs;
-// What is done with a generator's graph, whichever generator it is of.
-mod visits;
 // Names, listings, files and random numbers, written to a sink.
 mod writing;
 
 pub use answers::{Answer, run_answer};
-pub use evaluation::graph_of;
 pub use input::read_input;
 pub use laws::{answered_once_law, input_unread_law, run_endings_law};
-pub use locals::{Local, local_of};
 pub use program::{run_program, unread_fault};
 pub use runs::run;
 pub use sgb_expr::Expr;
+pub use sgb_gen::{Local, local_of};
 pub use sgb_requests::{Fault, Request, parse_expr, report, request, status};
-pub use visits::{Visit, Visitor};
+pub use sgb_values::graph_of;
 pub use writing::families::list_family;
 pub use writing::write_bytes;

@@ -7,7 +7,7 @@ ghost use Rattle.sgb.specs.Inputs.{LosesAtMost};
 ghost use Rattle.sgb.specs.Program.{AskForNoInput, IsProgramRun, unread_fault};
 ghost use Rattle.sgb_requests.specs.Requests.{IsCommandLineReadAs};
 ghost use Rattle.sgb.specs.Runs.{IsReported};
-ghost use Rattle.sgb.specs.Values.{most_input};
+ghost use Rattle.sgb_values.specs.Values.{most_input};
 
 use crate::runs::run;
 use sgb_file::{Sink, Source};

@@ -14,22 +14,23 @@ ghost use Rattle.sgb.specs.Outcomes.{IsAnswered, answer_from, answer_of, list_an
 ghost use Rattle.sgb.specs.Inputs.{LosesAtMost};
 ghost use Rattle.sgb.specs.Runs.{IsRunOn};
 ghost use Rattle.sgb.specs.Texts.{blocks, head};
-ghost use Rattle.sgb.specs.Values.{IsValueOn, generator_value, made, most_input, value_of};
+ghost use Rattle.sgb_gen.specs.Generators.{generator_value, made};
+ghost use Rattle.sgb_values.specs.Values.{IsValueOn, most_input, value_of};
 ghost use Rattle.sgb.specs.Writing.{IsEnded};
 
 use crate::answers::{Answer, run_answer};
-use crate::evaluation::{graph_from, queen_moves};
-use crate::locals::local_of;
+use crate::queens::queen_moves;
+use crate::writing::families::ListAnswer;
 use crate::writing::files::write_file;
 use crate::writing::flips::write_flip;
 use crate::writing::listing::{write_listing, write_titled_listing};
 use crate::writing::names::NamesAnswer;
-use crate::writing::resumed::list_resumed;
 use crate::writing::vertices::write_vertex_names;
-use sgb_expr::{Expr, Generator};
+use sgb_expr::Expr;
 use sgb_file::{Sink, Source};
-use sgb_gen::Links;
+use sgb_gen::{Generator, Links, local_of};
 use sgb_requests::{Fault, Request, Resume};
+use sgb_values::graph_from;
 use std::alloc::Global;
 
 /// Answers a request: writes its output to `out`, or the line of a fault to `errors`, and returns the exit status. The
@@ -194,7 +195,11 @@ fn answer_generator_list<W: Sink>(
 {
     let local = local_of(alloc, generator)?;
     let mut links = Links::new(alloc);
-    list_resumed(&local, resume, &mut links, out)
+    let answer = ListAnswer {
+        resume,
+        links: &mut links,
+    };
+    local.visit(answer, out)
 }
 
 // Writes the `.gb` file of an expression's graph.

@@ -10,11 +10,11 @@ use Rattle.sgb_graph.specs.Made.{graph_described}
 use Rattle.sgb_expr.specs.Expression.{Generated, expression_of}
 use Rattle.sgb_expr.specs.Expressions.{IsExpression}
 use Rattle.sgb_expr.specs.declared.expressions.Expr.{Expr}
-use Rattle.sgb_expr.specs.declared.expressions.Generator.{Generator}
+use Rattle.sgb_gen.specs.declared.params.Generator.{Generator}
 use Rattle.sgb_requests.specs.Reading.{IsReadAs}
 use Rattle.sgb_requests.specs.declared.faults.Fault.{Fault}
-use Rattle.sgb.specs.Values.{described, generator_value, made}
-use Rattle.sgb.specs.declared.locals.Local.{Local}
+use Rattle.sgb_gen.specs.Generators.{described, generator_value, made}
+use Rattle.sgb_gen.specs.declared.locals.Local.{Local}
 use Rattle.sgb_arrays.specs.declared.refusals.Wrong.TheVariants as wrong
 use Rattle.sgb_chunks.specs.Chunks.{AreChunkNames, AreChunkRows, HaveChunkNameLengths, HaveChunkRowLengths, IsChunkRefusal, IsThere, chunk_of, name_at}
 use Rattle.sgb_chunks.proofs.ChunkSteps.{length-chunk_starts}

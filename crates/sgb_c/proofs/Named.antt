@@ -11,7 +11,7 @@ use Rattle.sgb_requests.specs.Reading.{IsReadAs}
 use Rattle.sgb_requests.specs.declared.faults.Fault.{Fault}
 use Rattle.sgb_requests.specs.declared.faults.Fault.TheVariants as fault
 use Rattle.sgb_vec.specs.Results.{IsValue}
-use Rattle.sgb.specs.Values.{IsValueOn}
+use Rattle.sgb_values.specs.Values.{IsValueOn}
 use Rattle.sgb_vec.specs.declared.panics.Panic.TheVariants.{NoRoom}
 use Rattle.sgb_c.specs.Answers.{IsGraphNamed, number_of_fault}
 use Rattle.sgb_c.specs.Handles.{IsOpened}

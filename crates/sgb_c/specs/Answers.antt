@@ -8,7 +8,7 @@ use Rattle.sgb_vec.specs.declared.panics.Panic.{Panic}
 use Rattle.sgb_requests.specs.Reading.{IsReadAs}
 use Rattle.sgb_requests.specs.declared.faults.Fault.{Fault}
 use Rattle.sgb_requests.specs.declared.faults.Fault.TheVariants as fault
-use Rattle.sgb.specs.Values.{IsValueOn}
+use Rattle.sgb_values.specs.Values.{IsValueOn}
 use Rattle.sgb_arrays.specs.Names.{name_bytes}
 use Rattle.sgb_arrays.specs.Rows.{arcs_of}
 use Rattle.sgb_arrays.specs.declared.refusals.Wrong.{Wrong}

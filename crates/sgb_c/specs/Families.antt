@@ -6,10 +6,10 @@ use Rattle.sgb_vec.specs.declared.panics.Panic.TheVariants.{NoRoom}
 use Rattle.sgb_graph.specs.Graphs.{GraphData}
 use Rattle.sgb_expr.specs.Expression.{Expression, Generated}
 use Rattle.sgb_expr.specs.Expressions.{IsExpression, IsTooLarge}
-use Rattle.sgb_expr.specs.declared.expressions.Generator.{Generator}
+use Rattle.sgb_gen.specs.declared.params.Generator.{Generator}
 use Rattle.sgb_requests.specs.Reading.{IsReadAs}
 use Rattle.sgb_requests.specs.declared.faults.Fault.{Fault}
-use Rattle.sgb.specs.Values.{generator_value, made}
+use Rattle.sgb_gen.specs.Generators.{generator_value, made}
 use Rattle.sgb_arrays.specs.declared.refusals.Wrong.TheVariants as wrong
 use Rattle.sgb_chunks.specs.Chunks.{IsThere}
 use Rattle.sgb_c.specs.Answers.{number_of_fault, number_of_wrong}

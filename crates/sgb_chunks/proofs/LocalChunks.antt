@@ -14,20 +14,14 @@ use Rattle.sgb_gen.proofs.RisingVectors.{vertex_in_rising}
 use Rattle.sgb_gen.specs.LocalLists.{LocalArc, list_in}
 use Rattle.sgb_graph.specs.Graphs.{GraphData, chain_of}
 use Rattle.sgb_graph.specs.Made.{graph_described}
-use Rattle.sgb.proofs.LocalListings.{named_by_members}
-use Rattle.sgb.proofs.LocalChains.{SayList, chain_said}
-use Rattle.sgb.proofs.NamedMembers.{rest_from}
+use Rattle.sgb_gen.proofs.LocalChains.{SayList, chain_said}
+use Rattle.sgb_gen.proofs.VectorVertices.{named_by_members, rest_from, vertices_are_members}
 use Rattle.sgb_chunks.specs.Chunks.{AreChunkNames, IsChunkRefusal, IsThere, chunk_of, chunk_starts}
 use Rattle.sgb_chunks.specs.inner.VectorNames.{name_there}
 use Rattle.sgb_chunks.specs.declared.names.ChunkNames.{ChunkNames}
 use Rattle.sgb_requests.specs.declared.faults.Fault.{Fault}
 use Rattle.sgb_requests.specs.declared.faults.Fault.TheVariants as fault
 use Rattle.sgb_vec.specs.declared.panics.Panic.TheVariants.{NoRoom}
-
--- the graph has a vertex for each member
-pub vertices_are_members : (g : VectorGraph) (members : List (List ℕ)) → members ≡ g.vectors → length (graph_described (described_by g)).vertices ≡ length members
-vertices_are_members g members same =
-    sym (length-map (graph_described (described_by g)).vertices (λ x. x.name)) ∙ ap length (named_by_members g members same) ∙ length-map members name_of_vector
 
 -- the members after the one before a place are those from there on
 pub rest_from_place : (members : List (List ℕ)) → IsRising members → (place : ℕ) (x y : List ℕ) (found : Bool) (r : Option (List (List ℕ))) (rest : List (List ℕ))

@@ -4,7 +4,7 @@ ghost use Rattle.sgb_vec.specs.Limits.{most_dimensions};
 ghost use Rattle.sgb_vec.specs.Names.{name_of_vector};
 ghost use Rattle.sgb_gen.specs.VectorGraphs.{described_by};
 ghost use Rattle.sgb_graph.specs.Made.{graph_described};
-ghost use Rattle.sgb.specs.Values.{described};
+ghost use Rattle.sgb_gen.specs.Generators.{described};
 ghost use Rattle.sgb_chunks.specs.Chunks.{AreChunkNames, IsChunkRefusal, IsThere, chunk_of, chunk_starts};
 ghost use Rattle.sgb_chunks.specs.inner.VectorNames.{name_there};
 

@@ -6,7 +6,7 @@ ghost use Rattle.sgb_gen.specs.LocalLists.{LocalArc};
 ghost use Rattle.sgb_gen.specs.VectorGraphs.{described_by, vertex_among};
 ghost use Rattle.sgb_graph.specs.Made.{graph_described};
 ghost use Rattle.sgb_arrays.specs.declared.refusals.Wrong.TheVariants as wrong;
-ghost use Rattle.sgb.specs.Values.{described};
+ghost use Rattle.sgb_gen.specs.Generators.{described};
 ghost use Rattle.sgb_chunks.specs.Chunks.{AreChunkRows, IsChunkRefusal, IsThere};
 
 use crate::places::{has_chunk, vectors_from};

@@ -3,7 +3,7 @@ ghost use Rattle.std.specs.Prelude.{◌≡◌, length, IfOk, IsOkUnless, ⊤};
 ghost use Rattle.sgb_vec.specs.declared.panics.Panic.TheVariants.{NoRoom};
 ghost use Rattle.sgb_gen.specs.VectorGraphs.{described_by};
 ghost use Rattle.sgb_graph.specs.Made.{graph_described};
-ghost use Rattle.sgb.specs.Values.{described};
+ghost use Rattle.sgb_gen.specs.Generators.{described};
 
 use sgb::{Local, Visit, Visitor};
 use sgb_gen::{Links, Listed};

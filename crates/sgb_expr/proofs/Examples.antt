@@ -13,7 +13,7 @@ use Rattle.sgb_expr.specs.inner.Names.{generator_openings, openings}
 use Rattle.sgb_expr.specs.inner.Reading.{entries_at, expression_at, whole_at}
 use Rattle.sgb_expr.specs.inner.Readings.{bits_at}
 use Rattle.sgb_expr.specs.StdinUses.{has_stdin}
-use Rattle.sgb_expr.specs.declared.expressions.Generator.TheVariants.{Board, Simplex, Subsets}
+use Rattle.sgb_gen.specs.declared.params.Generator.TheVariants.{Board, Simplex, Subsets}
 use Rattle.sgb_expr.proofs.FlipReading.{reads_flip}
 use Rattle.sgb_expr.proofs.WholeReading.{whole_read}
 use Rattle.sgb_text.proofs.WholeWords.{word_whole}

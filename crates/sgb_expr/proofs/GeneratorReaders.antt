@@ -8,8 +8,8 @@ use Rattle.sgb_text.specs.Languages.{As}
 use Rattle.sgb_text.proofs.Readings.{read_as}
 use Rattle.sgb_expr.specs.inner.Readings.{integers_at}
 use Rattle.sgb_expr.specs.inner.Reading.{generator_at, subsets_at}
-use Rattle.sgb_expr.specs.declared.expressions.Generator.{Generator}
-use Rattle.sgb_expr.specs.declared.expressions.Generator.TheVariants as generator
+use Rattle.sgb_gen.specs.declared.params.Generator.{Generator}
+use Rattle.sgb_gen.specs.declared.params.Generator.TheVariants as generator
 use Rattle.sgb_expr.specs.declared.names.GeneratorName.{GeneratorName}
 use Rattle.sgb_expr.specs.declared.names.GeneratorName.TheVariants.{Board, Simplex, Subsets, Complete, Transitive, Empty, Circuit, Cycle, DisjointSubsets, Petersen}
 use Rattle.sgb_text.proofs.Readers.{Anything, Reads, reads_then, reads_as, reads_cons}

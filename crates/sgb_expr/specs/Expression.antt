@@ -4,7 +4,7 @@ use Rattle.sgb_expr.specs.declared.expressions.Expr.{Expr, Row_of-EntryExpr, end
 use Rattle.sgb_expr.specs.declared.expressions.Expr.TheVariants as expr
 use Rattle.sgb_expr.specs.declared.entries.EntryExpr.{EntryExpr}
 use Rattle.sgb_expr.specs.declared.entries.EntryExpr.TheVariants as entry
-use Rattle.sgb_expr.specs.declared.expressions.Generator.{Generator}
+use Rattle.sgb_gen.specs.declared.params.Generator.{Generator}
 
 mutual
   -- an expression that names a graph: a generator with its parameters, an operation on expressions, or standard input

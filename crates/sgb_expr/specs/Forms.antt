@@ -7,8 +7,8 @@ use Rattle.sgb_gen.specs.declared.params.BoardParams.{BoardParams}
 use Rattle.sgb_gen.specs.declared.params.SimplexParams.{SimplexParams}
 use Rattle.sgb_gen.specs.declared.params.SubsetsParams.{SubsetsParams}
 use Rattle.sgb_expr.specs.Numbers.{IsInteger, IsBits}
-use Rattle.sgb_expr.specs.declared.expressions.Generator.{Generator}
-use Rattle.sgb_expr.specs.declared.expressions.Generator.TheVariants as generator
+use Rattle.sgb_gen.specs.declared.params.Generator.{Generator}
+use Rattle.sgb_gen.specs.declared.params.Generator.TheVariants as generator
 use Rattle.sgb_expr.specs.declared.names.GeneratorName.{GeneratorName}
 use Rattle.sgb_expr.specs.declared.names.GeneratorName.TheVariants.{Board, Simplex, Subsets, Complete, Transitive, Empty, Circuit, Cycle, DisjointSubsets, Petersen}
 

@@ -6,13 +6,12 @@ ghost use Rattle.sgb_expr.specs.inner.Gives.{Finds};
 ghost use Rattle.sgb_expr.specs.inner.Reading.{generator_at, subsets_at};
 ghost use Rattle.sgb_expr.specs.inner.Readings.{integers_at};
 
-use crate::expressions::Generator;
 use crate::names::GeneratorName;
 use crate::numbers::{bits, integers};
 use crate::wrong::Mismatch;
 use sgb_gen::{
-    BoardParams, SimplexParams, SubsetsParams, circuit, complete, cycle, disjoint_subsets, empty,
-    petersen, transitive,
+    BoardParams, Generator, SimplexParams, SubsetsParams, circuit, complete, cycle, disjoint_subsets,
+    empty, petersen, transitive,
 };
 
 /// The graph of the generator whose name has been read, and the text after its `)`; or where the text goes wrong.

@@ -9,16 +9,8 @@ use crate::entries::Entries;
 use crate::measure::is_too_large;
 use crate::operations::expression;
 use crate::wrong::Wrong;
-use sgb_gen::{BoardParams, SimplexParams, SubsetsParams};
+use sgb_gen::Generator;
 use std::alloc::Global;
-
-/// A graph of one of the three generators, by its parameters.
-#[derive(Clone, Copy, Debug, PartialEq, Eq)]
-pub enum Generator {
-    Board(BoardParams),
-    Simplex(SimplexParams),
-    Subsets(SubsetsParams),
-}
 
 /// An expression that names a graph.
 #[cycle(expr)]

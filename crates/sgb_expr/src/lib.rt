@@ -24,6 +24,7 @@ mod stdin_uses;
 mod wrong;
 
 pub use entries::{Entries, EntryExpr};
-pub use expressions::{Expr, Generator, Unread, read_expr};
+pub use expressions::{Expr, Unread, read_expr};
 pub use flips::{FlipParams, read_flip};
+pub use sgb_gen::Generator;
 pub use stdin_uses::have_stdin;

@@ -82,6 +82,10 @@ pub mod TurnedLinks
 pub mod MoveLists
 -- the three generators' graphs as graphs of vectors
 pub mod ListedGraphs
+-- their vertices: names, lists, and the vectors after one
+pub mod VectorVertices
+-- their lists, by the arcs of the vectors
+pub mod LocalChains
 -- moves by one displacement, in order
 pub mod MovesInOrder
 -- those that touch a vector

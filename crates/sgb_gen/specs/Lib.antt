@@ -14,6 +14,8 @@ pub mod Boards
 pub mod Simplexes
 -- subsets: parameters, ids, graphs
 pub mod Subsets
+-- the three generators by one name
+pub mod Generators
 -- the list of arcs of one vertex
 pub mod LocalLists
 -- displacements by the coordinates that they move

@@ -3,11 +3,12 @@ ghost use Rattle.std.specs.Prelude.{◌≡◌, Err};
 ghost use Rattle.sgb_vec.specs.Bounds.{simplex_of};
 ghost use Rattle.sgb_graph.specs.Descriptions.{IsAnswerOf};
 ghost use Rattle.sgb_gen.specs.Boards.{board};
+ghost use Rattle.sgb_gen.specs.Generators.{IsGeneratorRefused, generator_value};
 ghost use Rattle.sgb_gen.specs.Simplexes.{simplex};
 ghost use Rattle.sgb_gen.specs.Subsets.{subsets};
 
 use crate::accepted::{Board, Simplex, Subsets};
-use crate::params::{BoardParams, SimplexParams, SubsetsParams};
+use crate::params::{BoardParams, Generator, SimplexParams, SubsetsParams};
 use sgb_graph::Graph;
 use sgb_vec::Panic;
 use std::alloc::Global;
@@ -157,5 +158,21 @@ impl SubsetsParams {
             → result ≡ Err e }
     {
         Subsets::from_params(alloc, self)?.graph(alloc)
+    }
+}
+
+impl Generator {
+    /// The graph of these parameters, as their generator returns it.
+    ///
+    /// Its refusal, whatever memory there is where that needs none; `NoRoom` when out of memory.
+    pub fn graph(&self, alloc: Global) -> Result<Graph, Panic>
+        ensures answer { IsAnswerOf (generator_value self.now) result }
+        ensures refused { (p : Panic) → IsGeneratorRefused self.now p → result ≡ Err p }
+    {
+        match self {
+            Generator::Board(params) => params.graph(alloc),
+            Generator::Simplex(params) => params.graph(alloc),
+            Generator::Subsets(params) => params.graph(alloc),
+        }
     }
 }

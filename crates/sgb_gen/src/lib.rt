@@ -15,6 +15,8 @@ mod laws;
 mod links;
 // What a listing asks of a generator's graph, with no graph.
 mod listed;
+// Accepted parameters of any generator.
+mod locals;
 // Where a piece moves on a board.
 mod moves;
 // The generators' parameters.
@@ -29,6 +31,8 @@ mod steps;
 mod vector_graphs;
 // The vectors of a family, found by search.
 mod vector_tables;
+// What is done with a generator's graph, whichever generator it is of.
+mod visits;
 
 pub use accepted::{Board, BoardLists, Run, Runs, Simplex, Subsets, common};
 pub use generators::{board, simplex, subsets};
@@ -38,5 +42,7 @@ pub use laws::{
 };
 pub use links::{Links, LocalArcRef};
 pub use listed::Listed;
-pub use params::{BoardParams, SimplexParams, SubsetsParams};
+pub use locals::{Local, local_of};
+pub use params::{BoardParams, Generator, SimplexParams, SubsetsParams};
 pub use shorthands::{circuit, complete, cycle, disjoint_subsets, empty, petersen, transitive};
+pub use visits::{Visit, Visitor};

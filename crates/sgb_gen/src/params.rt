@@ -48,3 +48,11 @@ pub struct SubsetsParams {
     pub size_bits: u128,
     pub directed: bool,
 }
+
+/// A graph of one of the three generators, by its parameters.
+#[derive(Clone, Copy, Debug, PartialEq, Eq)]
+pub enum Generator {
+    Board(BoardParams),
+    Simplex(SimplexParams),
+    Subsets(SubsetsParams),
+}

@@ -10,8 +10,8 @@ use Rattle.sgb_requests.specs.declared.faults.Fault.{Fault}
 use Rattle.sgb_requests.specs.declared.faults.Fault.TheVariants as fault
 use Rattle.sgb_vec.specs.Results.{IsValue}
 use Rattle.sgb_expr.specs.Expression.{Expression}
-use Rattle.sgb.specs.Values.{IsValueOn}
-use Rattle.sgb.proofs.StdinValues.{value_only}
+use Rattle.sgb_values.specs.Values.{IsValueOn}
+use Rattle.sgb_values.proofs.StdinValues.{value_only}
 use Rattle.sgb_levels.specs.Program.{AreLevelsOn}
 use Rattle.sgb.specs.Writing.{IsEnded, IsWritten}
 use Rattle.sgb.proofs.Endings.{change_of, memory_at_once, refused_at_once}

@@ -11,7 +11,8 @@ use Rattle.sgb_requests.specs.declared.faults.Fault.{Fault}
 use Rattle.sgb.specs.Inputs.{IsKeptOfInput}
 use Rattle.sgb.specs.Program.{unread_fault}
 use Rattle.sgb.specs.Runs.{Input, IsRunFrom}
-use Rattle.sgb.proofs.StdinValues.{kept_value, value_only}
+use Rattle.sgb.proofs.StdinValues.{kept_value}
+use Rattle.sgb_values.proofs.StdinValues.{value_only}
 use Rattle.sgb_levels.specs.Lines.{IsLevelsAnswer}
 use Rattle.sgb_levels.specs.Program.{AreLevelsOn, AreLevelsWritten, AskFor, IsLevelsRun, IsRefused}
 

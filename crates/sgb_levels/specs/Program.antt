@@ -11,7 +11,7 @@ use Rattle.sgb_requests.specs.Reading.{IsReadAs}
 use Rattle.sgb_requests.specs.declared.faults.Fault.{Fault}
 use Rattle.sgb_requests.specs.declared.faults.Fault.TheVariants as fault
 use Rattle.sgb.specs.Runs.{Input, IsRunFrom}
-use Rattle.sgb.specs.Values.{IsValueOn}
+use Rattle.sgb_values.specs.Values.{IsValueOn}
 use Rattle.sgb_levels.specs.Lines.{IsLevelsAnswer}
 
 -- what the words ask for, of which the first is the program's name: the expression that the only other one is read as; any

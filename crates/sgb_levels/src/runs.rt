@@ -10,7 +10,7 @@ ghost use Rattle.sgb_expr.specs.StdinUses.{has_stdin};
 ghost use Rattle.sgb_requests.specs.Faults.{status_of};
 ghost use Rattle.sgb.specs.Inputs.{LosesAtMost};
 ghost use Rattle.sgb.specs.Program.{unread_fault};
-ghost use Rattle.sgb.specs.Values.{most_input};
+ghost use Rattle.sgb_values.specs.Values.{most_input};
 ghost use Rattle.sgb.specs.Writing.{IsWritten};
 ghost use Rattle.sgb_levels.specs.Lines.{distance_text, level_line, level_lines, line_of_level};
 ghost use Rattle.sgb_levels.specs.Program.{AreLevelsOn, AskFor, AskForNoStdin, IsLevelsRun, IsRefused, refusal_line, levels_usage_line};

@@ -1,6 +1,6 @@
 //! A caller of `sgb_expr`, as its page for callers shows it.
-use sgb::graph_of;
 use sgb_expr::{Unread, read_expr};
+use sgb_values::graph_of;
 use sgb_vec::Panic;
 use std::alloc::Global;
 use std::test::Fail;

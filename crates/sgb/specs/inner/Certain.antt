@@ -3,10 +3,11 @@ use Rattle.std.specs.Prelude.{◌≡◌, ◌⊎◌}
 use Rattle.sgb_vec.specs.declared.panics.Panic.{Panic}
 use Rattle.sgb_gen.specs.declared.params.BoardParams.{BoardParams}
 use Rattle.sgb_expr.specs.declared.expressions.Expr.TheVariants as expr
-use Rattle.sgb_expr.specs.declared.expressions.Generator.{Generator}
-use Rattle.sgb_expr.specs.declared.expressions.Generator.TheVariants as generator
+use Rattle.sgb_gen.specs.declared.params.Generator.{Generator}
+use Rattle.sgb_gen.specs.declared.params.Generator.TheVariants as generator
 use Rattle.sgb_requests.specs.declared.requests.Resume.{Resume}
-use Rattle.sgb.specs.Certain.{BeginsNowhere, IsGeneratorRefused}
+use Rattle.sgb_gen.specs.Generators.{IsGeneratorRefused}
+use Rattle.sgb.specs.Certain.{BeginsNowhere}
 
 -- a generator is refused by what needs no memory
 abbrev pub IsRefusedGenerator : Generator → Type 0

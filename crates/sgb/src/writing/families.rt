@@ -7,7 +7,7 @@
 //!
 //! What puts the line of an arc together is inlined in one place (`push_arc`): a simplex takes a twentieth less time
 //! so.
-ghost use Rattle.std.specs.Prelude.{◌≡◌, ◌≢◌, ◌≤◌, ◌+◌, [], ◌++◌, false, pos, drop, length, option_map, reverse, Contains, IfErr, IfOk, IfSome, IsOkUnless, OnOk};
+ghost use Rattle.std.specs.Prelude.{◌≡◌, ◌≢◌, ◌≤◌, ◌+◌, [], ◌++◌, false, pos, drop, length, option_map, reverse, Contains, Err, IfErr, IfOk, IfSome, IsOkUnless, OnOk};
 ghost use Rattle.std.specs.List.{flat_map};
 ghost use Rattle.sgb_file.specs.Devices.{change};
 ghost use Rattle.sgb_vec.specs.Limits.{most_dimensions};
@@ -15,25 +15,26 @@ ghost use Rattle.sgb_vec.specs.Names.{name_of_vector};
 ghost use Rattle.sgb_gen.specs.Runs.{AreMoved, arc_along, arcs_along};
 ghost use Rattle.sgb_gen.specs.VectorGraphs.{described_by};
 ghost use Rattle.sgb_graph.specs.Made.{graph_described};
+ghost use Rattle.sgb_graph.specs.Vertices.{names_of};
 ghost use Rattle.sgb_requests.specs.declared.faults.Fault.TheVariants as fault;
-ghost use Rattle.sgb.specs.Locals.{family_text, head_if, start_after, vectors_of};
+ghost use Rattle.sgb_gen.specs.Generators.{vectors_of};
+ghost use Rattle.sgb.specs.Locals.{family_text, head_if, start_after};
 ghost use Rattle.sgb.specs.inner.Locals.{local_block, local_line};
 ghost use Rattle.sgb.specs.inner.Pages.{IsPaged, page_bytes};
 ghost use Rattle.sgb.specs.inner.Remaining.{IsRest};
 ghost use Rattle.sgb.specs.inner.Texts.{most_line_bytes};
 ghost use Rattle.sgb.specs.Texts.{head, name_line};
-ghost use Rattle.sgb.specs.Values.{described};
-ghost use Rattle.sgb.specs.Writing.{IsLeftOrBegun, IsWritten};
+ghost use Rattle.sgb_gen.specs.Generators.{described};
+ghost use Rattle.sgb.specs.Outcomes.{left_out, list_answer};
+ghost use Rattle.sgb.specs.Writing.{IsEnded, IsLeftOrBegun, IsWritten};
 
 use super::kept_names::KeptName;
 use super::listing::push_head_of;
 use super::pages::{Page, make_room, put_page};
-use super::resumed::vectors_after;
-use crate::locals::Local;
-use crate::visits::{Visit, Visitor};
+use super::resumed::{has_head, slice_of, start_of, vectors_after};
 use sgb_file::Sink;
-use sgb_gen::{Links, Listed, Runs};
-use sgb_requests::Fault;
+use sgb_gen::{Links, Listed, Local, Runs, Visit, Visitor};
+use sgb_requests::{Fault, Resume};
 use sgb_vec::{Family, Panic, Vectors};
 
 /// Writes the listing of a generator's graph, one arc list after another: the head where `head` asks for it, and a
@@ -93,7 +94,39 @@ impl<'a, 'l, L: Listed<'a>, W: Sink> Visit<'a, L, W> for FamilyListing<'l> {
     }
 }
 
-// The same of a graph by what a listing asks of it.
+/// The answer to a request for the listing of a generator's graph: the head, and a block for each vertex; or, where it
+/// begins further on, the blocks from there.
+///
+/// `NoVertex` where it is to begin after a name that no vertex has.
+#[derive(Drop)]
+pub(crate) struct ListAnswer<'l> {
+    /// Where it begins.
+    pub(crate) resume: &'l Resume,
+    /// Room for one list after another.
+    pub(crate) links: &'l mut Links,
+}
+
+impl<'l, W: Sink> Visitor<W> for ListAnswer<'l> {
+    type Answer = Result<(), Fault>;
+
+    ghost needs = { λ _ _ old. W.has_failed old ≡ false };
+
+    ghost gives = { λ v g old new result.
+        IsEnded (list_answer (graph_described (described_by g)) v.resume.now) (new ≡ old)
+        (change W.written W.has_failed old new) result
+        × (left_out (names_of (graph_described (described_by g))) v.resume.now ≡ Err fault.NoVertex
+        → result ≡ Err fault.NoVertex) };
+}
+
+impl<'a, 'l, L: Listed<'a>, W: Sink> Visit<'a, L, W> for ListAnswer<'l> {
+    fn visit(self, listed: &mut L, out: &mut W) -> Result<(), Fault> {
+        let start = start_of(listed.family(), self.resume)?;
+        listed.prepare(self.links);
+        list_vectors(listed, has_head(self.resume), slice_of(&start), self.links, out)
+    }
+}
+
+// Writes the listing of a graph by what a listing asks of it, as `list_family` does.
 fn list_vectors<'a, L: Listed<'a>, W: Sink>(
     listed: &mut L,
     head: bool,

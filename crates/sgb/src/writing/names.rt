@@ -12,9 +12,8 @@ ghost use Rattle.sgb.specs.Writing.{IsEnded, IsWritten};
 use super::kept_names::KeptName;
 use super::pages::{Page, put_page};
 use super::resumed::{slice_of, start_of, vectors_after};
-use crate::visits::{Visit, Visitor};
 use sgb_file::Sink;
-use sgb_gen::Listed;
+use sgb_gen::{Listed, Visit, Visitor};
 use sgb_requests::{Fault, Resume};
 use sgb_vec::{Family, Vectors};
 

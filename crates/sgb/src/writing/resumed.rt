@@ -2,83 +2,20 @@
 //!
 //! A name, or a number of vertices, is turned into the vector after which an answer begins (`start_of`, for names and
 //! for listings). So what `list_family` promises speaks of the graph alone.
-ghost use Rattle.std.specs.Prelude.{◌≡◌, false, drop, map, option_map, Contains, Err, IfSome, ⊤};
+ghost use Rattle.std.specs.Prelude.{◌≡◌, drop, map, option_map, Contains, Err, IfSome};
 ghost use Rattle.std.specs.Result.{MatchResult};
-ghost use Rattle.sgb_file.specs.Devices.{change};
 ghost use Rattle.sgb_graph.specs.Graphs.{GraphData};
-ghost use Rattle.sgb_graph.specs.Made.{graph_described};
 ghost use Rattle.sgb_vec.specs.Names.{name_of_vector};
-ghost use Rattle.sgb_graph.specs.Vertices.{names_of};
-ghost use Rattle.sgb.specs.Locals.{head_if, start_after, vectors_of};
-ghost use Rattle.sgb.specs.Outcomes.{head_for, left_out, list_answer};
+ghost use Rattle.sgb.specs.Locals.{head_if, start_after};
+ghost use Rattle.sgb.specs.Outcomes.{head_for, left_out};
 ghost use Rattle.sgb.specs.Texts.{head};
-ghost use Rattle.sgb.specs.Values.{described};
 ghost use Rattle.sgb.specs.inner.Remaining.{BeginsAfter, IsLastSkipped, IsMemberNamed};
-ghost use Rattle.sgb.specs.Writing.{IsEnded};
 
-use super::families::list_family;
-use crate::locals::Local;
-use crate::visits::{Visit, Visitor};
-use sgb_file::Sink;
-use sgb_gen::{Links, Listed};
 use sgb_requests::{Fault, Resume};
 use sgb_vec::{Family, Vector, Vectors, vector_of};
 
-/// Writes the listing of a generator's graph: the head, and a block for each vertex; or, where the answer begins further on,
-/// the blocks from there.
-///
-/// `NoVertex` where it is to begin after a name that no vertex has.
-pub(crate) fn list_resumed<W: Sink>(
-    local: &Local,
-    resume: &Resume,
-    links: &mut Links,
-    out: &mut W,
-) -> Result<(), Fault>
-    requires { W.has_failed out.old ≡ false }
-    ensures ended { IsEnded (list_answer (graph_described (described local.now)) resume.now)
-        (out.new ≡ out.old) (change W.written W.has_failed out.old out.new) result }
-    ensures nowhere { left_out (names_of (graph_described (described local.now))) resume.now
-        ≡ Err Fault.NoVertex
-        → result ≡ Err Fault.NoVertex }
-{
-    let start = start_in(local, resume)?;
-    list_family(local, has_head(resume), slice_of(&start), links, out)
-}
-
-// The vector of a generator's graph after which the answer begins, as `start_of` has it.
-fn start_in(local: &Local, resume: &Resume) -> Result<Option<Vector>, Fault>
-    ensures { MatchResult result
-        (λ start. BeginsAfter (vectors_of local.now) resume.now
-        (option_map (λ vector. vector.items) start))
-        (λ fault. left_out (map name_of_vector (vectors_of local.now)) resume.now ≡ Err fault) }
-{
-    local.visit(Start { resume }, &mut ())
-}
-
-// Where the answer begins in a generator's graph.
-#[derive(Drop)]
-struct Start<'r> {
-    resume: &'r Resume,
-}
-
-impl<'r> Visitor<()> for Start<'r> {
-    type Answer = Result<Option<Vector>, Fault>;
-
-    ghost needs = { λ _ _ _. ⊤ };
-
-    ghost gives = { λ v g _ _ result. MatchResult result
-        (λ start. BeginsAfter g.vectors v.resume.now (option_map (λ vector. vector.items) start))
-        (λ fault. left_out (map name_of_vector g.vectors) v.resume.now ≡ Err fault) };
-}
-
-impl<'a, 'r, L: Listed<'a>> Visit<'a, L, ()> for Start<'r> {
-    fn visit(self, listed: &mut L, _state: &mut ()) -> Result<Option<Vector>, Fault> {
-        start_of(listed.family(), self.resume)
-    }
-}
-
-// Whether the answer has a head: where it is not resumed.
-fn has_head(resume: &Resume) -> bool
+/// Whether the answer has a head: where it is not resumed.
+pub(super) fn has_head(resume: &Resume) -> bool
     ensures { (g : GraphData) → head_if result g ≡ head_for resume.now (head g) }
 {
     match resume {

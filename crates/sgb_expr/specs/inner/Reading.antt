@@ -7,8 +7,8 @@ use Rattle.sgb_expr.specs.inner.Operations.{Operands, complement_call, gunion_ca
 use Rattle.sgb_expr.specs.inner.Names.{generator_openings, openings}
 use Rattle.sgb_text.proofs.Readings.{◌>>=◌, either, or_else, then_read, read_after, read_as, fixed_as, word_at, whole_by}
 use Rattle.sgb_expr.specs.inner.Readings.{bits_at, integer_at, integers_at}
-use Rattle.sgb_expr.specs.declared.expressions.Generator.{Generator}
-use Rattle.sgb_expr.specs.declared.expressions.Generator.TheVariants as generator
+use Rattle.sgb_gen.specs.declared.params.Generator.{Generator}
+use Rattle.sgb_gen.specs.declared.params.Generator.TheVariants as generator
 use Rattle.sgb_expr.specs.declared.names.GeneratorName.{GeneratorName}
 use Rattle.sgb_expr.specs.declared.names.GeneratorName.TheVariants.{Board, Simplex, Subsets, Complete, Transitive, Empty, Circuit, Cycle, DisjointSubsets, Petersen}
 use Rattle.sgb_expr.specs.declared.names.FormName.{FormName}

@@ -1,5 +1,5 @@
 use Rattle.std.proofs.Common.{◌+◌, length, length-append, ap, arith, ◌≡◌, ◌≤◌, ◌-◌, ◌++◌, ℕ, List, take, Option, IfSome, append-nil}
-use Rattle.sgb.specs.Values.{most_input}
+use Rattle.sgb_values.specs.Values.{most_input}
 use Rattle.sgb.proofs.input.read_input.Goals as goal
 use Rattle.std.proofs.lemmas.List.{take_all}
 use Rattle.std.proofs.Math.Seq.{take-append_seam}

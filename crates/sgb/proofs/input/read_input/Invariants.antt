@@ -1,7 +1,7 @@
 -- What is gone from the source is kept, and where something is kept the source has not failed.
 use Rattle.std.proofs.Common.{◌≡◌, ◌≤◌, ◌<◌, ◌+◌, ◌-◌, false, length}
 use Rattle.std.specs.Io.KnownBytes.{Consumes}
-use Rattle.sgb.specs.Values.{most_input}
+use Rattle.sgb_values.specs.Values.{most_input}
 use Rattle.sgb.proofs.input.read_input.Given as goal
 
 abbrev pub invariant-loop-buffer : goal.invariant-loop-buffer

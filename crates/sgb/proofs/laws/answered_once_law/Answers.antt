@@ -1,6 +1,6 @@
 use Rattle.sgb.specs.Outcomes.{answer_of}
-use Rattle.sgb.specs.Values.{value_of}
-use Rattle.sgb.proofs.StdinValues.{some_on}
+use Rattle.sgb_values.specs.Values.{value_of}
+use Rattle.sgb_values.proofs.StdinValues.{some_on}
 use Rattle.sgb.proofs.laws.answered_once_law.Goals as goal
 
 pub returns : goal.returns

@@ -7,4 +7,4 @@ returns-in_err-local-clause-certain g c = λ needs.
 
 pub returns-clause-certain : goal.returns-clause-certain
 returns-clause-certain g c = λ needs.
-    listing_begun c.args.generator.now c.args.resume.now c.in_ok-local.local _ c.in_ok-local.ensures.value c.in_ok-local.ensures.refused c.list_resumed.ensures.nowhere needs
+    listing_begun c.args.generator.now c.args.resume.now c.in_ok-local.local _ c.in_ok-local.ensures.value c.in_ok-local.ensures.refused c.visit.ensures.1 needs

@@ -1,6 +1,6 @@
 use Rattle.std.proofs.Common.{refl}
-use Rattle.sgb.specs.Values.{generator_value, made}
-use Rattle.sgb.proofs.StdinValues.{generated_on}
+use Rattle.sgb_gen.specs.Generators.{generator_value, made}
+use Rattle.sgb_values.proofs.StdinValues.{generated_on}
 use Rattle.sgb.proofs.CertainAnswers.{at_once_other, at_once_unmade, exit_panic, listing_of_generator, listing_of_graph}
 use Rattle.sgb.proofs.Endings.{ended_value, refused_value}
 use Rattle.sgb.proofs.runs.answer_list.Goals as goal

@@ -1,6 +1,7 @@
 use Rattle.sgb.proofs.CertainAnswers.{certain_run}
 use Rattle.sgb.proofs.Refusals.{answer_own}
-use Rattle.sgb.proofs.StdinValues.{kept_answer, stdin_given}
+use Rattle.sgb.proofs.StdinValues.{kept_answer}
+use Rattle.sgb_values.proofs.StdinValues.{stdin_given}
 use Rattle.sgb.specs.Outcomes.{answer_of}
 use Rattle.std.proofs.Common.{refl}
 use Rattle.sgb.proofs.runs.run.Goals as goal

@@ -5,7 +5,7 @@ use Rattle.sgb_requests.specs.declared.requests.Request.{Request}
 use Rattle.sgb.specs.FlipAnswers.{flip_answer}
 use Rattle.sgb.specs.Outcomes.{answer_from, answer_of, list_answer, names_answer, queen_moves, queen_title}
 use Rattle.sgb.specs.Texts.{blocks, head}
-use Rattle.sgb.specs.Values.{value_of}
+use Rattle.sgb_values.specs.Values.{value_of}
 use Rattle.sgb.proofs.StdinValues.{made_answered, plain_answered}
 use Rattle.sgb.proofs.runs.write_answer.Goals as goal
 

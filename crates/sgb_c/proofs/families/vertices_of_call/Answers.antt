@@ -1,6 +1,6 @@
 use Rattle.std.proofs.Common.{◌∙◌}
 use Rattle.sgb_graph.specs.Made.{graph_described}
-use Rattle.sgb.specs.Values.{described}
+use Rattle.sgb_gen.specs.Generators.{described}
 use Rattle.sgb_c.proofs.CallGraphs.{graph_of_call}
 use Rattle.sgb_c.proofs.families.vertices_of_call.Goals as goal
 

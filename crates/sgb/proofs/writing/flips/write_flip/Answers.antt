@@ -1,6 +1,6 @@
 use Rattle.std.proofs.Common.{rules}
 use Rattle.sgb.proofs.CertainAnswers.{exit_panic, write_certain}
-use Rattle.sgb.proofs.FirstRefusals.{other_code}
+use Rattle.sgb_values.proofs.FirstRefusals.{other_code}
 use Rattle.sgb.proofs.Refusals.{draws_judged}
 use Rattle.sgb.proofs.writing.flips.write_flip.Goals as goal
 

@@ -1,4 +1,4 @@
-use Rattle.sgb.proofs.NamedMembers.{rest_from}
+use Rattle.sgb_gen.proofs.VectorVertices.{rest_from}
 use Rattle.sgb.proofs.writing.resumed.vectors_after.Goals as goal
 
 pub returns-in-Some : goal.returns-in-Some

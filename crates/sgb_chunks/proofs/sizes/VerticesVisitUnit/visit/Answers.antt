@@ -1,5 +1,5 @@
 use Rattle.std.proofs.Common.{◌∙◌, sym}
-use Rattle.sgb_chunks.proofs.LocalChunks.{vertices_are_members}
+use Rattle.sgb_gen.proofs.VectorVertices.{vertices_are_members}
 use Rattle.sgb_chunks.proofs.sizes.VerticesVisitUnit.visit.Goals as goal
 
 pub returns : goal.returns

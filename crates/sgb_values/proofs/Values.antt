@@ -1,0 +1,110 @@
+-- Values of expressions, from those of their operands.
+use Rattle.std.proofs.Common.{arith, ◌≡◌, ◌+◌, ℕ, Result, Ok, Err, ap, refl, ◌||◌, ◌++◌, Bool, Box, Global, List, [], ◌∷◌, ◌∙◌, append_assoc}
+use Rattle.sgb_vec.specs.Results.{and_then, IsValue}
+use Rattle.sgb_vec.specs.declared.panics.Panic.{Panic}
+use Rattle.sgb_graph.specs.Descriptions.{Description, IsAnswerOf}
+use Rattle.sgb_graph.proofs.Described.{described_only}
+use Rattle.sgb_graph.specs.Graphs.{GraphData}
+use Rattle.sgb_expr.specs.Expression.{Expression, Generated, Complement, Gunion, Intersection, Lines, Product, Induced, BiComplete, Wheel, Stdin, Entry, Number, Graph, Entries, NoEntries, EntryThen, expression_of, entries_of}
+use Rattle.sgb_expr.specs.declared.expressions.Expr.{Expr}
+use Rattle.sgb_gen.specs.Generators.{made}
+use Rattle.sgb_values.specs.Values.{both, value_of, values_of}
+use Rattle.sgb_ops.specs.Induced.{induced_of}
+use Rattle.sgb_expr.proofs.CodeExpressions.{induced_is}
+use Rattle.sgb_expr.specs.CodeEntries.{items_of}
+use Rattle.sgb_expr.specs.Listed.{listed}
+use Rattle.sgb_expr.specs.StdinUses.{entries_have_stdin, has_stdin}
+use Rattle.sgb_expr.specs.declared.expressions.Expr.TheVariants as expr
+use Rattle.sgb_expr.specs.declared.entries.Entries as code_entries
+use Rattle.sgb_expr.specs.declared.entries.EntryExpr.{EntryExpr}
+use Rattle.sgb_ops.specs.declared.entries.Entry as handed
+
+-- what an operation or a generator returns is the graph that is described
+pub value_made : (value : Result Description Panic) (r : Result GraphData Panic) → IsAnswerOf value r → IsValue (made value) r
+value_made value r is = grind (arith, described_only)
+
+-- what is made of an operand
+pub value_then : {T U : Type 0} (operand : Result T Panic) (x : T) (make : T → Result U Panic) (r : Result U Panic)
+    → operand ≡ Ok x → IsValue (make x) r → IsValue (and_then operand make) r
+value_then operand x make r e is = rw e is
+
+-- two operands, one after the other
+pub value_both : {T U : Type 0} (first : Result T Panic) (second : Result U Panic) (x : T) (y : U) → first ≡ Ok x → second ≡ Ok y → both first second ≡ Ok (x, y)
+value_both first second x y e f = rw (e, f) refl
+
+-- the first one's refusal
+pub first_refused : {T U V : Type 0} (first : Result T Panic) (second : Result U Panic) (make : T × U → Result V Panic) (p : Panic) → IsValue first (Err p) → IsValue (and_then (both first second) make) (Err p)
+first_refused first second make p h = grind (arith)
+
+-- the second one's refusal
+pub both_refused : {T U : Type 0} (first : Result T Panic) (second : Result U Panic) (x : T) (p : Panic) → first ≡ Ok x → IsValue second (Err p) → IsValue (both first second) (Err p)
+both_refused first second x p e h = grind (arith)
+
+-- the value of an operation on an operand that stands in a box, and on two
+pub value_one : (make : GraphData → Result Description Panic) (stdin : Result GraphData Panic) (e f : Expr) (g : GraphData) (r : Result GraphData Panic) → e ≡ f → value_of stdin (expression_of e) ≡ Ok g
+    → IsAnswerOf (make g) r → IsValue (and_then (value_of stdin (expression_of f)) (λ x. made (make x))) r
+value_one make stdin e f g r same is answer = rw (← same, is) (value_made (make g) r answer)
+
+pub value_two : (make : GraphData → GraphData → Result Description Panic) (stdin : Result GraphData Panic) (e f e' f' : Expr) (operands : GraphData × GraphData) (r : Result GraphData Panic) → e ≡ e' → f ≡ f'
+    → both (value_of stdin (expression_of e)) (value_of stdin (expression_of f)) ≡ Ok operands
+    → IsAnswerOf (make operands.0 operands.1) r → IsValue (and_then (both (value_of stdin (expression_of e')) (value_of stdin (expression_of f'))) (λ x. made (make x.0 x.1))) r
+value_two make stdin e f e' f' operands r same alike is answer = rw (← same, ← alike, is) (value_made (make operands.0 operands.1) r answer)
+
+abbrev mutual
+  -- how large an expression is: larger than its operands together
+  pub size_of : Expression → ℕ
+  size_of (Generated f) = 1
+  size_of (Complement e copy self_loops directed) = size_of e + 1
+  size_of (Gunion e f multi directed) = size_of e + size_of f + 2
+  size_of (Intersection e f multi directed) = size_of e + size_of f + 2
+  size_of (Lines e directed) = size_of e + 1
+  size_of (Product e f kind directed) = size_of e + size_of f + 2
+  size_of (Induced e entries self_loops multi directed) = size_of e + size_of_entries entries + 2
+  size_of (BiComplete n1 n2 directed) = 1
+  size_of (Wheel n n1 directed) = 1
+  size_of Stdin = 1
+
+  -- how large an entry is
+  pub size_of_entry : Entry → ℕ
+  size_of_entry (Number n) = 0
+  size_of_entry (Graph e) = size_of e + 1
+
+  -- how large entries are together
+  pub size_of_entries : Entries → ℕ
+  size_of_entries NoEntries = 0
+  size_of_entries (EntryThen first others) = size_of_entry first + size_of_entries others
+
+-- these values and then others
+abbrev pub and_values : {T : Type 0} → List T → Result (List T) Panic → Result (List T) Panic
+and_values done rest = and_then rest (λ others. Ok (done ++ others))
+
+-- one more of them
+pub one_more : {T : Type 0} (done : List T) (value : T) (first : Result T Panic) (others : Result (List T) Panic) → first ≡ Ok value
+    → and_values (done ++ value ∷ []) others ≡ and_values done (and_then (both first others) (λ p. Ok (p.0 ∷ p.1)))
+one_more done value first others e = grind (arith, append_assoc)
+
+-- the value of an induced graph of the code, of which the graph and the entries are known
+pub induced_value : (stdin : Result GraphData Panic) (e f : Expr) (es : List EntryExpr) (g : GraphData) (values : Result (List handed.Entry) Panic) (r : Result GraphData Panic) (graph : Box Expr Global) (entries : code_entries.Entries)
+    (self_loops multi directed : Bool) → e ≡ expr.Induced graph entries self_loops multi directed → f ≡ graph.value → es ≡ items_of entries
+    → value_of stdin (expression_of f) ≡ Ok g → values ≡ values_of stdin (entries_of (listed es)) → IsValue (and_then values (λ list. made (induced_of g list self_loops multi directed))) r
+    → IsValue (value_of stdin (expression_of e)) r
+induced_value stdin e f es g values r graph entries self_loops multi directed is alike same one all h =
+    let whole = ap (λ x. value_of stdin (expression_of x)) is ∙ ap (value_of stdin) (induced_is graph entries self_loops multi directed) in
+    grind (arith)
+
+-- its size
+pub induced_size : (e : Expr) (graph : Box Expr Global) (entries : code_entries.Entries) (self_loops multi directed : Bool) → e ≡ expr.Induced graph entries self_loops multi directed
+    → size_of (expression_of e) ≡ size_of (expression_of graph.value) + size_of_entries (entries_of (listed (items_of entries))) + 2
+induced_size e graph entries self_loops multi directed is =
+    ap (λ x. size_of (expression_of x)) is ∙ ap size_of (induced_is graph entries self_loops multi directed)
+
+-- whether it reads standard input
+pub induced_reads : (e f : Expr) (es : List EntryExpr) (graph : Box Expr Global) (entries : code_entries.Entries) (self_loops multi directed : Bool) → e ≡ expr.Induced graph entries self_loops multi directed
+    → f ≡ graph.value → es ≡ items_of entries → has_stdin (expression_of e) ≡ (has_stdin (expression_of f) || entries_have_stdin (entries_of (listed es)))
+induced_reads e f es graph entries self_loops multi directed is alike same =
+    let whole = ap (λ x. has_stdin (expression_of x)) is ∙ ap has_stdin (induced_is graph entries self_loops multi directed) in
+    grind (arith)
+
+-- a refusal of what something is made of
+pub then_refused : {T U : Type 0} (v : Result T Panic) (make : T → Result U Panic) (p : Panic) → IsValue v (Err p) → IsValue (and_then v make) (Err p)
+then_refused v make p h = grind (arith)

@@ -1,0 +1,244 @@
+use Rattle.std.proofs.Common.{◌≡◌, ◌||◌, ◌∙◌, ◌++◌, ℤ, List, [], ◌∷◌, map, Result, Ok, Err, refl, ap, sym, subst, w64, rules, arith, inr, ℕ, Bool, IfOk}
+use Rattle.std.proofs.lemmas.Result.{err_from_is_err_and}
+use Rattle.std.proofs.lemmas.Int.{to_z-of_z}
+use Rattle.std.proofs.lemmas.List.{map-append}
+use Rattle.sgb_vec.specs.declared.panics.Panic.{Panic}
+use Rattle.sgb_graph.specs.Descriptions.{Description, IsAnswerOf}
+use Rattle.sgb_graph.specs.Graphs.{GraphData}
+use Rattle.sgb_expr.specs.Listed.{listed}
+use Rattle.sgb_expr.specs.Expression.{entries_of, expression_of, Expression, Entries}
+use Rattle.sgb_expr.specs.StdinUses.{entries_have_stdin, has_stdin}
+use Rattle.sgb_expr.specs.declared.entries.EntryExpr.{EntryExpr}
+use Rattle.sgb_ops.specs.Induced.{induced_of}
+use Rattle.sgb_ops.specs.declared.entries.Entry.{Entry}
+use Rattle.sgb_ops.specs.Complement.{complement_of}
+use Rattle.sgb_ops.specs.Gunion.{gunion_of}
+use Rattle.sgb_ops.specs.Intersection.{intersection_of}
+use Rattle.sgb_ops.specs.Lines.{line_graph_of}
+use Rattle.sgb_ops.specs.Product.{product_graph_of}
+use Rattle.sgb_ops.specs.BiComplete.{accepted_parts, bi_complete_of}
+use Rattle.sgb_ops.specs.Wheel.{accepted_middle, wheel_of}
+use Rattle.sgb_vec.specs.Results.{IsValue}
+use Rattle.sgb_gen.specs.Generators.{made}
+use Rattle.sgb_values.specs.Values.{value_of, values_of}
+use Rattle.sgb_values.specs.inner.EntryValues.{handed_entry}
+use Rattle.sgb_values.specs.inner.Inputs.{left_after}
+use Rattle.sgb_values.proofs.Values.{and_values, both_refused, induced_reads, induced_size, induced_value, one_more, size_of_entries, then_refused, value_both, value_made, value_one, value_two}
+use Rattle.sgb_values.proofs.FirstRefusals.{exit_first, made_first, made_operands, numbers_refused}
+use Rattle.sgb_values.proofs.evaluation.+graphs.Goals as goal
+use Rattle.sgb_values.proofs.StdinValues.{value_same, values_same}
+
+-- an expression has the same value on what is left for it
+value_on : (more first again : Bool) (old mid : List ℕ) (stdin : List ℕ → Result GraphData Panic) (e : Expression) → again ≡ (more || has_stdin e) → mid ≡ left_after again first old
+    → value_of (stdin mid) e ≡ value_of (stdin old) e
+value_on more first again old mid stdin e told left = grind (arith, value_same)
+
+-- entries have the same values on what is left for them
+values_on : (more first again : Bool) (old mid : List ℕ) (stdin : List ℕ → Result GraphData Panic) (es : Entries) → again ≡ (more || entries_have_stdin es) → mid ≡ left_after again first old
+    → values_of (stdin mid) es ≡ values_of (stdin old) es
+values_on more first again old mid stdin es told left = grind (arith, values_same)
+
+-- what both leave, of which the first was told whether the second reads
+left_on : (more first again : Bool) (old mid : List ℕ) (second : Bool) (new : List ℕ) → again ≡ (more || second) → mid ≡ left_after again first old → new ≡ left_after more second mid
+    → new ≡ left_after more (first || second) old
+left_on more first again old mid second new told left after = grind arith
+
+-- what holds of any result holds of a good one
+if_ok : {T E : Type 0} (r : Result T E) (P : Type 0) → P → IfOk r (λ _. P)
+if_ok r P p = grind (arith)
+
+pub evaluate-returns-in-Generator-clause-value : goal.evaluate-returns-in-Generator-clause-value
+evaluate-returns-in-Generator-clause-value t c =
+    rw c.in-Generator.is (λ stdin gives. value_made _ _ c.graph.ensures.answer)
+
+pub evaluate-returns-in_ok-operand-in-Complement-clause-value : goal.evaluate-returns-in_ok-operand-in-Complement-clause-value
+evaluate-returns-in_ok-operand-in-Complement-clause-value t c =
+    let a = c.in-Complement in
+    rw a.is (λ stdin gives. value_one (λ g. complement_of g a.copy a.self_loops a.directed) (stdin c.args.input.now) _ a.graph.value _ _ c.deref.ensures (c.in_ok-operand-in-Complement.ensures.value stdin gives) c.complement.ensures)
+
+pub evaluate-returns-in_ok-left-in-Gunion-clause-value : goal.evaluate-returns-in_ok-left-in-Gunion-clause-value
+evaluate-returns-in_ok-left-in-Gunion-clause-value t c =
+    let a = c.in-Gunion in
+    rw a.is (λ stdin gives. value_two (λ g h. gunion_of g h a.multi a.directed) (stdin c.args.input.now) _ _ a.first.value a.second.value _ _ c.deref-in-Gunion.ensures c.deref-in-Gunion-2.ensures (c.in_ok-left-in-Gunion.ensures.value stdin gives) c.gunion.ensures)
+
+pub evaluate-returns-in_ok-left-in-Intersection-clause-value : goal.evaluate-returns-in_ok-left-in-Intersection-clause-value
+evaluate-returns-in_ok-left-in-Intersection-clause-value t c =
+    let a = c.in-Intersection in
+    rw a.is (λ stdin gives. value_two (λ g h. intersection_of g h a.multi a.directed) (stdin c.args.input.now) _ _ a.first.value a.second.value _ _ c.deref-in-Intersection.ensures c.deref-in-Intersection-2.ensures (c.in_ok-left-in-Intersection.ensures.value stdin gives) c.intersection.ensures)
+
+pub evaluate-returns-in_ok-operand-in-Lines-clause-value : goal.evaluate-returns-in_ok-operand-in-Lines-clause-value
+evaluate-returns-in_ok-operand-in-Lines-clause-value t c =
+    let a = c.in-Lines in
+    rw a.is (λ stdin gives. value_one (λ g. line_graph_of g a.directed) (stdin c.args.input.now) _ a.graph.value _ _ c.deref-in-Lines.ensures (c.in_ok-operand-in-Lines.ensures.value stdin gives) c.lines.ensures)
+
+pub evaluate-returns-in_ok-left-in-Product-clause-value : goal.evaluate-returns-in_ok-left-in-Product-clause-value
+evaluate-returns-in_ok-left-in-Product-clause-value t c =
+    let a = c.in-Product in
+    rw a.is (λ stdin gives. value_two (λ g h. product_graph_of g h a.kind a.directed) (stdin c.args.input.now) _ _ a.first.value a.second.value _ _ c.deref-in-Product.ensures c.deref-in-Product-2.ensures (c.in_ok-left-in-Product.ensures.value stdin gives)
+    (subst (λ kind. IsAnswerOf (product_graph_of c.in_ok-left-in-Product.left c.in_ok-left-in-Product.right kind a.directed) c.product.result) (to_z-of_z w64 a.kind (search rules)) c.product.ensures.answer))
+
+-- the answer to two integers that stand for themselves
+at_numbers : (make : ℤ → ℤ → Result Description Panic) (m n m' n' : ℤ) (r : Result GraphData Panic) → m' ≡ m → n' ≡ n → IsAnswerOf (make m' n') r → IsAnswerOf (make m n) r
+at_numbers make m n m' n' r e f is = subst (λ k. IsAnswerOf (make m k) r) f (subst (λ k. IsAnswerOf (make k n') r) e is)
+
+pub evaluate-returns-in-BiComplete-clause-value : goal.evaluate-returns-in-BiComplete-clause-value
+evaluate-returns-in-BiComplete-clause-value t c = search (rules, value_made, bi_complete_of, at_numbers, to_z-of_z)
+
+pub evaluate-returns-in-Wheel-clause-value : goal.evaluate-returns-in-Wheel-clause-value
+evaluate-returns-in-Wheel-clause-value t c = search (rules, value_made, wheel_of, at_numbers, to_z-of_z)
+
+pub evaluate-returns-in-Stdin-clause-value : goal.evaluate-returns-in-Stdin-clause-value
+evaluate-returns-in-Stdin-clause-value t c =
+    rw c.in-Stdin.is (λ stdin gives. c.read_kept.ensures.value (stdin c.args.input.now) (gives c.args.input.now))
+
+pub evaluate-returns-in-Generator-clause-refused : goal.evaluate-returns-in-Generator-clause-refused
+evaluate-returns-in-Generator-clause-refused t c =
+    rw c.in-Generator.is c.graph.ensures.refused
+
+pub evaluate-returns-in_err-operand-in-Complement-clause-refused : goal.evaluate-returns-in_err-operand-in-Complement-clause-refused
+evaluate-returns-in_err-operand-in-Complement-clause-refused t c =
+    rw c.in-Complement.is (exit_first c.args.input.now c.deref.result.now c.in-Complement.graph.value _ _ c.from_residual.ensures.1 c.deref.ensures c.in_err-operand-in-Complement.ensures.refused)
+
+pub evaluate-returns-in_ok-operand-in-Complement-clause-refused : goal.evaluate-returns-in_ok-operand-in-Complement-clause-refused
+evaluate-returns-in_ok-operand-in-Complement-clause-refused t c =
+    rw c.in-Complement.is (made_first c.args.input.now c.deref.result.now c.in-Complement.graph.value _ _ c.deref.ensures c.in_ok-operand-in-Complement.ensures.refused)
+
+pub evaluate-returns-in_err-left-in-Gunion-clause-refused : goal.evaluate-returns-in_err-left-in-Gunion-clause-refused
+evaluate-returns-in_err-left-in-Gunion-clause-refused t c =
+    rw c.in-Gunion.is (exit_first c.args.input.now c.deref-in-Gunion.result.now c.in-Gunion.first.value _ _ c.from_residual-in_err-left-in-Gunion.ensures.1 c.deref-in-Gunion.ensures c.in_err-left-in-Gunion.ensures.refused)
+
+pub evaluate-returns-in_ok-left-in-Gunion-clause-refused : goal.evaluate-returns-in_ok-left-in-Gunion-clause-refused
+evaluate-returns-in_ok-left-in-Gunion-clause-refused t c =
+    rw c.in-Gunion.is (made_first c.args.input.now c.deref-in-Gunion.result.now c.in-Gunion.first.value _ _ c.deref-in-Gunion.ensures c.in_ok-left-in-Gunion.ensures.refused)
+
+pub evaluate-returns-in_err-left-in-Intersection-clause-refused : goal.evaluate-returns-in_err-left-in-Intersection-clause-refused
+evaluate-returns-in_err-left-in-Intersection-clause-refused t c =
+    rw c.in-Intersection.is (exit_first c.args.input.now c.deref-in-Intersection.result.now c.in-Intersection.first.value _ _ c.from_residual-in_err-left-in-Intersection.ensures.1 c.deref-in-Intersection.ensures c.in_err-left-in-Intersection.ensures.refused)
+
+pub evaluate-returns-in_ok-left-in-Intersection-clause-refused : goal.evaluate-returns-in_ok-left-in-Intersection-clause-refused
+evaluate-returns-in_ok-left-in-Intersection-clause-refused t c =
+    rw c.in-Intersection.is (made_first c.args.input.now c.deref-in-Intersection.result.now c.in-Intersection.first.value _ _ c.deref-in-Intersection.ensures c.in_ok-left-in-Intersection.ensures.refused)
+
+pub evaluate-returns-in_err-operand-in-Lines-clause-refused : goal.evaluate-returns-in_err-operand-in-Lines-clause-refused
+evaluate-returns-in_err-operand-in-Lines-clause-refused t c =
+    rw c.in-Lines.is (exit_first c.args.input.now c.deref-in-Lines.result.now c.in-Lines.graph.value _ _ c.from_residual-in_err-operand-in-Lines.ensures.1 c.deref-in-Lines.ensures c.in_err-operand-in-Lines.ensures.refused)
+
+pub evaluate-returns-in_ok-operand-in-Lines-clause-refused : goal.evaluate-returns-in_ok-operand-in-Lines-clause-refused
+evaluate-returns-in_ok-operand-in-Lines-clause-refused t c =
+    rw c.in-Lines.is (made_first c.args.input.now c.deref-in-Lines.result.now c.in-Lines.graph.value _ _ c.deref-in-Lines.ensures c.in_ok-operand-in-Lines.ensures.refused)
+
+pub evaluate-returns-in_err-left-in-Product-clause-refused : goal.evaluate-returns-in_err-left-in-Product-clause-refused
+evaluate-returns-in_err-left-in-Product-clause-refused t c =
+    rw c.in-Product.is (exit_first c.args.input.now c.deref-in-Product.result.now c.in-Product.first.value _ _ c.from_residual-in_err-left-in-Product.ensures.1 c.deref-in-Product.ensures c.in_err-left-in-Product.ensures.refused)
+
+pub evaluate-returns-in_ok-left-in-Product-clause-refused : goal.evaluate-returns-in_ok-left-in-Product-clause-refused
+evaluate-returns-in_ok-left-in-Product-clause-refused t c =
+    rw c.in-Product.is (made_first c.args.input.now c.deref-in-Product.result.now c.in-Product.first.value _ _ c.deref-in-Product.ensures c.in_ok-left-in-Product.ensures.refused)
+
+pub evaluate-returns-in_err-operand-in-Induced-clause-refused : goal.evaluate-returns-in_err-operand-in-Induced-clause-refused
+evaluate-returns-in_err-operand-in-Induced-clause-refused t c =
+    rw c.in-Induced.is (exit_first c.args.input.now c.deref-in-Induced.result.now c.in-Induced.graph.value _ _ c.from_residual-in_err-operand-in-Induced.ensures.1 c.deref-in-Induced.ensures c.in_err-operand-in-Induced.ensures.refused)
+
+pub evaluate-returns-in_ok-list-in-Induced-clause-refused : goal.evaluate-returns-in_ok-list-in-Induced-clause-refused
+evaluate-returns-in_ok-list-in-Induced-clause-refused t c =
+    rw c.in-Induced.is (made_first c.args.input.now c.deref-in-Induced.result.now c.in-Induced.graph.value _ _ c.deref-in-Induced.ensures c.in_ok-operand-in-Induced.ensures.refused)
+
+pub evaluate-returns-in_err-values-in-Induced-clause-refused : goal.evaluate-returns-in_err-values-in-Induced-clause-refused
+evaluate-returns-in_err-values-in-Induced-clause-refused t c =
+    rw c.in-Induced.is (made_first c.args.input.now c.deref-in-Induced.result.now c.in-Induced.graph.value _ _ c.deref-in-Induced.ensures c.in_ok-operand-in-Induced.ensures.refused)
+
+pub evaluate-returns-in_err-list-in-Induced-clause-refused : goal.evaluate-returns-in_err-list-in-Induced-clause-refused
+evaluate-returns-in_err-list-in-Induced-clause-refused t c =
+    rw c.in-Induced.is (made_first c.args.input.now c.deref-in-Induced.result.now c.in-Induced.graph.value _ _ c.deref-in-Induced.ensures c.in_ok-operand-in-Induced.ensures.refused)
+
+pub evaluate-returns-in-BiComplete-clause-refused : goal.evaluate-returns-in-BiComplete-clause-refused
+evaluate-returns-in-BiComplete-clause-refused t c = search (rules, numbers_refused, accepted_parts, to_z-of_z)
+
+pub evaluate-returns-in-Wheel-clause-refused : goal.evaluate-returns-in-Wheel-clause-refused
+evaluate-returns-in-Wheel-clause-refused t c = search (rules, numbers_refused, accepted_middle, to_z-of_z)
+
+pub evaluate-returns-in-Stdin-clause-refused : goal.evaluate-returns-in-Stdin-clause-refused
+evaluate-returns-in-Stdin-clause-refused t c =
+    rw c.in-Stdin.is c.read_kept.ensures.refused
+
+pub evaluate-values_of-requires : goal.evaluate-values_of-requires
+evaluate-values_of-requires t c = search (rules, induced_size, size_of_entries, entries_of, listed)
+
+pub evaluate-returns-in_err-values-in-Induced-clause-value : goal.evaluate-returns-in_err-values-in-Induced-clause-value
+evaluate-returns-in_err-values-in-Induced-clause-value t c = λ stdin gives.
+    let a = c.in-Induced in
+    let p = err_from_is_err_and c.from_residual-in_err-values-in-Induced.result c.from_residual-in_err-values-in-Induced.ensures.1 in
+    let same = values_on _ _ _ _ _ stdin (entries_of (listed c.as_slice-entries.result.now)) c.more_in.ensures c.in_ok-operand-in-Induced.ensures.left in
+    rw (p.1, p.2) (induced_value (stdin c.args.input.now) c.args.expression.now _ _ _ _ (Err c.in_err-values-in-Induced.field-0.0) a.graph a.entries a.self_loops a.multi a.directed a.is c.deref-in-Induced.ensures c.as_slice-entries.ensures (c.in_ok-operand-in-Induced.ensures.value stdin gives)
+    same (then_refused _ _ c.in_err-values-in-Induced.field-0.0 (c.in_err-values-in-Induced.ensures.refused stdin gives)))
+
+pub evaluate-returns-in_err-list-in-Induced-clause-value : goal.evaluate-returns-in_err-list-in-Induced-clause-value
+evaluate-returns-in_err-list-in-Induced-clause-value t c = λ stdin gives.
+    let a = c.in-Induced in
+    let p = err_from_is_err_and c.from_residual-in_err-list-in-Induced.result c.from_residual-in_err-list-in-Induced.ensures.1 in
+    let same = values_on _ _ _ _ _ stdin (entries_of (listed c.as_slice-entries.result.now)) c.more_in.ensures c.in_ok-operand-in-Induced.ensures.left in
+    rw (p.1, p.2) (induced_value (stdin c.args.input.now) c.args.expression.now _ _ _ (Ok (map handed_entry c.in_ok-values-in-Induced.values.items)) (Err c.in_err-list-in-Induced.field-0.0) a.graph a.entries a.self_loops a.multi a.directed a.is c.deref-in-Induced.ensures c.as_slice-entries.ensures (c.in_ok-operand-in-Induced.ensures.value stdin gives)
+    (sym (c.in_ok-values-in-Induced.ensures.ok stdin gives) ∙ same) (inr c.in_err-list-in-Induced.ensures.memory))
+
+pub evaluate-returns-in_ok-list-in-Induced-clause-value : goal.evaluate-returns-in_ok-list-in-Induced-clause-value
+evaluate-returns-in_ok-list-in-Induced-clause-value t c = λ stdin gives.
+    let a = c.in-Induced in
+    let operand = c.in_ok-operand-in-Induced.operand in
+    let same = values_on _ _ _ _ _ stdin (entries_of (listed c.as_slice-entries.result.now)) c.more_in.ensures c.in_ok-operand-in-Induced.ensures.left in
+    let answer : IsAnswerOf (induced_of operand c.in_ok-list-in-Induced.list.items a.self_loops a.multi a.directed) c.induced_from.result = c.induced_from.ensures.answer in
+    induced_value (stdin c.args.input.now) c.args.expression.now _ _ _ (Ok (map handed_entry c.in_ok-values-in-Induced.values.items)) c.induced_from.result a.graph a.entries a.self_loops a.multi a.directed a.is c.deref-in-Induced.ensures c.as_slice-entries.ensures (c.in_ok-operand-in-Induced.ensures.value stdin gives)
+    (sym (c.in_ok-values-in-Induced.ensures.ok stdin gives) ∙ same)
+    (subst (λ (es : List Entry). IsValue (made (induced_of operand es a.self_loops a.multi a.directed)) c.induced_from.result) c.in_ok-list-in-Induced.ensures.ok (value_made _ _ answer))
+
+pub evaluate-returns-in_ok-list-in-Induced-clause-left : goal.evaluate-returns-in_ok-list-in-Induced-clause-left
+evaluate-returns-in_ok-list-in-Induced-clause-left t c =
+    let a = c.in-Induced in
+    let left = left_on c.args.more _ _ _ _ (entries_have_stdin (entries_of (listed c.as_slice-entries.result.now))) _ c.more_in.ensures c.in_ok-operand-in-Induced.ensures.left c.in_ok-values-in-Induced.ensures.left in
+    let all = induced_reads c.args.expression.now _ _ a.graph a.entries a.self_loops a.multi a.directed a.is c.deref-in-Induced.ensures c.as_slice-entries.ensures in
+    if_ok c.induced_from.result _ (left ∙ ap (λ reads. left_after c.args.more reads c.args.input.now) (sym all))
+
+pub operands-returns-in_err-right-clause-value : goal.operands-returns-in_err-right-clause-value
+operands-returns-in_err-right-clause-value t c = λ stdin gives.
+    let p = err_from_is_err_and c.from_residual-in_err-right.result c.from_residual-in_err-right.ensures.1 in
+    let same = value_on _ _ _ _ _ stdin (expression_of c.args.second.now) c.more_with.ensures c.in_ok-left.ensures.left in
+    rw (p.1, p.2) (both_refused _ _ c.in_ok-left.left c.in_err-right.field-0.0 (c.in_ok-left.ensures.value stdin gives)
+    (subst (λ (v : Result GraphData Panic). IsValue v (Err c.in_err-right.field-0.0)) same (c.in_err-right.ensures.value stdin gives)))
+
+pub operands-returns-in_err-left-clause-refused : goal.operands-returns-in_err-left-clause-refused
+operands-returns-in_err-left-clause-refused t c = exit_first c.args.input.now c.args.first.now c.args.first.now _ _ c.from_residual.ensures.1 refl c.in_err-left.ensures.refused
+
+pub operands-returns-in_err-right-clause-refused : goal.operands-returns-in_err-right-clause-refused
+operands-returns-in_err-right-clause-refused t c = λ p is. made_operands _ _ (c.in_ok-left.ensures.refused p is)
+
+pub operands-returns-clause-refused : goal.operands-returns-clause-refused
+operands-returns-clause-refused t c = λ p is. made_operands _ _ (c.in_ok-left.ensures.refused p is)
+
+pub operands-returns-clause-value : goal.operands-returns-clause-value
+operands-returns-clause-value t c = λ stdin gives.
+    let same = value_on _ _ _ _ _ stdin (expression_of c.args.second.now) c.more_with.ensures c.in_ok-left.ensures.left in
+    value_both _ _ c.in_ok-left.left c.in_ok-right.right (c.in_ok-left.ensures.value stdin gives) (sym same ∙ (c.in_ok-right.ensures.value stdin gives))
+
+pub values_of-value_of_entry-requires : goal.values_of-value_of_entry-requires
+values_of-value_of_entry-requires t c =
+    let same = ap (λ (es : List EntryExpr). size_of_entries (entries_of (listed es))) c.in-Some.ensures.cases.0 in
+    (omega (arith, same, c.loop-entry.invariant.2, c.decreases), tt)
+
+pub values_of-loop-entry-preserved : goal.values_of-loop-entry-preserved
+values_of-loop-entry-preserved t c =
+    let taken = c.in-Some.ensures.cases.0 in
+    let others = entries_of (listed c.in-Some.others.now) in
+    let before = map handed_entry c.loop-entry.values.items in
+    let value = handed_entry c.in_ok-value.value in
+    let put = ap (map handed_entry) c.in_ok-push.ensures.items ∙ map-append handed_entry c.loop-entry.values.items (c.in_ok-value.value ∷ []) in
+    let left = c.in_ok-value.ensures.left in (
+      λ stdin gives.
+          ap (λ (es : List Entry). and_values es (values_of (stdin c.value_of_entry.new.input) others)) put
+          ∙ ap (and_values (before ++ value ∷ [])) (values_on c.args.more _ _ c.loop-entry.input _ stdin others refl left)
+          ∙ one_more before value _ (values_of (stdin c.loop-entry.input) others) (c.in_ok-value.ensures.ok stdin gives)
+          ∙ ap (λ (es : List EntryExpr). and_values before (values_of (stdin c.loop-entry.input) (entries_of (listed es)))) (sym taken)
+          ∙ c.loop-entry.invariant.0 stdin gives,
+      left_on c.args.more _ _ c.loop-entry.input _ (entries_have_stdin others) _ refl left refl
+          ∙ ap (λ (es : List EntryExpr). left_after c.args.more (entries_have_stdin (entries_of (listed es))) c.loop-entry.input) (sym taken)
+          ∙ c.loop-entry.invariant.1,
+      omega (arith, ap (λ (es : List EntryExpr). size_of_entries (entries_of (listed es))) taken, c.loop-entry.invariant.2),
+    )

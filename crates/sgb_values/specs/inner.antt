@@ -1,0 +1,7 @@
+-- What only the private contracts and the proofs of sgb_values speak of.
+-- entries whose expressions are evaluated
+pub mod EntryValues
+-- what is left of standard input
+pub mod Inputs
+-- functions that give the value of `stdin`
+pub mod StdinValues
