@@ -1,5 +1,4 @@
 //! A caller of `sgb_graph`, as the page for callers shows it.
-ghost use Rattle.std.specs.Prelude.{IfOk};
 ghost use Rattle.sgb_graph.specs.Growth.{HasPlainArcs};
 
 use sgb_graph::{Graph, Id, Names};
@@ -7,30 +6,29 @@ use sgb_vec::{Panic, Text};
 use std::alloc::Global;
 use std::test::Fail;
 
-/// A graph of vertices with these names, without arcs.
-pub fn without_arcs(alloc: Global, texts: &[&[u8]]) -> Result<Graph, Panic>
-    ensures { IfOk result HasPlainArcs }
-{
+/// The names of vertices.
+pub fn names_of(alloc: Global, texts: &[&[u8]]) -> Result<Names, Panic> {
     let mut names = Names::new(alloc);
     for text in texts {
         if names.push(Text::new(alloc, text)?).is_err() {
             return Err(Panic::NoRoom);
         }
     }
-    Graph::new(alloc, names)
+    Ok(names)
 }
 
-/// Three towns, with the roads between them.
-pub fn towns(alloc: Global) -> Result<Graph, Panic> {
-    let mut graph = without_arcs(alloc, &[b"Ulm", b"Bonn", b"Kiel"])?;
-    // an edge wants vertices that are there, and the contract above does not say how many there are
+/// Joins three towns by roads.
+fn build_roads(graph: &mut Graph) -> Result<(), Panic>
+    requires { HasPlainArcs graph.old }
+{
+    // an edge wants vertices that are there, and the clause above does not say how many there are
     if graph.n() != 3 {
         return Err(Panic::Bad);
     }
     graph.new_edge(0, 1, 330)?;
     graph.new_edge(1, 2, 390)?;
     graph.set_id(Id::new(b"towns")?);
-    Ok(graph)
+    Ok(())
 }
 
 /// The length of the longest arc of a vertex, if it has one.
@@ -47,10 +45,16 @@ pub fn longest(graph: &Graph, v: u32) -> Option<i64> {
     most
 }
 
+/// How many arcs there are between three towns, and how long the longest from Bonn is.
+pub fn arcs_between_towns(alloc: Global) -> Result<(u64, Option<i64>), Panic> {
+    let names = names_of(alloc, &[b"Ulm", b"Bonn", b"Kiel"])?;
+    let mut graph = Graph::new(alloc, names)?;
+    build_roads(&mut graph)?;
+    Ok((graph.m(), longest(&graph, 1)))
+}
+
 #[test]
 fn roads_between_towns(rt: HostRuntime) -> Result<(), Fail> {
-    let graph = towns(rt.alloc())?;
-    assert!(rt; graph.m() == 4);
-    assert!(rt; longest(&graph, 1) == Some(390));
+    assert!(rt; arcs_between_towns(rt.alloc())? == (4, Some(390)));
     Ok(())
 }

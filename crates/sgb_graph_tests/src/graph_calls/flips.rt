@@ -1,15 +1,15 @@
 use sgb_graph::Flip;
 
-/// What is done with random numbers, and what has to come out.
+// What is done with random numbers, and what has to come out.
 #[derive(Clone, Copy)]
-pub(crate) enum Step {
-    /// This number is drawn.
+enum Step {
+    // This number is drawn.
     Draw(u32),
-    /// So many are drawn and left out, one by one.
+    // So many are drawn and left out, one by one.
     Leave(u32),
-    /// So many are left out by a jump.
+    // So many are left out by a jump.
     Jump(u64),
-    /// Of the numbers below the first one this is drawn.
+    // Of the numbers below the first one this is drawn.
     Below(u32, u32),
 }
 
@@ -36,8 +36,8 @@ fn is_made(flip: &mut Flip, step: Step) -> bool {
     }
 }
 
-/// Whether the steps, one after another from this start, come out.
-pub(crate) fn are_made(start: i64, steps: &[Step]) -> bool {
+// Whether the steps, one after another from this start, come out.
+fn are_made(start: i64, steps: &[Step]) -> bool {
     let mut flip = Flip::new(start);
     for step in steps {
         if !is_made(&mut flip, *step) {
@@ -52,11 +52,6 @@ const PUBLISHED: [Step; 3] = [
     Step::Leave(133),
     Step::Below(1431655765, 748103812),
 ];
-
-#[test]
-fn the_published_test_comes_out(rt: HostRuntime) {
-    assert!(rt; are_made(-314159, &PUBLISHED));
-}
 
 const OVER_CYCLES: [Step; 12] = [
     Step::Draw(529181769),
@@ -89,13 +84,36 @@ const BELOW_ALL: [Step; 3] = [
     Step::Below(0x8000_0000, 1610774012),
 ];
 
+const ONE_FROM_ANOTHER: [Step; 4] = [
+    Step::Jump(999_999_990),
+    Step::Jump(7),
+    Step::Jump(5),
+    Step::Draw(1992537019),
+];
+
+// Starts, each with what is done from there. The first is the published test, and the last are great jumps to known draws.
+static RUNS: [(i64, &[Step]); 13] = [
+    (-314159, &PUBLISHED),
+    (7, &OVER_CYCLES),
+    (0, &[Step::Draw(2029883356)]),
+    (-1, &[Step::Draw(2110032679)]),
+    (0x7fff_ffff, &[Step::Draw(2110032679)]),
+    (0x8000_0007, &FROM_SEVEN),
+    (7, &BELOW_HALF),
+    (7, &BELOW_ALL),
+    (7, &[Step::Jump(1_000_000_000), Step::Draw(1340026436)]),
+    (
+        -314159,
+        &[Step::Jump(1_000_000_000), Step::Draw(1869401492)],
+    ),
+    (0, &[Step::Jump(1_000_000_000_000), Step::Draw(1799468585)]),
+    (1, &[Step::Jump(u64::MAX), Step::Draw(417076556)]),
+    (7, &ONE_FROM_ANOTHER),
+];
+
 #[test]
 fn draws_come_out(rt: HostRuntime) {
-    assert!(rt; are_made(7, &OVER_CYCLES));
-    assert!(rt; are_made(0, &[Step::Draw(2029883356)]));
-    assert!(rt; are_made(-1, &[Step::Draw(2110032679)]));
-    assert!(rt; are_made(0x7fff_ffff, &[Step::Draw(2110032679)]));
-    assert!(rt; are_made(0x8000_0007, &FROM_SEVEN));
-    assert!(rt; are_made(7, &BELOW_HALF));
-    assert!(rt; are_made(7, &BELOW_ALL));
+    for (start, steps) in &RUNS {
+        assert!(rt; are_made(*start, steps));
+    }
 }

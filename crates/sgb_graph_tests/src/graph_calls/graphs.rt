@@ -1,8 +1,8 @@
 ghost use Rattle.std.specs.Prelude.{OnOk};
 ghost use Rattle.sgb_graph.specs.Growth.{HasPlainArcs};
 
-use super::caller::without_arcs;
-use sgb_graph::{Graph, Id, Kind, Ref, Util, UtilRef};
+use super::caller::names_of;
+use sgb_graph::{Graph, Id, Kind, Names, Ref, Util, UtilRef};
 use sgb_vec::Panic;
 use std::alloc::Global;
 
@@ -295,26 +295,40 @@ fn grows(graph: &mut Graph, growth: Growth) -> bool
     grow(graph, growth).is_ok() && has_grown(graph, growth)
 }
 
-// Whether a graph of vertices with these names is as it should be after this. It alone owns the graph, and no `?` drops
-// it here: that would take long to prove.
-fn is_met(alloc: Global, names: &[&[u8]], growth: Growth) -> bool {
-    match without_arcs(alloc, names) {
+// Whether a new graph with these names is as it should be after this. It alone owns the graph, and no `?` drops it here:
+// that would take long to prove.
+fn is_grown(alloc: Global, names: Names, growth: Growth) -> bool {
+    match Graph::new(alloc, names) {
         Ok(mut graph) => grows(&mut graph, growth),
         Err(_) => false,
     }
 }
 
+// Whether a graph of vertices with these names is as it should be after this.
+fn is_met(alloc: Global, texts: &[&[u8]], growth: Growth) -> bool {
+    match names_of(alloc, texts) {
+        Ok(names) => is_grown(alloc, names, growth),
+        Err(_) => false,
+    }
+}
+
+// The names of vertices, each with what is done with their graph.
+static GROWN: [(&[&[u8]], Growth); 8] = [
+    (&[b"a", b"b"], Growth::Nothing),
+    (&FOUR_NAMES, Growth::Four { directed: true }),
+    (&FOUR_NAMES, Growth::Four { directed: false }),
+    (&NINE_NAMES, Growth::To0),
+    (&[b"x"], Growth::Loop { directed: true }),
+    (&[b"x"], Growth::Loop { directed: false }),
+    (&[b"a", b"b"], Growth::Numbers),
+    (&[b"a", b"b"], Growth::OwnNumber),
+];
+
 #[test]
 fn graphs_grow(rt: HostRuntime) {
-    let alloc = rt.alloc();
-    assert!(rt; is_met(alloc, &[b"a", b"b"], Growth::Nothing));
-    assert!(rt; is_met(alloc, &FOUR_NAMES, Growth::Four { directed: true }));
-    assert!(rt; is_met(alloc, &FOUR_NAMES, Growth::Four { directed: false }));
-    assert!(rt; is_met(alloc, &NINE_NAMES, Growth::To0));
-    assert!(rt; is_met(alloc, &[b"x"], Growth::Loop { directed: true }));
-    assert!(rt; is_met(alloc, &[b"x"], Growth::Loop { directed: false }));
-    assert!(rt; is_met(alloc, &[b"a", b"b"], Growth::Numbers));
-    assert!(rt; is_met(alloc, &[b"a", b"b"], Growth::OwnNumber));
+    for (names, growth) in &GROWN {
+        assert!(rt; is_met(rt.alloc(), names, *growth));
+    }
 }
 
 // Whether the field, seen where it stands, holds this number.
@@ -330,6 +344,6 @@ fn is_vertex_7(field: &Util) -> bool {
 #[test]
 fn a_value_is_seen_where_it_stands(rt: HostRuntime) {
     let number = Util::Int(-5);
-    assert!(rt; is_seen(&number, -5) && !is_seen(&number, 5));
-    assert!(rt; is_vertex_7(&Util::Vertex(Ref::At(7))));
+    let vertex = Util::Vertex(Ref::At(7));
+    assert!(rt; is_seen(&number, -5) && !is_seen(&number, 5) && is_vertex_7(&vertex));
 }

@@ -2,16 +2,25 @@ use sgb_graph::Names;
 use sgb_vec::Text;
 use std::alloc::Global;
 
-// The number of names after these two were put in.
-fn count_of_two(alloc: Global) -> Option<usize> {
-    let mut names = Names::with_capacity(alloc, 1).ok()?;
-    names.push(Text::new(alloc, b"0").ok()?).ok()?;
-    names.push(Text::new(alloc, b"1").ok()?).ok()?;
-    Some(names.len())
+// Whether this name is put in.
+fn is_put(names: &mut Names, alloc: Global, bytes: &[u8]) -> bool {
+    match Text::new(alloc, bytes) {
+        Ok(name) => names.push(name).is_ok(),
+        Err(_) => false,
+    }
+}
+
+// Whether names with room for one, to which two are put in, are two.
+fn are_two(alloc: Global) -> bool {
+    match Names::with_capacity(alloc, 1) {
+        Ok(mut names) => {
+            is_put(&mut names, alloc, b"0") && is_put(&mut names, alloc, b"1") && names.len() == 2
+        }
+        Err(_) => false,
+    }
 }
 
 #[test]
 fn names_grow_one_by_one(rt: HostRuntime) {
-    assert!(rt; Names::new(rt.alloc()).len() == 0);
-    assert!(rt; count_of_two(rt.alloc()) == Some(2));
+    assert!(rt; Names::new(rt.alloc()).len() == 0 && are_two(rt.alloc()));
 }

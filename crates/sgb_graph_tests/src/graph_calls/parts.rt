@@ -209,13 +209,17 @@ fn all_kinds(kinds: Kinds) -> [Kind; 14] {
     ]
 }
 
-// Whether parts of a graph with so many arcs and fields of these kinds, whose own fields are not used, are what is
-// wanted when they have this. It alone makes parts, with one way out.
-fn is_met(alloc: Global, m: u32, kinds: Kinds, filling: Filling<'_>, wanted: Wanted<'_>) -> bool {
+// Whether parts of a graph with fields of these kinds, whose own fields are not used, are what is wanted when they have
+// this. It alone makes parts, with one way out.
+fn is_met(alloc: Global, kinds: Kinds, filling: Filling<'_>, wanted: Wanted<'_>) -> bool {
+    let arcs = match filling {
+        Filling::Values(..) => 0,
+        _ => 3,
+    };
     match Id::new(b"g") {
         Ok(id) => {
             let own = fields(Value::Nothing);
-            let mut parts = Parts::new(alloc, id, u64::from(m), all_kinds(kinds), own);
+            let mut parts = Parts::new(alloc, id, arcs, all_kinds(kinds), own);
             let is_filled = add(&mut parts, alloc, filling).is_ok();
             let is_right = is_checked(parts, wanted);
             is_filled && is_right
@@ -224,103 +228,176 @@ fn is_met(alloc: Global, m: u32, kinds: Kinds, filling: Filling<'_>, wanted: Wan
     }
 }
 
-// Whether parts of these first arcs and records are what is wanted.
-fn are(
-    alloc: Global,
-    firsts: &[Option<usize>],
-    records: &[(Ref, Option<usize>)],
-    wanted: Wanted<'_>,
-) -> bool {
-    is_met(alloc, 3, UNUSED, Filling::Arcs(firsts, records), wanted)
-}
+// What parts have that make up a graph or are refused, the kinds of the fields there, and what is wanted of them.
+type Case = (Kinds, Filling<'static>, Wanted<'static>);
 
-// First arcs, and records with their tips and next ones, that make up no graph.
-const REFUSED: [(&[Option<usize>], &[(Ref, Option<usize>)]); 9] = [
-    (&[Some(0)], &[]),
-    (&[None], &[(Ref::At(0), Some(1)), (Ref::At(0), Some(0))]),
-    (&[], &[(Ref::Null, Some(0))]),
-    (&[Some(0)], &[(Ref::Null, None)]),
-    (&[Some(0)], &[(Ref::At(0), Some(1)), (Ref::One, None)]),
-    (&[None], &[(Ref::At(1), None)]),
-    (&[Some(usize::MAX)], &[]),
-    (&[None, Some(usize::MAX), None], &[]),
-    (&[], &[(Ref::Null, Some(usize::MAX)), (Ref::Null, None)]),
+// Chains end, and lists lead to vertices.
+static LISTS: [Case; 12] = [
+    (
+        UNUSED,
+        Filling::Arcs(&[Some(0)], &[(Ref::At(0), None)]),
+        Wanted::Lists(1, &[&[(0, 0, 1)]]),
+    ),
+    // two vertices share a record
+    (
+        UNUSED,
+        Filling::Arcs(
+            &[Some(0), Some(1)],
+            &[(Ref::At(1), None), (Ref::At(0), Some(0))],
+        ),
+        Wanted::Lists(2, &[&[(0, 1, 1)], &[(1, 0, 1), (0, 1, 1)]]),
+    ),
+    (
+        UNUSED,
+        Filling::Arcs(&[None], &[(Ref::Null, None)]),
+        Wanted::Graph,
+    ),
+    // those that make up no graph
+    (UNUSED, Filling::Arcs(&[Some(0)], &[]), Wanted::Refusal),
+    (
+        UNUSED,
+        Filling::Arcs(&[None], &[(Ref::At(0), Some(1)), (Ref::At(0), Some(0))]),
+        Wanted::Refusal,
+    ),
+    (
+        UNUSED,
+        Filling::Arcs(&[], &[(Ref::Null, Some(0))]),
+        Wanted::Refusal,
+    ),
+    (
+        UNUSED,
+        Filling::Arcs(&[Some(0)], &[(Ref::Null, None)]),
+        Wanted::Refusal,
+    ),
+    (
+        UNUSED,
+        Filling::Arcs(&[Some(0)], &[(Ref::At(0), Some(1)), (Ref::One, None)]),
+        Wanted::Refusal,
+    ),
+    (
+        UNUSED,
+        Filling::Arcs(&[None], &[(Ref::At(1), None)]),
+        Wanted::Refusal,
+    ),
+    (
+        UNUSED,
+        Filling::Arcs(&[Some(usize::MAX)], &[]),
+        Wanted::Refusal,
+    ),
+    (
+        UNUSED,
+        Filling::Arcs(&[None, Some(usize::MAX), None], &[]),
+        Wanted::Refusal,
+    ),
+    (
+        UNUSED,
+        Filling::Arcs(&[], &[(Ref::Null, Some(usize::MAX)), (Ref::Null, None)]),
+        Wanted::Refusal,
+    ),
 ];
 
-// The lists of two vertices that share a record.
-const SHARED: [&[(usize, u32, i64)]; 2] = [&[(0, 1, 1)], &[(1, 0, 1), (0, 1, 1)]];
+// The kinds where the field u is of this kind, and no other field is used.
+const INTEGER: Kinds = [Kind::I, Kind::Z, Kind::Z, Kind::Z];
+
+const VERTEX: Kinds = [Kind::V, Kind::Z, Kind::Z, Kind::Z];
+
+const STRING: Kinds = [Kind::S, Kind::Z, Kind::Z, Kind::Z];
+
+const CHAIN: Kinds = [Kind::A, Kind::Z, Kind::Z, Kind::Z];
+
+// Those where it is an integer, and so is the field a of the arcs.
+const INTEGERS: Kinds = [Kind::I, Kind::Z, Kind::Z, Kind::I];
+
+const SEVEN: Value = Value::Int(7);
+
+const NOTHING: Value = Value::Nothing;
+
+// Fields fit their kinds.
+static FIELDS: [Case; 18] = [
+    // a vertex may come with its integers
+    (
+        [Kind::Z, Kind::I, Kind::I, Kind::Z],
+        Filling::Ints,
+        Wanted::Ints,
+    ),
+    (
+        [Kind::V, Kind::I, Kind::I, Kind::Z],
+        Filling::Ints,
+        Wanted::Refusal,
+    ),
+    (
+        [Kind::Z, Kind::I, Kind::Z, Kind::Z],
+        Filling::Ints,
+        Wanted::Refusal,
+    ),
+    // a value in the field u of a vertex
+    (INTEGER, Filling::Values(&[SEVEN], &[]), Wanted::Graph),
+    (
+        VERTEX,
+        Filling::Values(&[Value::Vertex(Ref::At(0))], &[]),
+        Wanted::Graph,
+    ),
+    (INTEGER, Filling::Values(&[NOTHING], &[]), Wanted::Refusal),
+    (UNUSED, Filling::Values(&[SEVEN], &[]), Wanted::Refusal),
+    (
+        VERTEX,
+        Filling::Values(&[Value::Vertex(Ref::At(1))], &[]),
+        Wanted::Refusal,
+    ),
+    (STRING, Filling::Values(&[SEVEN], &[]), Wanted::Refusal),
+    (
+        CHAIN,
+        Filling::Values(&[Value::Vertex(Ref::Null)], &[]),
+        Wanted::Refusal,
+    ),
+    // one that does not fit is seen at each place, of vertices and of records
+    (
+        INTEGERS,
+        Filling::Values(&[NOTHING, SEVEN, SEVEN], &[]),
+        Wanted::Refusal,
+    ),
+    (
+        INTEGERS,
+        Filling::Values(&[], &[NOTHING, SEVEN, SEVEN]),
+        Wanted::Refusal,
+    ),
+    (
+        INTEGERS,
+        Filling::Values(&[SEVEN, NOTHING, SEVEN], &[]),
+        Wanted::Refusal,
+    ),
+    (
+        INTEGERS,
+        Filling::Values(&[], &[SEVEN, NOTHING, SEVEN]),
+        Wanted::Refusal,
+    ),
+    (
+        INTEGERS,
+        Filling::Values(&[SEVEN, SEVEN, NOTHING], &[]),
+        Wanted::Refusal,
+    ),
+    (
+        INTEGERS,
+        Filling::Values(&[], &[SEVEN, SEVEN, NOTHING]),
+        Wanted::Refusal,
+    ),
+    (
+        INTEGERS,
+        Filling::Values(&[SEVEN, SEVEN, SEVEN], &[]),
+        Wanted::Graph,
+    ),
+    (
+        INTEGERS,
+        Filling::Values(&[], &[SEVEN, SEVEN, SEVEN]),
+        Wanted::Graph,
+    ),
+];
 
 #[test]
-fn chains_end_and_lists_lead_to_vertices(rt: HostRuntime) {
-    let alloc = rt.alloc();
-    let loop_of_one = Wanted::Lists(1, &[&[(0, 0, 1)]]);
-    assert!(rt; are(alloc, &[Some(0)], &[(Ref::At(0), None)], loop_of_one));
-    let records = [(Ref::At(1), None), (Ref::At(0), Some(0))];
-    assert!(rt;
-        are(
-            alloc,
-            &[Some(0), Some(1)],
-            &records,
-            Wanted::Lists(2, &SHARED)
-        )
-    );
-    assert!(rt; are(alloc, &[None], &[(Ref::Null, None)], Wanted::Graph));
-    for (firsts, records) in &REFUSED {
-        assert!(rt; are(alloc, firsts, records, Wanted::Refusal));
+fn parts_make_up_a_graph_or_are_refused(rt: HostRuntime) {
+    for cases in [LISTS.as_slice(), FIELDS.as_slice()] {
+        for (kinds, filling, wanted) in cases {
+            assert!(rt; is_met(rt.alloc(), *kinds, *filling, *wanted));
+        }
     }
-}
-
-// Whether the vertex with its integers is what is wanted, where the fields u and z are of these kinds.
-fn are_ints(alloc: Global, u: Kind, z: Kind, wanted: Wanted<'_>) -> bool {
-    is_met(alloc, 3, [u, Kind::I, z, Kind::Z], Filling::Ints, wanted)
-}
-
-#[test]
-fn a_vertex_may_come_with_its_integers(rt: HostRuntime) {
-    assert!(rt; are_ints(rt.alloc(), Kind::Z, Kind::I, Wanted::Ints));
-    assert!(rt; are_ints(rt.alloc(), Kind::V, Kind::I, Wanted::Refusal));
-    assert!(rt; are_ints(rt.alloc(), Kind::Z, Kind::Z, Wanted::Refusal));
-}
-
-// Whether one vertex with this value in its field u, which is of this kind, is what is wanted.
-fn is(alloc: Global, u: Kind, value: Value, wanted: Wanted<'_>) -> bool {
-    let kinds = [u, Kind::Z, Kind::Z, Kind::Z];
-    is_met(alloc, 0, kinds, Filling::Values(&[value], &[]), wanted)
-}
-
-#[test]
-fn fields_fit_their_kinds(rt: HostRuntime) {
-    let alloc = rt.alloc();
-    assert!(rt; is(alloc, Kind::I, Value::Int(7), Wanted::Graph));
-    assert!(rt; is(alloc, Kind::V, Value::Vertex(Ref::At(0)), Wanted::Graph));
-    assert!(rt; is(alloc, Kind::I, Value::Nothing, Wanted::Refusal));
-    assert!(rt; is(alloc, Kind::Z, Value::Int(7), Wanted::Refusal));
-    assert!(rt; is(alloc, Kind::V, Value::Vertex(Ref::At(1)), Wanted::Refusal));
-    assert!(rt; is(alloc, Kind::S, Value::Int(7), Wanted::Refusal));
-    assert!(rt; is(alloc, Kind::A, Value::Vertex(Ref::Null), Wanted::Refusal));
-}
-
-// Three integers, but at this place nothing.
-fn three_but_at(place: usize) -> [Value; 3] {
-    let mut values = [Value::Int(7); 3];
-    if place < 3 {
-        values[place] = Value::Nothing;
-    }
-    values
-}
-
-// Whether these values in the field u of vertices, and in the field a of records, which are integers, are what is
-// wanted.
-fn are_integers(alloc: Global, values: &[Value], wanted: Wanted<'_>) -> bool {
-    let kinds = [Kind::I, Kind::Z, Kind::Z, Kind::I];
-    is_met(alloc, 0, kinds, Filling::Values(values, &[]), wanted)
-        && is_met(alloc, 0, kinds, Filling::Values(&[], values), wanted)
-}
-
-#[test]
-fn a_field_that_does_not_fit_is_seen_at_each_place(rt: HostRuntime) {
-    for place in 0..3 {
-        assert!(rt; are_integers(rt.alloc(), &three_but_at(place), Wanted::Refusal));
-    }
-    assert!(rt; are_integers(rt.alloc(), &three_but_at(3), Wanted::Graph));
 }

@@ -25,12 +25,17 @@ fn digits_are_taken_up_to_a_byte_that_is_none(rt: HostRuntime) {
     }
 }
 
+// Whether digits are the number that they write.
+fn are_numbers() -> bool {
+    digits_value(b"0", 10) == 0
+        && digits_value(b"007", 10) == 7
+        && digits_value(b"340282366920938463463374607431768211455", 10) == u128::MAX
+        && digits_value(b"fFfFfFfFfFfFfFfFfFfFfFfFfFfFfFfF", 16) == u128::MAX
+        && digits_value(b"1010", 2) == 10
+        && digits_value(b"Zz", 36) == 1295
+}
+
 #[test]
 fn digits_write_a_number(rt: HostRuntime) {
-    assert!(rt; digits_value(b"0", 10) == 0);
-    assert!(rt; digits_value(b"007", 10) == 7);
-    assert!(rt; digits_value(b"340282366920938463463374607431768211455", 10) == u128::MAX);
-    assert!(rt; digits_value(b"fFfFfFfFfFfFfFfFfFfFfFfFfFfFfFfF", 16) == u128::MAX);
-    assert!(rt; digits_value(b"1010", 2) == 10);
-    assert!(rt; digits_value(b"Zz", 36) == 1295);
+    assert!(rt; are_numbers());
 }

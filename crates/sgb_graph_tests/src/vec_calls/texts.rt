@@ -12,27 +12,11 @@ fn is_named(alloc: Global, vector: &[u32], name: &[u8]) -> bool {
     }
 }
 
-// Whether the bytes are accepted, and the text has them.
-fn is_text(alloc: Global, bytes: &[u8]) -> bool {
-    match Text::new(alloc, bytes) {
-        Ok(text) => text.bytes() == bytes && is_copied(alloc, &text),
-        Err(_) => false,
-    }
-}
-
 // Whether a copy of the text has its bytes.
 fn is_copied(alloc: Global, text: &Text) -> bool {
     match text.copy(alloc) {
         Ok(copy) => copy.bytes() == text.bytes(),
         Err(_) => false,
-    }
-}
-
-// Whether the bytes are refused.
-fn is_refused(alloc: Global, bytes: &[u8]) -> bool {
-    match Text::new(alloc, bytes) {
-        Ok(_) => false,
-        Err(panic) => panic == Panic::Syntax,
     }
 }
 
@@ -45,6 +29,16 @@ fn is_kept(alloc: Global, bytes: &[u8]) -> bool {
         Ok(text) => text.bytes() == bytes,
         Err(_) => false,
     }
+}
+
+// Whether the bytes are accepted, the text and a copy have them, and so does one that they are handed over to; or they
+// are refused both ways.
+fn is_answer(alloc: Global, bytes: &[u8], accepted: bool) -> bool {
+    let is_met = match Text::new(alloc, bytes) {
+        Ok(text) => accepted && text.bytes() == bytes && is_copied(alloc, &text),
+        Err(panic) => !accepted && panic == Panic::Syntax,
+    };
+    is_met && is_kept(alloc, bytes) == accepted
 }
 
 // The name of 251 entries 7.
@@ -75,34 +69,31 @@ fn a_name_has_the_entries_joined_by_dots(rt: HostRuntime) {
     }
 }
 
-// Texts, those about 16 bytes long among them.
-static TEXTS: [&[u8]; 6] = [
-    b"",
-    b"0.0->1.0",
-    b" board(8,8,0,0,1,0,0)~",
-    b"123456789.12345",
-    b"123456789.123456",
-    b"123456789.1234567",
+// Bytes, each with whether they make a text: those about 16 bytes long among them, those that alone are no text, and the
+// longest ones.
+static TEXTS: [(&[u8], bool); 15] = [
+    (b"", true),
+    (b"0.0->1.0", true),
+    (b" board(8,8,0,0,1,0,0)~", true),
+    (b"123456789.12345", true),
+    (b"123456789.123456", true),
+    (b"123456789.1234567", true),
+    (b"\\", false),
+    (b"\"", false),
+    (b"\x1f", false),
+    (b"\x7f", false),
+    (b"\n", false),
+    (b"\xe9", false),
+    (b"0\\1", false),
+    (&[b'a'; 4_095], true),
+    (&[b'a'; 4_096], false),
 ];
 
-// Bytes of which each alone is no text.
-static NO_TEXTS: [&[u8]; 6] = [b"\\", b"\"", b"\x1f", b"\x7f", b"\n", b"\xe9"];
-
 #[test]
-fn a_text_has_printable_bytes_but_two(rt: HostRuntime) {
-    for bytes in &TEXTS {
-        assert!(rt; is_text(rt.alloc(), bytes) && is_kept(rt.alloc(), bytes));
+fn a_text_has_at_most_4095_printable_bytes_but_two(rt: HostRuntime) {
+    for (bytes, accepted) in &TEXTS {
+        assert!(rt; is_answer(rt.alloc(), bytes, *accepted));
     }
-    for bytes in &NO_TEXTS {
-        assert!(rt; is_refused(rt.alloc(), bytes) && !is_kept(rt.alloc(), bytes));
-    }
-    assert!(rt; !is_kept(rt.alloc(), b"0\\1"));
-}
-
-#[test]
-fn a_text_has_at_most_4095_bytes(rt: HostRuntime) {
-    assert!(rt; is_text(rt.alloc(), &[b'a'; 4_095]));
-    assert!(rt; is_refused(rt.alloc(), &[b'a'; 4_096]));
 }
 
 // How many of all bytes may stand in a text.
@@ -116,11 +107,18 @@ fn count_of_text_bytes() -> u32 {
     count
 }
 
+// Whether these may not.
+fn are_others(bytes: &[u8]) -> bool {
+    for byte in bytes {
+        if is_text_byte(*byte) {
+            return false;
+        }
+    }
+    true
+}
+
 #[test]
 fn bytes_of_texts(rt: HostRuntime) {
     assert!(rt; count_of_text_bytes() == 93);
-    assert!(rt; is_text_byte(b' ') && is_text_byte(b'~'));
-    for byte in [31, 127, b'"', b'\\'] {
-        assert!(rt; !is_text_byte(byte));
-    }
+    assert!(rt; is_text_byte(b' ') && is_text_byte(b'~') && are_others(b"\x1f\x7f\"\\"));
 }

@@ -1,6 +1,3 @@
-use super::boxes::is_box;
-use super::sums::is_sum;
-use super::walks::Asked;
 use sgb_vec::{Family, Vector, Vectors};
 
 /// A call of a walk, and the vector that it has to come to.
@@ -52,80 +49,4 @@ pub(crate) fn are_made<F: Family>(mut vectors: Vectors<'_, F>, steps: &[Step]) -
         }
     }
     is_at_end(&mut vectors)
-}
-
-// All of the box of the sizes 2 and 2.
-const FROM_THE_FRONT: [Step; 4] = [
-    Step::Next(&[0, 0]),
-    Step::Next(&[0, 1]),
-    Step::Next(&[1, 0]),
-    Step::Next(&[1, 1]),
-];
-
-// All of the box of the sizes 2 and 2, from the back.
-const FROM_THE_BACK: [Step; 4] = [
-    Step::NextBack(&[1, 1]),
-    Step::NextBack(&[1, 0]),
-    Step::NextBack(&[0, 1]),
-    Step::NextBack(&[0, 0]),
-];
-
-// The last one, and then the others at the front, where they stand.
-const WHERE_THE_FRONT_STANDS: [Step; 4] = [
-    Step::NextBack(&[1, 1]),
-    Step::Advance(&[0, 0]),
-    Step::Advance(&[0, 1]),
-    Step::Advance(&[1, 0]),
-];
-
-#[test]
-fn all_of_a_box(rt: HostRuntime) {
-    assert!(rt; is_box(&[2, 2], Asked::All(&FROM_THE_FRONT)));
-    assert!(rt; is_box(&[2, 2], Asked::All(&FROM_THE_BACK)));
-    assert!(rt; is_box(&[2, 2], Asked::All(&WHERE_THE_FRONT_STANDS)));
-    assert!(rt; is_box(&[2, 0], Asked::All(&[])));
-}
-
-// Those after 1, 0 in the box of the sizes 2 and 3, from the back.
-const AFTER_1_0: [Step; 2] = [Step::NextBack(&[1, 2]), Step::NextBack(&[1, 1])];
-
-// The one after 1, 1.
-const AFTER_1_1: [Step; 1] = [Step::Next(&[1, 2])];
-
-// Vectors that do not stand in that box.
-static STRANGERS: [&[u32]; 5] = [&[2, 0], &[0, 3], &[0], &[], &[0, 0, 0]];
-
-#[test]
-fn those_after_one_of_a_box(rt: HostRuntime) {
-    assert!(rt; is_box(&[2, 3], Asked::After(&[1, 0], &AFTER_1_0)));
-    assert!(rt; is_box(&[2, 3], Asked::After(&[1, 1], &AFTER_1_1)));
-    assert!(rt; is_box(&[2, 3], Asked::After(&[1, 2], &[])));
-    assert!(rt; is_box(&[2, 0], Asked::NoneAfter(&[0, 0])));
-    for stranger in &STRANGERS {
-        assert!(rt; is_box(&[2, 3], Asked::NoneAfter(stranger)));
-    }
-}
-
-// The vectors of the sum 2 within 2, 2 and 2, from both ends in turn.
-const FROM_BOTH_ENDS: [Step; 6] = [
-    Step::Next(&[0, 0, 2]),
-    Step::NextBack(&[2, 0, 0]),
-    Step::Next(&[0, 1, 1]),
-    Step::NextBack(&[1, 1, 0]),
-    Step::Next(&[0, 2, 0]),
-    Step::NextBack(&[1, 0, 1]),
-];
-
-// Those of the sum 2 within 2 and 2, at the back, where they stand.
-const WHERE_THE_BACK_STANDS: [Step; 3] = [
-    Step::Retreat(&[2, 0]),
-    Step::Retreat(&[1, 1]),
-    Step::Retreat(&[0, 2]),
-];
-
-#[test]
-fn all_of_a_sum(rt: HostRuntime) {
-    assert!(rt; is_sum(rt.alloc(), 2, &[2, 2, 2], Asked::All(&FROM_BOTH_ENDS)));
-    assert!(rt; is_sum(rt.alloc(), 2, &[2, 2], Asked::All(&WHERE_THE_BACK_STANDS)));
-    assert!(rt; is_sum(rt.alloc(), 4, &[1, 1], Asked::All(&[])));
 }

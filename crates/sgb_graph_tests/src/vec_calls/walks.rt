@@ -1,15 +1,15 @@
 //! Families walked from both ends, and by places: what boxes and sums have in common.
 use super::vectors::{Step, are_made};
-use sgb_vec::{Family, Steps, Vector, Vectors};
+use sgb_vec::{Family, Panic, Steps, Vector, Vectors};
 
 /// What is asked of a family. It is asked of both kinds in one place, over a reference, so that each kind has one
 /// function that owns its families.
 #[derive(Clone, Copy)]
 pub(crate) enum Asked<'a> {
-    /// Whether its vectors, of so many entries, are those of the first list, and it holds none of the second.
-    Members(usize, &'a [&'a [u32]], &'a [&'a [u32]]),
-    /// Whether its vectors have so many entries, and there are so many.
-    Size(usize, u32),
+    /// Whether its vectors are those of the first list, and it holds none of the second.
+    Members(&'a [&'a [u32]], &'a [&'a [u32]]),
+    /// Whether there are so many.
+    Size(u32),
     /// Whether this vector is at this place, and the family has so many vectors.
     Place(u32, &'a [u32], u32),
     /// Whether a walk over all goes so.
@@ -18,15 +18,27 @@ pub(crate) enum Asked<'a> {
     After(&'a [u32], &'a [Step]),
     /// Whether there is no walk after this vector.
     NoneAfter(&'a [u32]),
+    /// Whether it is refused so.
+    Refusal(Panic),
 }
 
-/// Whether it is so.
-pub(crate) fn has<F: Family>(family: &F, asked: Asked<'_>) -> bool {
+/// Whether the refusal is asked for.
+pub(crate) fn is_refusal(panic: Panic, asked: Asked<'_>) -> bool {
+    matches!(asked, Asked::Refusal(why) if why == panic)
+}
+
+/// Whether it is so of the family, whose vectors should have so many entries.
+pub(crate) fn has<F: Family>(family: &F, dims: usize, asked: Asked<'_>) -> bool {
+    family.dims() == dims && is_so(family, asked)
+}
+
+// Whether it is so.
+fn is_so<F: Family>(family: &F, asked: Asked<'_>) -> bool {
     match asked {
-        Asked::Members(dims, members, strangers) => {
-            family.dims() == dims && are_members(family, members) && holds_none(family, strangers)
+        Asked::Members(members, strangers) => {
+            are_members(family, members) && holds_none(family, strangers)
         }
-        Asked::Size(dims, size) => family.dims() == dims && family.size() == size,
+        Asked::Size(size) => family.size() == size,
         Asked::Place(place, vector, size) => ends_after(family, place, vector, size),
         Asked::All(steps) => are_made(Vectors::all(family), steps),
         Asked::After(vector, steps) => match Vectors::after(family, vector) {
@@ -34,6 +46,7 @@ pub(crate) fn has<F: Family>(family: &F, asked: Asked<'_>) -> bool {
             None => false,
         },
         Asked::NoneAfter(vector) => Vectors::after(family, vector).is_none(),
+        Asked::Refusal(_) => false,
     }
 }
 
@@ -80,16 +93,26 @@ fn are_met<F: Family>(family: &F, expected: &[&[u32]], back: bool) -> bool {
         } else {
             place
         }];
-        if !more || vector.as_slice() != entries || !family.holds(vector.as_slice()) {
-            return false;
-        }
-        if !is_counted(family, &steps, changed(before, entries)) {
+        if !more || !is_reached(family, &vector, &steps, before, entries) {
             return false;
         }
         before = entries;
         more = goes_on(family, back, &mut vector, &mut steps);
     }
     !more && is_left(&vector, expected, before) && is_counted(family, &steps, 0)
+}
+
+// Whether the vector is this one, in the family, and reached from the one before in as many visits as it may.
+fn is_reached<F: Family>(
+    family: &F,
+    vector: &Vector,
+    steps: &Steps,
+    before: &[u32],
+    entries: &[u32],
+) -> bool {
+    vector.as_slice() == entries
+        && family.holds(vector.as_slice())
+        && is_counted(family, steps, changed(before, entries))
 }
 
 // Puts the first vector, or the last one, and counts its visits.

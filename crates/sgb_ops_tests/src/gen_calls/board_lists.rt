@@ -1,8 +1,8 @@
 use super::board_counts::board_of;
-use super::cases::is_list;
+use super::cases::{Params, is_list};
 use sgb_gen::{Board, BoardLists, BoardParams, Links};
 use sgb_graph::Graph;
-use sgb_vec::{Family, Panic, Vectors};
+use sgb_vec::{Family, Vectors};
 use std::alloc::Global;
 
 // Parameters of boards whose lists are compared with those of the built graphs, each with both directions: leapers
@@ -25,9 +25,9 @@ static BOARDS: [[i64; 6]; 14] = [
 ];
 
 // The parameters of the board of these numbers.
-fn params_of(numbers: &[i64; 6], directed: bool) -> BoardParams {
+fn params_of(numbers: &[i64; 6], directed: bool) -> Params {
     let [n1, n2, n3, n4, piece, wrap] = *numbers;
-    BoardParams {
+    Params::Board(BoardParams {
         n1,
         n2,
         n3,
@@ -35,7 +35,7 @@ fn params_of(numbers: &[i64; 6], directed: bool) -> BoardParams {
         piece,
         wrap,
         directed,
-    }
+    })
 }
 
 // Whether the list of this vector is that of vertex v of the graph, by itself, with no table and with one.
@@ -66,18 +66,19 @@ fn are_lists_of(graph: &Graph, board: &Board, links: &mut Links) -> bool {
     v == graph.n()
 }
 
-// Whether the lists of this board are those of the built graph.
-fn are_lists(alloc: Global, params: &BoardParams) -> Result<bool, Panic> {
-    let board = Board::from_params(params)?;
-    let graph = params.graph(alloc)?;
-    Ok(are_lists_of(&graph, &board, &mut Links::new(alloc)))
+/// Whether the lists of this board are those of the graph.
+pub(crate) fn are_lists(alloc: Global, params: &BoardParams, graph: &Graph) -> bool {
+    match Board::from_params(params) {
+        Ok(board) => are_lists_of(graph, &board, &mut Links::new(alloc)),
+        Err(_) => false,
+    }
 }
 
 #[test]
 fn lists_of_the_built_graph(rt: HostRuntime) {
     for numbers in &BOARDS {
         for directed in [false, true] {
-            assert!(rt; are_lists(rt.alloc(), &params_of(numbers, directed)) == Ok(true));
+            assert!(rt; params_of(numbers, directed).have_lists(rt.alloc()));
         }
     }
 }

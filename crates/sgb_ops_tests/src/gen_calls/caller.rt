@@ -18,11 +18,21 @@ pub fn most_arcs(alloc: Global, board: &Board) -> Result<usize, Panic> {
     Ok(most)
 }
 
+/// How many moves a knight has at most.
+pub fn most_moves(alloc: Global) -> Result<usize, Panic> {
+    let knights = Board::new(8, 8, 0, 0, 5, 0, false)?;
+    most_arcs(alloc, &knights)
+}
+
+/// How many vertices and arcs the graph of its moves has, which is built.
+pub fn built_size(alloc: Global) -> Result<(u32, u64), Panic> {
+    let built = board(alloc, 8, 8, 0, 0, 5, 0, false)?;
+    Ok((built.n(), built.m()))
+}
+
 #[test]
 fn knights_have_eight_moves_at_most(rt: HostRuntime) -> Result<(), Fail> {
-    let knights = Board::new(8, 8, 0, 0, 5, 0, false)?;
-    assert!(rt; most_arcs(rt.alloc(), &knights)? == 8);
-    let built = board(rt.alloc(), 8, 8, 0, 0, 5, 0, false)?;
-    assert!(rt; built.n() == 64 && built.m() == 336);
+    assert!(rt; most_moves(rt.alloc())? == 8);
+    assert!(rt; built_size(rt.alloc())? == (64, 336));
     Ok(())
 }

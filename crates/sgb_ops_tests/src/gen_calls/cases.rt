@@ -1,6 +1,44 @@
-use sgb_gen::{Links, LocalArcRef};
+use super::{board_lists, simplex_lists, subsets_lists};
+use sgb_gen::{BoardParams, Links, LocalArcRef, SimplexParams, SubsetsParams};
 use sgb_graph::{Graph, Link};
-use sgb_vec::vector_of;
+use sgb_vec::{Panic, vector_of};
+use std::alloc::Global;
+
+/// The parameters of a generator's graph.
+#[derive(Clone, Copy)]
+pub(crate) enum Params {
+    Board(BoardParams),
+    Simplex(SimplexParams),
+    Subsets(SubsetsParams),
+}
+
+impl Params {
+    // The graph itself.
+    fn graph(&self, alloc: Global) -> Result<Graph, Panic> {
+        match self {
+            Params::Board(params) => params.graph(alloc),
+            Params::Simplex(params) => params.graph(alloc),
+            Params::Subsets(params) => params.graph(alloc),
+        }
+    }
+
+    // Whether the lists that are made without the graph are those of it.
+    fn have_lists_of(&self, alloc: Global, graph: &Graph) -> bool {
+        match self {
+            Params::Board(params) => board_lists::are_lists(alloc, params, graph),
+            Params::Simplex(params) => simplex_lists::are_lists(alloc, params, graph),
+            Params::Subsets(params) => subsets_lists::are_lists(alloc, params, graph),
+        }
+    }
+
+    /// Whether the lists of these parameters are those of the built graph. It alone owns the graph.
+    pub(crate) fn have_lists(&self, alloc: Global) -> bool {
+        match self.graph(alloc) {
+            Ok(graph) => self.have_lists_of(alloc, &graph),
+            Err(_) => false,
+        }
+    }
+}
 
 /// Whether the links are the list of vertex `v` of the graph: the same lengths, to the vectors that the tips' names tell.
 pub(crate) fn is_list(graph: &Graph, v: u32, links: &Links) -> bool {

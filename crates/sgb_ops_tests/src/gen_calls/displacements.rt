@@ -1,7 +1,7 @@
 //! The displacements of pieces, seen by where they lead on directed boards.
 use super::board_counts::board_of;
 use sgb_gen::{Board, Links};
-use sgb_vec::{Family, Panic};
+use sgb_vec::Family;
 use std::alloc::Global;
 
 // The numbers of a directed board, a place, and where the piece moves from there.
@@ -50,10 +50,12 @@ fn moves_to(board: &Board, place: &[u32], tips: &[&[u32]], links: &mut Links) ->
 }
 
 // Whether the piece moves from this place to these alone.
-fn is_met(alloc: Global, row: &Row) -> Result<bool, Panic> {
+fn is_met(alloc: Global, row: &Row) -> bool {
     let (numbers, place, tips) = row;
-    let board = board_of(numbers, true)?;
-    Ok(moves_to(&board, place, tips, &mut Links::new(alloc)))
+    match board_of(numbers, true) {
+        Ok(board) => moves_to(&board, place, tips, &mut Links::new(alloc)),
+        Err(_) => false,
+    }
 }
 
 // Whether the links lead to these, in this order.
@@ -72,6 +74,6 @@ fn are_tips(links: &Links, tips: &[&[u32]]) -> bool {
 #[test]
 fn pieces_move_by_their_length(rt: HostRuntime) {
     for (k, row) in ROWS.iter().enumerate() {
-        assert!(rt; is_met(rt.alloc(), row) == Ok(true), "row {k}");
+        assert!(rt; is_met(rt.alloc(), row), "row {k}");
     }
 }

@@ -15,17 +15,17 @@ fn line(n: i64, piece: i64, wrap: i64, directed: bool) -> BoardParams {
     }
 }
 
-#[test]
-fn boards_of_one_dimension(rt: HostRuntime) {
-    assert!(rt; complete(5) == line(5, -1, 0, false));
-    assert!(rt; transitive(5) == line(5, -1, 0, true));
-    assert!(rt; empty(-3) == line(-3, 2, 0, false));
-    assert!(rt; circuit(0) == line(0, 1, 1, false));
-    assert!(rt; cycle(7) == line(7, 1, 1, true));
+// Whether the short names of boards of one dimension have their parameters.
+fn are_boards() -> bool {
+    complete(5) == line(5, -1, 0, false)
+        && transitive(5) == line(5, -1, 0, true)
+        && empty(-3) == line(-3, 2, 0, false)
+        && circuit(0) == line(0, 1, 1, false)
+        && cycle(7) == line(7, 1, 1, true)
 }
 
-#[test]
-fn subsets_that_are_disjoint(rt: HostRuntime) {
+// Whether those of subsets that are disjoint have theirs.
+fn are_subsets() -> bool {
     let expected = SubsetsParams {
         n: 2,
         n0: 1,
@@ -36,8 +36,12 @@ fn subsets_that_are_disjoint(rt: HostRuntime) {
         size_bits: 1,
         directed: false,
     };
-    assert!(rt; disjoint_subsets(5, 2) == expected);
-    assert!(rt; petersen() == expected);
-    let many = disjoint_subsets(-999_999_999_999_999_999, 3);
-    assert!(rt; many.n1 == 1_000_000_000_000_000_000);
+    disjoint_subsets(5, 2) == expected
+        && petersen() == expected
+        && disjoint_subsets(-999_999_999_999_999_999, 3).n1 == 1_000_000_000_000_000_000
+}
+
+#[test]
+fn short_names_have_their_parameters(rt: HostRuntime) {
+    assert!(rt; are_boards() && are_subsets());
 }

@@ -1,7 +1,7 @@
-use super::cases::is_list;
+use super::cases::{Params, is_list};
 use sgb_gen::{Links, Simplex, SimplexParams};
 use sgb_graph::Graph;
-use sgb_vec::{Family, Panic, Vectors};
+use sgb_vec::{Family, Vectors};
 use std::alloc::Global;
 
 // Parameters of simplexes whose lists are compared with those of the built graphs, each with both directions.
@@ -15,9 +15,9 @@ static SIMPLEXES: [[i64; 6]; 6] = [
 ];
 
 // The parameters of the simplex of these numbers.
-fn params_of(numbers: &[i64; 6], directed: bool) -> SimplexParams {
+fn params_of(numbers: &[i64; 6], directed: bool) -> Params {
     let [n, n0, n1, n2, n3, n4] = *numbers;
-    SimplexParams {
+    Params::Simplex(SimplexParams {
         n,
         n0,
         n1,
@@ -25,7 +25,7 @@ fn params_of(numbers: &[i64; 6], directed: bool) -> SimplexParams {
         n3,
         n4,
         directed,
-    }
+    })
 }
 
 // Whether the list of this vector is that of vertex v of the graph.
@@ -48,18 +48,19 @@ fn are_lists_of(graph: &Graph, simplex: &Simplex, links: &mut Links) -> bool {
     v == graph.n()
 }
 
-// Whether the lists of this simplex are those of the built graph.
-fn are_lists(alloc: Global, params: &SimplexParams) -> Result<bool, Panic> {
-    let simplex = Simplex::from_params(alloc, params)?;
-    let graph = params.graph(alloc)?;
-    Ok(are_lists_of(&graph, &simplex, &mut Links::new(alloc)))
+/// Whether the lists of this simplex are those of the graph.
+pub(crate) fn are_lists(alloc: Global, params: &SimplexParams, graph: &Graph) -> bool {
+    match Simplex::from_params(alloc, params) {
+        Ok(simplex) => are_lists_of(graph, &simplex, &mut Links::new(alloc)),
+        Err(_) => false,
+    }
 }
 
 #[test]
 fn lists_of_the_built_graph(rt: HostRuntime) {
     for numbers in &SIMPLEXES {
         for directed in [false, true] {
-            assert!(rt; are_lists(rt.alloc(), &params_of(numbers, directed)) == Ok(true));
+            assert!(rt; params_of(numbers, directed).have_lists(rt.alloc()));
         }
     }
 }

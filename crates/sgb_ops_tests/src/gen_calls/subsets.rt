@@ -1,13 +1,12 @@
 use sgb_gen::common;
 
-#[test]
-fn elements_in_common(rt: HostRuntime) {
-    assert!(rt; common(&[2, 1, 0], &[0, 2, 1]) == 1);
-    assert!(rt; common(&[0, 2, 1], &[2, 1, 0]) == 1);
-    assert!(rt; common(&[], &[]) == 0);
-    // above 32 bits
+// How many elements two vectors have in common, also above 32 bits.
+fn are_common() -> bool {
     let most = [4_294_967_295; 17];
-    assert!(rt; common(&most, &most) == 73_014_444_015);
+    common(&[2, 1, 0], &[0, 2, 1]) == 1
+        && common(&[0, 2, 1], &[2, 1, 0]) == 1
+        && common(&[], &[]) == 0
+        && common(&most, &most) == 73_014_444_015
 }
 
 // The sum of the lesser entries, one by one.
@@ -18,8 +17,8 @@ fn summed(u: &[u32], v: &[u32]) -> u64 {
         .fold(0, u64::wrapping_add)
 }
 
-#[test]
-fn elements_in_common_of_any_length(rt: HostRuntime) {
+// Whether they are those of vectors of any length.
+fn are_summed() -> bool {
     let mut u = [0; 130];
     let mut v = [0; 130];
     for k in 0..130 {
@@ -27,6 +26,14 @@ fn elements_in_common_of_any_length(rt: HostRuntime) {
         v[k] = (k as u32).wrapping_mul(40_503).wrapping_add(u32::MAX / 3);
     }
     for n in 0..=130 {
-        assert!(rt; common(&u[..n], &v[..n]) == summed(&u[..n], &v[..n]));
+        if common(&u[..n], &v[..n]) != summed(&u[..n], &v[..n]) {
+            return false;
+        }
     }
+    true
+}
+
+#[test]
+fn elements_in_common(rt: HostRuntime) {
+    assert!(rt; are_common() && are_summed());
 }

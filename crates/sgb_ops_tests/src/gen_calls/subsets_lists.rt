@@ -1,7 +1,7 @@
-use super::cases::is_list;
+use super::cases::{Params, is_list};
 use sgb_gen::{Links, Subsets, SubsetsParams};
 use sgb_graph::Graph;
-use sgb_vec::{Family, Panic, Vectors};
+use sgb_vec::{Family, Vectors};
 use std::alloc::Global;
 
 // Parameters of subsets whose lists are compared with those of the built graphs, each with both directions.
@@ -21,9 +21,9 @@ static SUBSETS: [([i64; 6], u128); 11] = [
 ];
 
 // The parameters of the subsets of these numbers, with these sizes of what two have in common.
-fn params_of(numbers: &[i64; 6], size_bits: u128, directed: bool) -> SubsetsParams {
+fn params_of(numbers: &[i64; 6], size_bits: u128, directed: bool) -> Params {
     let [n, n0, n1, n2, n3, n4] = *numbers;
-    SubsetsParams {
+    Params::Subsets(SubsetsParams {
         n,
         n0,
         n1,
@@ -32,7 +32,7 @@ fn params_of(numbers: &[i64; 6], size_bits: u128, directed: bool) -> SubsetsPara
         n4,
         size_bits,
         directed,
-    }
+    })
 }
 
 // Whether the list of this vector is that of vertex v of the graph.
@@ -55,20 +55,19 @@ fn are_lists_of(graph: &Graph, subsets: &Subsets, links: &mut Links) -> bool {
     v == graph.n()
 }
 
-// Whether the lists of these subsets are those of the built graph.
-fn are_lists(alloc: Global, params: &SubsetsParams) -> Result<bool, Panic> {
-    let subsets = Subsets::from_params(alloc, params)?;
-    let graph = params.graph(alloc)?;
-    Ok(are_lists_of(&graph, &subsets, &mut Links::new(alloc)))
+/// Whether the lists of these subsets are those of the graph.
+pub(crate) fn are_lists(alloc: Global, params: &SubsetsParams, graph: &Graph) -> bool {
+    match Subsets::from_params(alloc, params) {
+        Ok(subsets) => are_lists_of(graph, &subsets, &mut Links::new(alloc)),
+        Err(_) => false,
+    }
 }
 
 #[test]
 fn lists_of_the_built_graph(rt: HostRuntime) {
     for (numbers, size_bits) in &SUBSETS {
         for directed in [false, true] {
-            assert!(rt;
-                are_lists(rt.alloc(), &params_of(numbers, *size_bits, directed)) == Ok(true)
-            );
+            assert!(rt; params_of(numbers, *size_bits, directed).have_lists(rt.alloc()));
         }
     }
 }
