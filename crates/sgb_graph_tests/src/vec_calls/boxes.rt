@@ -38,7 +38,7 @@ static BOXES: [(&[u32], Asked); 15] = [
     (&[4_294_967_295; 250], Asked::Refusal(Panic::VeryBad)),
 ];
 
-// The same of walks: over all, and over those after a vector.
+// Walks over boxes: over all vectors, and over those after one.
 static WALKS: [(&[u32], Asked); 13] = [
     (
         &[2, 2],
