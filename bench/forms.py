@@ -1,0 +1,121 @@
+#!/usr/bin/env python3
+"""Finds the places that name each form of expressions, and fails where one lacks a form: bench/forms.py [FORM ..]
+
+At the repository's top. The forms are those that `name_opening` gives (crates/sgb_expr/specs/Names.antt); each is of one sort:
+a generator, a short name, an operation or `stdin`. PLACES has what each sort is named in: a file, and what stands there for it.
+So who adds a form adds its name, and is told what else it wants. Where FORMs are given their places are printed, too.
+
+A place that no form is found in has lost its text: that fails as well. The last line is `N passed, M failed`; the status is 1
+where one failed.
+"""
+
+import re
+import sys
+
+NAMES = "crates/sgb_expr/specs/Names.antt"
+OPENING = re.compile(r'^name_opening (\(Generator (\w+)\)|(\w+)) = codes "(\w+)\(?"$', re.M)
+GENERATORS = ["Board", "Simplex", "Subsets"]
+
+# of these sorts: g a generator, s a short name, o an operation, i `stdin`; NAME is the form's text, VARIANT its variant
+PLACES = [
+    ("gso", "crates/sgb_expr/src/names.rt", r'VARIANT\)? => b"NAME\("'),
+    ("i", "crates/sgb_expr/src/names.rt", r'VARIANT => b"NAME"'),
+    ("gs", "crates/sgb_expr/src/names.rt", r"^    FormName::Generator\(GeneratorName::VARIANT\),$"),
+    ("oi", "crates/sgb_expr/src/names.rt", r"^    FormName::VARIANT,$"),
+    ("gsoi", "crates/sgb_expr/specs/inner/Names.antt", r"\bVARIANT\b.*∷"),
+    ("gs", "crates/sgb_expr/specs/Forms.antt", r"^IsGeneratorCall VARIANT "),
+    ("gs", "crates/sgb_expr/specs/inner/Reading.antt", r"^generator_at VARIANT "),
+    ("gs", "crates/sgb_expr/proofs/GeneratorReaders.antt", r"^reads_generator VARIANT\b"),
+    ("gs", "crates/sgb_expr/src/arguments.rt", r"GeneratorName::VARIANT =>"),
+    ("oi", "crates/sgb_expr/src/expressions.rt", r"^    VARIANT(,| \{)$"),
+    ("oi", "crates/sgb_expr/specs/Expression.antt", r"^expression_of \(?expr\.VARIANT\b|^ +expression_of \(?expr\.VARIANT\b"),
+    ("oi", "crates/sgb_expr/src/operations.rt", r"FormName::VARIANT =>"),
+    ("oi", "crates/sgb_expr/specs/Operations.antt", r"^IsCallOf .*\bVARIANT\b"),
+    ("oi", "crates/sgb_expr/specs/inner/Reading.antt", r"^arguments_with .*\bVARIANT\b"),
+    ("oi", "crates/sgb_expr/proofs/Forms.antt", r"^form_of VARIANT\b"),
+    ("oi", "crates/sgb_expr/proofs/Nesting.antt", r"^name_is_there VARIANT\b"),
+    ("gs", "crates/sgb_expr/proofs/Nesting.antt", r"^name_is_there \(Generator VARIANT\)"),
+    ("oi", "crates/sgb_expr/src/stdin_uses.rt", r"Expr::VARIANT\b"),
+    ("oi", "crates/sgb_expr/specs/StdinUses.antt", r"has_stdin \(?VARIANT\b"),
+    ("oi", "crates/sgb_values/src/evaluation.rt", r"Expr::VARIANT\b"),
+    ("oi", "crates/sgb_values/specs/Values.antt", r"value_of stdin \(?VARIANT\b"),
+    ("oi", "crates/sgb_values/specs/FirstRefusals.antt", r"^IsRefusedFirst input \(?VARIANT\b"),
+    ("oi", "crates/sgb_values/proofs/Values.antt", r"^ +size_of \(?VARIANT\b"),
+    ("oi", "crates/sgb_values/proofs/StdinValues.antt", r"^ +value_same a b \(?VARIANT\b"),
+    ("oi", "crates/sgb_values/proofs/Refusals.antt", r"^ +value_judged stdin is \(?VARIANT\b"),
+    ("oi", "crates/sgb_values/proofs/FirstRefusals.antt", r"^first_other input \(?VARIANT\b"),
+    ("g", "crates/sgb_gen/src/params.rt", r"^    VARIANT\(VARIANTParams\),$"),
+    ("g", "crates/sgb_gen/src/generators.rt", r"Generator::VARIANT\(params\) =>"),
+    ("g", "crates/sgb_gen/src/locals.rt", r"^    VARIANT\(VARIANT\),$"),
+    ("g", "crates/sgb_gen/src/locals.rt", r"Generator::VARIANT\(params\) =>"),
+    ("g", "crates/sgb_gen/src/visits.rt", r"Local::VARIANT\("),
+    ("g", "crates/sgb_gen/specs/Generators.antt", r"^generator_value \(generator\.VARIANT "),
+    ("g", "crates/sgb_gen/specs/Generators.antt", r"^vector_graph_of \(local\.VARIANT "),
+    ("g", "crates/sgb_gen/specs/Generators.antt", r"^IsGeneratorRefused \(generator\.VARIANT "),
+    ("gs", "crates/sgb_gen/CALLING.md", r"`NAME\("),
+    ("o", "crates/sgb_ops/CALLING.md", r"`NAME\("),
+    ("gsoi", "crates/sgb/CALLING.md", r"\bNAME\b"),
+    ("gso", "conformance/graphs.tsv", r"\bNAME\("),
+    ("gso", "conformance/graphbase.c", r"\bNAME\b"),
+    ("gsoi", "bench/random_requests.py", r"[\"'(,]NAME[(\"']"),
+    ("o", "bench/calls/graphs.in", r"\bNAME\("),
+    ("go", "bench/calls.py", r"^    \"NAME\b"),
+    ("gso", "bench/c_library.py", r"[\"'(, ]NAME\("),
+    ("i", "bench/c_library.py", r"[\"'(,]NAME\b"),
+    ("o", "bench/outside.py", r"[\"'(, ]NAME\("),
+    ("i", "bench/outside.py", r"[\"'(,]NAME\b"),
+    ("gs", "examples/shards.sh", r"\bNAME\b"),
+    ("gsoi", "README.md", r"`NAME\b"),
+    ("gsoi", "man/sgb.1", r"\bNAME\b"),
+    ("gsoi", "completions/sgb.bash", r"\bNAME\b"),
+    ("gso", "docs/DEFINITIONS.md", r"NAME(_of)?\b|VARIANT"),
+    ("gso", "docs/COOKBOOK.md", r"\bNAME\b"),
+]
+
+
+def read(path):
+    with open(path, encoding="utf-8") as file:
+        return file.read()
+
+
+def forms():
+    """The forms by their texts: the variant and the sort of each."""
+    found = {}
+    for _, generator, other, text in OPENING.findall(read(NAMES)):
+        variant = generator or other
+        sort = "i" if variant == "Stdin" else "o" if other else "g" if variant in GENERATORS else "s"
+        found[text] = (variant, sort)
+    return found
+
+
+def stands(pattern, name, variant, text):
+    return re.search(pattern.replace("NAME", re.escape(name)).replace("VARIANT", variant), text, re.M)
+
+
+def main():
+    found = forms()
+    if not {"g", "s", "o", "i"} <= {sort for _, sort in found.values()}:
+        sys.exit(f"bench/forms.py: {NAMES} does not tell the forms")
+    asked = sys.argv[1:]
+    for name in asked:
+        if name not in found:
+            sys.exit(f"bench/forms.py: there is no form {name}")
+    passed = failed = 0
+    for sorts, path, pattern in PLACES:
+        text = read(path)
+        for name, (variant, sort) in found.items():
+            if sort not in sorts:
+                continue
+            if stands(pattern, name, variant, text):
+                passed += 1
+                if name in asked:
+                    print(f"{name}: {path}")
+            else:
+                failed += 1
+                print(f"{name} is not in {path}, where {pattern} is looked for")
+    print(f"{passed} passed, {failed} failed")
+    sys.exit(1 if failed else 0)
+
+
+if __name__ == "__main__":
+    main()
