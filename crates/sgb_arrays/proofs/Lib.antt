@@ -3,8 +3,10 @@
 pub mod PutValues
 -- what is left of a walk through the lists, or through the names
 pub mod PartsLeft
--- runs, one vertex more, and arrays of their lengths
+-- runs, one vertex more
 pub mod RunSteps
+-- arrays of a run, copied to others of their lengths
+pub mod CopiedRuns
 -- runs of a generator's graph
 pub mod LocalRuns
 -- draws, one after another

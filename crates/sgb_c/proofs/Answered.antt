@@ -8,7 +8,7 @@ use Rattle.sgb_arrays.specs.declared.names.Names.{Names}
 use Rattle.sgb_arrays.specs.declared.rows.Rows.{Rows}
 use Rattle.sgb_arrays.specs.Copies.{HaveLengthsOfNames, HaveLengthsOfRows}
 use Rattle.sgb_arrays.specs.Runs.{AreNames, AreRows, HaveNameLengths, HaveRowLengths, IsThere}
-use Rattle.sgb_arrays.proofs.RunSteps.{names_copied, names_unfit, rows_copied, rows_unfit}
+use Rattle.sgb_arrays.proofs.CopiedRuns.{names_copied, names_unfit, rows_copied, rows_unfit}
 use Rattle.sgb_c.specs.Answers.{number_of}
 use Rattle.sgb_c.specs.Families.{IsAnswerOfCall, IsGraphOfCall, IsMisfit}
 use Rattle.sgb_c.specs.inner.Causes.{answer_of_filling, answer_of_wrong}

@@ -1,6 +1,6 @@
 use Rattle.std.proofs.Common.{length}
 use Rattle.std.proofs.lemmas.Result.{on_ok_weaker}
-use Rattle.sgb_arrays.proofs.RunSteps.{rows_copied, rows_refused}
+use Rattle.sgb_arrays.proofs.CopiedRuns.{rows_copied, rows_refused}
 use Rattle.sgb_arrays.proofs.packed.PackedGraph.fill_rows.Goals as goal
 
 pub returns-in-Some-clause-filled : goal.returns-in-Some-clause-filled
