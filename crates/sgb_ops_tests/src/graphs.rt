@@ -110,24 +110,16 @@ pub(crate) enum Expected {
     Refusal(Panic),
 }
 
-/// Whether the answer is as expected.
-pub(crate) fn is_answer(answer: &Result<Graph, Panic>, expected: &Expected) -> bool {
-    match answer {
-        Ok(graph) => is_graph(graph, expected),
-        Err(error) => is_refusal(*error, expected),
-    }
-}
-
-// Whether this refusal is expected.
-fn is_refusal(error: Panic, expected: &Expected) -> bool {
+/// Whether this refusal is expected.
+pub(crate) fn is_refusal(error: Panic, expected: &Expected) -> bool {
     match expected {
         Expected::Refusal(why) => error == *why,
         _ => false,
     }
 }
 
-// Whether the graph is as expected.
-fn is_graph(graph: &Graph, expected: &Expected) -> bool {
+/// Whether the graph is as expected.
+pub(crate) fn is_graph(graph: &Graph, expected: &Expected) -> bool {
     match expected {
         Expected::Graph(id, n, m, blocks) => is_known(graph, id, (*n, *m), blocks),
         Expected::Generated(id, n, m, blocks) => {

@@ -1,5 +1,5 @@
 //! The operations as values, so that each is called in one place, and graphs by cases: one function owns them.
-use crate::graphs::{Expected, Made, is_answer};
+use crate::graphs::{Expected, Made, is_graph, is_refusal};
 use sgb_graph::Graph;
 use sgb_ops::{Entry, complement, gunion, induced, induced_from, intersection, lines, product};
 use sgb_vec::Panic;
@@ -17,36 +17,24 @@ pub(crate) enum Place {
 }
 
 impl Place {
-    // The entry of the place.
-    fn entry(&self, alloc: Global) -> Result<Entry, Panic> {
-        match self {
-            Place::Copies(count) => Ok(Entry::Copies(*count)),
-            Place::Merged(number) => Ok(Entry::Merged(*number)),
-            Place::Graph(made) => Ok(Entry::Graph(made.graph(alloc)?)),
-        }
+    // Appends the entry of the place.
+    fn push_to(&self, entries: &mut Vec<Entry>, alloc: Global) -> Result<(), Panic> {
+        let entry = match self {
+            Place::Copies(count) => Entry::Copies(*count),
+            Place::Merged(number) => Entry::Merged(*number),
+            Place::Graph(made) => Entry::Graph(made.graph(alloc)?),
+        };
+        entries.push(entry)?;
+        Ok(())
     }
-}
-
-// Appends the entry of a place.
-fn push_entry(entries: &mut Vec<Entry>, alloc: Global, place: &Place) -> Result<(), Panic> {
-    let entry = place.entry(alloc)?;
-    entries.push(entry)?;
-    Ok(())
 }
 
 // Appends the entries of the places.
 fn push_entries(entries: &mut Vec<Entry>, alloc: Global, places: &[Place]) -> Result<(), Panic> {
     for place in places {
-        push_entry(entries, alloc, place)?;
+        place.push_to(entries, alloc)?;
     }
     Ok(())
-}
-
-// The entries of the places.
-fn entries_of(alloc: Global, places: &[Place]) -> Result<Vec<Entry>, Panic> {
-    let mut entries = Vec::new(alloc);
-    push_entries(&mut entries, alloc, places)?;
-    Ok(entries)
 }
 
 /// An operation on a graph.
@@ -69,28 +57,21 @@ pub(crate) enum Operation {
     Product(Made, i64, bool),
 }
 
-// What the entries induce, with the flags self_loops, multi and directed.
+// What the entries of the places induce, with the flags self_loops, multi and directed, where they are lent or handed over.
 fn induced_by(
     alloc: Global,
     graph: &Graph,
     places: &[Place],
     flags: &[bool; 3],
+    handed_over: bool,
 ) -> Result<Graph, Panic> {
     let [self_loops, multi, directed] = *flags;
-    let entries = entries_of(alloc, places)?;
+    let mut entries = Vec::new(alloc);
+    push_entries(&mut entries, alloc, places)?;
+    if handed_over {
+        return induced_from(alloc, graph, entries, self_loops, multi, directed);
+    }
     induced(alloc, graph, &entries, self_loops, multi, directed)
-}
-
-// The induced graph, of entries that are handed over.
-fn induced_from_all(
-    alloc: Global,
-    graph: &Graph,
-    places: &[Place],
-    flags: &[bool; 3],
-) -> Result<Graph, Panic> {
-    let [self_loops, multi, directed] = *flags;
-    let entries = entries_of(alloc, places)?;
-    induced_from(alloc, graph, entries, self_loops, multi, directed)
 }
 
 impl Operation {
@@ -111,8 +92,8 @@ impl Operation {
                 complement(alloc, first, *copy, *self_loops, *directed)
             }
             Operation::Lines(directed) => lines(alloc, first, *directed),
-            Operation::Induced(places, flags) => induced_by(alloc, first, places, flags),
-            Operation::InducedFrom(places, flags) => induced_from_all(alloc, first, places, flags),
+            Operation::Induced(places, flags) => induced_by(alloc, first, places, flags, false),
+            Operation::InducedFrom(places, flags) => induced_by(alloc, first, places, flags, true),
             Operation::Twins => gunion(alloc, first, second, false, false),
             Operation::Gunion(_, [multi, directed]) => {
                 gunion(alloc, first, second, *multi, *directed)
@@ -160,17 +141,20 @@ pub(crate) struct Case {
 }
 
 impl Case {
-    // What comes of it.
-    fn answer(&self, alloc: Global) -> Result<Graph, Panic> {
-        let mut graph = self.of.graph(alloc)?;
-        steps(alloc, &mut graph, self.by)?;
-        Ok(graph)
+    // Whether what the operations make of the graph, or their refusal, is as expected.
+    fn is_met_of(&self, alloc: Global, graph: &mut Graph) -> bool {
+        match steps(alloc, graph, self.by) {
+            Ok(()) => is_graph(graph, &self.gives),
+            Err(error) => is_refusal(error, &self.gives),
+        }
     }
 
-    // Whether that is as expected.
+    // Whether what comes of it is as expected. It alone owns the graph, and no `?` drops it here.
     fn is_met(&self, alloc: Global) -> bool {
-        let answer = self.answer(alloc);
-        is_answer(&answer, &self.gives)
+        match self.of.graph(alloc) {
+            Ok(mut graph) => self.is_met_of(alloc, &mut graph),
+            Err(error) => is_refusal(error, &self.gives),
+        }
     }
 }
 

@@ -69,11 +69,6 @@ static BOARDS: [Case; 8] = [
     },
 ];
 
-#[test]
-fn boards(rt: HostRuntime) {
-    check_all(&rt, rt.alloc(), &BOARDS);
-}
-
 static SIMPLEX_AND_SUBSETS: [Case; 5] = [
     Case {
         of: Made::Simplex([2, 0, 0, 0, 0, 0], false),
@@ -129,11 +124,6 @@ static SIMPLEX_AND_SUBSETS: [Case; 5] = [
     },
 ];
 
-#[test]
-fn a_simplex_and_subsets(rt: HostRuntime) {
-    check_all(&rt, rt.alloc(), &SIMPLEX_AND_SUBSETS);
-}
-
 /// The graphs of parameters that the short names have.
 static SHORT_NAMES: [Case; 2] = [
     Case {
@@ -149,6 +139,8 @@ static SHORT_NAMES: [Case; 2] = [
 ];
 
 #[test]
-fn graphs_of_short_names(rt: HostRuntime) {
+fn graphs_of_generators(rt: HostRuntime) {
+    check_all(&rt, rt.alloc(), &BOARDS);
+    check_all(&rt, rt.alloc(), &SIMPLEX_AND_SUBSETS);
     check_all(&rt, rt.alloc(), &SHORT_NAMES);
 }

@@ -106,22 +106,12 @@ static COMPLEMENTS: [Case; 10] = [
     },
 ];
 
-#[test]
-fn complements_of_small_graphs(rt: HostRuntime) {
-    check_all(&rt, rt.alloc(), &COMPLEMENTS);
-}
-
 // Riders have parallel edges.
 static PARALLEL: [Case; 1] = [Case {
     of: RIDERS,
     by: &[],
     gives: Expected::Arcs(12),
 }];
-
-#[test]
-fn riders_have_parallel_edges(rt: HostRuntime) {
-    check_all(&rt, rt.alloc(), &PARALLEL);
-}
 
 // The complement of edges, with no loops and no copy.
 const PLAIN: Operation = Operation::Complement([false, false, false]);
@@ -152,6 +142,8 @@ static MANY: [Case; 3] = [
 ];
 
 #[test]
-fn eight_complements(rt: HostRuntime) {
+fn complements(rt: HostRuntime) {
+    check_all(&rt, rt.alloc(), &COMPLEMENTS);
+    check_all(&rt, rt.alloc(), &PARALLEL);
     check_all(&rt, rt.alloc(), &MANY);
 }

@@ -74,11 +74,6 @@ static COPIES: [Case; 8] = [
     },
 ];
 
-#[test]
-fn copies_of_vertices(rt: HostRuntime) {
-    check_all(&rt, rt.alloc(), &COPIES);
-}
-
 /// Induced graphs with merged vertices, and with graphs in the places of vertices.
 static MERGED: [Case; 3] = [
     // a circuit of four whose vertices 0 and 2 are merged by the number 1
@@ -127,6 +122,7 @@ static MERGED: [Case; 3] = [
 ];
 
 #[test]
-fn merged_vertices_and_graphs(rt: HostRuntime) {
+fn induced_graphs(rt: HostRuntime) {
+    check_all(&rt, rt.alloc(), &COPIES);
     check_all(&rt, rt.alloc(), &MERGED);
 }
