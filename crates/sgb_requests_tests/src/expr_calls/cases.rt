@@ -12,27 +12,29 @@ pub(crate) fn read(alloc: Global, text: &str) -> Option<Expr> {
 
 /// Reads the text of each line, which has to be the expression that the line shows: a line is a text, a space, and the
 /// expression as `{:?}` shows it.
-pub(crate) fn check_read(
-    rt: &impl Abort,
-    alloc: Global,
-    lines: &'static str,
-) -> Result<(), AllocError> {
+pub(crate) fn check_read(rt: &impl Abort, alloc: Global, lines: &'static str) {
     for line in lines.lines() {
-        assert!(rt; is_read_as_shown(alloc, line)?, "at {line}");
+        assert!(rt; is_read_as_shown(alloc, line), "at {line}");
     }
-    Ok(())
 }
 
 // Whether the text of the line is read as the expression that it shows.
-fn is_read_as_shown(alloc: Global, line: &str) -> Result<bool, AllocError> {
+fn is_read_as_shown(alloc: Global, line: &str) -> bool {
     let Some((text, shown)) = line.split_once(' ') else {
-        return Ok(false);
+        return false;
     };
-    let Some(expression) = read(alloc, text) else {
-        return Ok(false);
-    };
-    let found = format!(in alloc; "{expression:?}")?;
-    Ok(found.as_str() == shown)
+    match read(alloc, text) {
+        Some(expression) => is_shown(alloc, &expression, shown),
+        None => false,
+    }
+}
+
+// Whether `{:?}` shows the expression so.
+fn is_shown(alloc: Global, expression: &Expr, shown: &str) -> bool {
+    match format!(in alloc; "{expression:?}") {
+        Ok(found) => found.as_str() == shown,
+        Err(_) => false,
+    }
 }
 
 /// What a text is read as.
@@ -83,44 +85,42 @@ pub(crate) fn push_all(text: &mut String, parts: &[Times]) -> Result<(), AllocEr
 pub(crate) struct Limit(pub(crate) &'static [Times], pub(crate) Option<Unread>);
 
 // Whether the texts, one after another, are of this form, or refused for the reason.
-fn is_answer(alloc: Global, form: Form, limit: Limit) -> Result<bool, AllocError> {
+fn is_answer(alloc: Global, form: Form, limit: Limit) -> bool {
     let Limit(parts, why) = limit;
     let mut text = String::new(alloc);
-    push_all(&mut text, parts)?;
-    Ok(refusal(alloc, form, text.as_bytes()) == why)
+    push_all(&mut text, parts).is_ok() && refusal(alloc, form, text.as_bytes()) == why
 }
 
 /// Whether it is so of all.
-pub(crate) fn are_answers(alloc: Global, form: Form, all: &[Limit]) -> Result<bool, AllocError> {
+pub(crate) fn are_answers(alloc: Global, form: Form, all: &[Limit]) -> bool {
     for limit in all {
-        if !is_answer(alloc, form, *limit)? {
-            return Ok(false);
+        if !is_answer(alloc, form, *limit) {
+            return false;
         }
     }
-    Ok(true)
+    true
 }
 
 /// Reads the text of each line, which has to go wrong at its mark: a line is a text that is not of this form, with a
 /// `|` after its longest prefix that begins one that is.
-pub(crate) fn check_cut(
-    rt: &impl Abort,
-    alloc: Global,
-    form: Form,
-    lines: &'static str,
-) -> Result<(), AllocError> {
+pub(crate) fn check_cut(rt: &impl Abort, alloc: Global, form: Form, lines: &'static str) {
     for line in lines.lines() {
-        assert!(rt; goes_wrong_at_mark(alloc, form, line)?, "at {line}");
+        assert!(rt; goes_wrong_at_mark(alloc, form, line), "at {line}");
     }
-    Ok(())
 }
 
 // Whether the text of the line is not of this form, with the mark after its longest prefix that begins one that is.
-fn goes_wrong_at_mark(alloc: Global, form: Form, line: &str) -> Result<bool, AllocError> {
+fn goes_wrong_at_mark(alloc: Global, form: Form, line: &str) -> bool {
     let Some((begun, rest)) = line.split_once('|') else {
-        return Ok(false);
+        return false;
     };
-    let mut text = String::from_str(alloc, begun)?;
-    text.push_str(rest)?;
-    let found = refusal(alloc, form, text.as_bytes());
-    Ok(matches!(found, Some(Unread::At(at)) if at as usize == begun.len()))
+    let mut text = String::new(alloc);
+    text.push_str(begun).is_ok()
+        && text.push_str(rest).is_ok()
+        && goes_wrong_at(refusal(alloc, form, text.as_bytes()), begun.len())
+}
+
+// Whether the text that was refused so goes wrong there.
+fn goes_wrong_at(found: Option<Unread>, place: usize) -> bool {
+    matches!(found, Some(Unread::At(at)) if at as usize == place)
 }

@@ -1,6 +1,6 @@
 use super::cases::{Form, Times, check_cut, check_read, push_all, read};
 use sgb_expr::*;
-use std::alloc::{AllocError, Global};
+use std::alloc::Global;
 
 /// Texts, each with the induced graph that it is after a space, as `{:?}` shows it.
 const INDUCED: &str = "\
@@ -34,9 +34,9 @@ induced(petersen(),[],0,0|)
 induced(petersen(),[],0,0,0|";
 
 #[test]
-fn entries_are_read_in_order_or_go_wrong(rt: HostRuntime) -> Result<(), AllocError> {
-    check_read(&rt, rt.alloc(), INDUCED)?;
-    check_cut(&rt, rt.alloc(), Form::Expr, CUT)
+fn entries_are_read_in_order_or_go_wrong(rt: HostRuntime) {
+    check_read(&rt, rt.alloc(), INDUCED);
+    check_cut(&rt, rt.alloc(), Form::Expr, CUT);
 }
 
 /// An induced graph of 30,000 entries 1, and then -2.
@@ -61,12 +61,10 @@ fn has_entries(alloc: Global, text: &str, count: usize) -> bool {
     }
 }
 
-#[test]
-fn thirty_thousand_entries_are_read(rt: HostRuntime) -> Result<(), AllocError> {
-    let mut text = String::new(rt.alloc());
-    push_all(&mut text, &MANY)?;
-    assert!(rt; has_entries(rt.alloc(), text.as_str(), 30_001));
-    Ok(())
+// Whether the entries of the great graph are read.
+fn are_many_read(alloc: Global) -> bool {
+    let mut text = String::new(alloc);
+    push_all(&mut text, &MANY).is_ok() && has_entries(alloc, text.as_str(), 30_001)
 }
 
 // Whether the entries are those of a list that is not empty.
@@ -74,10 +72,13 @@ fn are(entries: &Entries, list: &[EntryExpr]) -> bool {
     entries.len() == list.len() && !entries.is_empty() && entries.as_slice() == list
 }
 
+// Whether those of a list of one are its own.
+fn are_of_one(alloc: Global) -> bool {
+    let mut list = Vec::new(alloc);
+    list.push(EntryExpr::Number(7)).is_ok() && are(&Entries::new(list), &[EntryExpr::Number(7)])
+}
+
 #[test]
-fn entries_are_those_of_their_list(rt: HostRuntime) -> Result<(), AllocError> {
-    let mut list = Vec::new(rt.alloc());
-    list.push(EntryExpr::Number(7))?;
-    assert!(rt; are(&Entries::new(list), &[EntryExpr::Number(7)]));
-    Ok(())
+fn entries_are_those_of_their_list(rt: HostRuntime) {
+    assert!(rt; are_many_read(rt.alloc()) && are_of_one(rt.alloc()));
 }

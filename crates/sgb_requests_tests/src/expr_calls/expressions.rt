@@ -162,13 +162,13 @@ wheel(5,1|)
 wheel(5,1,0|,0)";
 
 #[test]
-fn expressions_are_read(rt: HostRuntime) -> Result<(), AllocError> {
-    check_read(&rt, rt.alloc(), GENERATORS)?;
-    check_read(&rt, rt.alloc(), OPERATIONS)
+fn expressions_are_read(rt: HostRuntime) {
+    check_read(&rt, rt.alloc(), GENERATORS);
+    check_read(&rt, rt.alloc(), OPERATIONS);
 }
 
 #[test]
-fn other_texts_go_wrong_somewhere(rt: HostRuntime) -> Result<(), AllocError> {
+fn other_texts_go_wrong_somewhere(rt: HostRuntime) {
     for lines in [
         WRONG_BOARDS,
         WRONG_BITS,
@@ -176,9 +176,8 @@ fn other_texts_go_wrong_somewhere(rt: HostRuntime) -> Result<(), AllocError> {
         WRONG_OPERATIONS,
         WRONG_LINES,
     ] {
-        check_cut(&rt, rt.alloc(), Form::Expr, lines)?;
+        check_cut(&rt, rt.alloc(), Form::Expr, lines);
     }
-    Ok(())
 }
 
 /// Texts about the limits, each with why it is not read, if it is not: parentheses are open at most 64 deep, of an
@@ -209,42 +208,55 @@ const LIMITS: [Limit; 9] = [
     Limit(&[Times(65_537, "x")], Some(Unread::TooLarge)),
 ];
 
-/// The union of the graph with itself, with this text in place of its flags.
-fn doubled(alloc: Global, graph: &str, flags: &str) -> Result<String, AllocError> {
-    let mut text = String::from_str(alloc, "gunion(")?;
+// Appends the union of the graph with itself, with this text in place of its flags.
+fn push_union(text: &mut String, graph: &str, flags: &str) -> Result<(), AllocError> {
+    text.push_str("gunion(")?;
     text.push_str(graph)?;
     text.push(',')?;
     text.push_str(graph)?;
-    text.push_str(flags)?;
+    text.push_str(flags)
+}
+
+// The union of the graph with itself, with this text in place of its flags.
+fn doubled(alloc: Global, graph: &str, flags: &str) -> Result<String, AllocError> {
+    let mut text = String::new(alloc);
+    push_union(&mut text, graph, flags)?;
     Ok(text)
 }
 
-/// A graph of a generator doubled eleven times, at last with this text in place of its flags.
-fn doubled_often(alloc: Global, flags: &str) -> Result<String, AllocError> {
-    let mut graph = String::from_str(alloc, "transitive(1234567)")?;
-    for _ in 0..10 {
-        graph = doubled(alloc, graph.as_str(), ",0,0)")?;
-    }
-    doubled(alloc, graph.as_str(), flags)
+// Puts the union of the graph with itself in its place.
+fn double(graph: &mut String, alloc: Global, flags: &str) -> Result<(), AllocError> {
+    *graph = doubled(alloc, graph.as_str(), flags)?;
+    Ok(())
 }
 
-// Whether the graph that is doubled has so many bytes, and is read, or refused for this reason.
-fn is_answer_to_doubled(
-    alloc: Global,
-    flags: &str,
-    length: usize,
-    why: Option<Unread>,
-) -> Result<bool, AllocError> {
-    let text = doubled_often(alloc, flags)?;
-    Ok(text.len() == length && refusal(alloc, Form::Expr, text.as_bytes()) == why)
+// Does so eleven times, at last with this text in place of the flags.
+fn double_often(graph: &mut String, alloc: Global, flags: &str) -> Result<(), AllocError> {
+    for _ in 0..10 {
+        double(graph, alloc, ",0,0)")?;
+    }
+    double(graph, alloc, flags)
+}
+
+// Whether a graph of a generator, doubled eleven times, has then so many bytes, and is read, or refused for this reason.
+fn is_answer_to_doubled(alloc: Global, flags: &str, length: usize, why: Option<Unread>) -> bool {
+    match String::from_str(alloc, "transitive(1234567)") {
+        Ok(mut graph) => {
+            double_often(&mut graph, alloc, flags).is_ok()
+                && graph.len() == length
+                && refusal(alloc, Form::Expr, graph.as_bytes()) == why
+        }
+        Err(_) => false,
+    }
 }
 
 #[test]
-fn large_texts_are_not_read(rt: HostRuntime) -> Result<(), AllocError> {
+fn large_texts_are_not_read(rt: HostRuntime) {
     let alloc = rt.alloc();
-    assert!(rt; are_answers(alloc, Form::Expr, &LIMITS)?);
-    assert!(rt; is_answer_to_doubled(alloc, ",00000000000000,0)", 65_536, None)?);
+    assert!(rt; are_answers(alloc, Form::Expr, &LIMITS));
     let refused = Some(Unread::TooLarge);
-    assert!(rt; is_answer_to_doubled(alloc, ",000000000000000,0)", 65_537, refused)?);
-    Ok(())
+    assert!(rt;
+        is_answer_to_doubled(alloc, ",00000000000000,0)", 65_536, None)
+            && is_answer_to_doubled(alloc, ",000000000000000,0)", 65_537, refused)
+    );
 }

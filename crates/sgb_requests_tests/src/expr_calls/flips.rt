@@ -1,6 +1,5 @@
 use super::cases::{Form, Limit, Times, are_answers, check_cut, flip_of};
 use sgb_expr::*;
-use std::alloc::AllocError;
 
 /// The largest integer of 18 digits.
 const LONGEST: i64 = 999_999_999_999_999_999;
@@ -77,7 +76,7 @@ const LARGE: [Limit; 4] = [
 ];
 
 #[test]
-fn other_texts_go_wrong_somewhere(rt: HostRuntime) -> Result<(), AllocError> {
-    assert!(rt; are_answers(rt.alloc(), Form::Flip, &LARGE)?);
-    check_cut(&rt, rt.alloc(), Form::Flip, CUT)
+fn other_texts_go_wrong_somewhere(rt: HostRuntime) {
+    assert!(rt; are_answers(rt.alloc(), Form::Flip, &LARGE));
+    check_cut(&rt, rt.alloc(), Form::Flip, CUT);
 }

@@ -1,6 +1,6 @@
 use super::cases::{Form, check_cut, read};
 use sgb_expr::*;
-use std::alloc::{AllocError, Global};
+use std::alloc::Global;
 
 /// Expressions, each with whether `stdin` stands in it.
 static USES: [(&str, bool); 22] = [
@@ -62,15 +62,17 @@ complement(stdin,0,0,0)|x
 induced(stdin,[stdin|1],0,0,0)";
 
 #[test]
-fn stdin_is_found_wherever_it_stands(rt: HostRuntime) -> Result<(), AllocError> {
+fn stdin_is_found_wherever_it_stands(rt: HostRuntime) {
     for row in &USES {
         let (text, want) = *row;
         assert!(rt; has_stdin(rt.alloc(), text, want), "at {text}");
     }
     let operand = "induced(stdin,[1,2],0,0,0)";
     let entry = "induced(petersen(),[1,lines(stdin,0)],0,0,0)";
-    assert!(rt; entries_have_stdin(rt.alloc(), operand) == Some(false));
-    assert!(rt; entries_have_stdin(rt.alloc(), entry) == Some(true));
+    assert!(rt;
+        entries_have_stdin(rt.alloc(), operand) == Some(false)
+            && entries_have_stdin(rt.alloc(), entry) == Some(true)
+    );
     // it is the whole word
-    check_cut(&rt, rt.alloc(), Form::Expr, CUT)
+    check_cut(&rt, rt.alloc(), Form::Expr, CUT);
 }

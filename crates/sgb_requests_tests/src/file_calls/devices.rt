@@ -9,14 +9,20 @@ use std::alloc::{AllocError, Global};
 // Lengths past the usual sizes of a buffer.
 pub(crate) const LENGTHS: [usize; 4] = [1, 101, 4_097, 100_000];
 
-// A text of so many bytes that repeats none of the usual buffers' sizes.
-pub(crate) fn long_text(alloc: Global, len: usize) -> Result<Vec<u8>, AllocError> {
-    let mut text = Vec::with_capacity(alloc, len)?;
+// Appends so many bytes that repeat none of the usual buffers' sizes.
+fn fill(text: &mut Vec<u8>, len: usize) -> Result<(), AllocError> {
     let mut next: u8 = 0;
     for _ in 0..len {
         text.push(next)?;
         next = if next >= 250 { 0 } else { next + 1 };
     }
+    Ok(())
+}
+
+/// A text of so many such bytes.
+pub(crate) fn long_text(alloc: Global, len: usize) -> Result<Vec<u8>, AllocError> {
+    let mut text = Vec::with_capacity(alloc, len)?;
+    fill(&mut text, len)?;
     Ok(text)
 }
 
@@ -36,6 +42,16 @@ pub(crate) enum Device {
     /// A writer that counts its calls.
     CountedWriter,
 }
+
+/// All of them.
+pub(crate) const DEVICES: [Device; 6] = [
+    Device::MemSource,
+    Device::MemSink,
+    Device::Reader,
+    Device::CountedReader,
+    Device::Writer,
+    Device::CountedWriter,
+];
 
 // Whether a source over memory gives the text at once.
 fn is_given(text: &[u8], buffer: &mut [u8]) -> bool {
@@ -60,15 +76,20 @@ fn moves(device: Device, alloc: Global, text: &[u8], buffer: &mut [u8]) -> bool 
     }
 }
 
+// Whether the device moves the text at once.
+fn moves_text(device: Device, alloc: Global, text: &[u8]) -> bool {
+    match long_text(alloc, text.len()) {
+        Ok(mut buffer) => moves(device, alloc, text, &mut buffer),
+        Err(_) => false,
+    }
+}
+
 /// Whether the device moves a text of so many bytes at once.
-pub(crate) fn moves_long_text(
-    device: Device,
-    alloc: Global,
-    len: usize,
-) -> Result<bool, AllocError> {
-    let text = long_text(alloc, len)?;
-    let mut buffer = long_text(alloc, len)?;
-    Ok(moves(device, alloc, &text, &mut buffer))
+pub(crate) fn moves_long_text(device: Device, alloc: Global, len: usize) -> bool {
+    match long_text(alloc, len) {
+        Ok(text) => moves_text(device, alloc, &text),
+        Err(_) => false,
+    }
 }
 
 const GIVEN_BY_MEMORY: [Given; 3] = [

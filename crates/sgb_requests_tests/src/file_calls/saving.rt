@@ -1,5 +1,5 @@
 //! Files written, on worked examples and into sinks that stop.
-ghost use Rattle.std.specs.Prelude.{IfOk, ◌<◌};
+ghost use Rattle.std.specs.Prelude.{◌<◌};
 ghost use Rattle.sgb_graph.specs.Growth.{HasPlainArcs};
 
 use super::sample_files::TWO_JOINED;
@@ -39,15 +39,6 @@ fn push_names(names: &mut Names, alloc: Global, digits: &[u8]) -> Result<(), Pan
         }
     }
     Ok(())
-}
-
-// A graph whose vertices have these names of one byte.
-fn graph_of(alloc: Global, digits: &[u8]) -> Result<Graph, Panic>
-    ensures { IfOk result HasPlainArcs }
-{
-    let mut names = Names::new(alloc);
-    push_names(&mut names, alloc, digits)?;
-    Graph::new(alloc, names)
 }
 
 // Makes one vertex board(1,0,0,0,1,0,0).
@@ -198,19 +189,33 @@ fn makes(graph: &mut Graph, alloc: Global, case: Case, saved: Saved) -> bool
     make(graph, case.made, case.id).is_ok() && is_saved(alloc, graph, saved, case.text)
 }
 
-// Makes the graph of a case, which stands here alone, and tells whether it is saved as it should be.
-fn is_met(alloc: Global, case: Case, saved: Saved) -> bool {
-    match graph_of(alloc, case.digits) {
+// Makes the graph of a case, of these names, which stands here alone, and tells whether it is saved as it should be.
+fn is_made(alloc: Global, names: Names, case: Case, saved: Saved) -> bool {
+    match Graph::new(alloc, names) {
         Ok(mut graph) => makes(&mut graph, alloc, case, saved),
         Err(_) => false,
     }
 }
 
+// The same of a graph whose vertices have the case's names of one byte.
+fn is_met(alloc: Global, case: Case, saved: Saved) -> bool {
+    let mut names = Names::new(alloc);
+    let is_named = push_names(&mut names, alloc, case.digits).is_ok();
+    is_made(alloc, names, case, saved) && is_named
+}
+
+// Graphs, each with how it is saved.
+static SAVED: [(Case, Saved); 5] = [
+    (BOARD_OF_ONE, Saved::Whole),
+    (COMPLETE, Saved::ByBytes),
+    (COMPLETE, Saved::CutOff),
+    (NO_VERTICES, Saved::Whole),
+    (BROKEN_ID, Saved::Begun),
+];
+
 #[test]
 fn graphs_are_saved(rt: HostRuntime) {
-    assert!(rt; is_met(rt.alloc(), BOARD_OF_ONE, Saved::Whole));
-    assert!(rt; is_met(rt.alloc(), COMPLETE, Saved::ByBytes));
-    assert!(rt; is_met(rt.alloc(), COMPLETE, Saved::CutOff));
-    assert!(rt; is_met(rt.alloc(), NO_VERTICES, Saved::Whole));
-    assert!(rt; is_met(rt.alloc(), BROKEN_ID, Saved::Begun));
+    for (case, saved) in &SAVED {
+        assert!(rt; is_met(rt.alloc(), *case, *saved));
+    }
 }

@@ -1,26 +1,8 @@
+use super::caller::push_words;
 use sgb_expr::{Expr, FlipParams, Generator};
 use sgb_gen::BoardParams;
 use sgb_requests::{Fault, Name, Request, Resume, request};
 use std::alloc::Global;
-use std::process::Abort;
-use std::test::Fail;
-
-// Appends the words.
-fn push_words(all: &mut Vec<String>, alloc: Global, words: &[&str]) -> Result<(), Fail> {
-    for word in words {
-        let owned = String::from_str(alloc, word)?;
-        all.push(owned)?;
-    }
-    Ok(())
-}
-
-// The words that begin a command line, and those after them.
-fn words_of(alloc: Global, begun: &[&str], rest: &[&str]) -> Result<Vec<String>, Fail> {
-    let mut words = Vec::new(alloc);
-    push_words(&mut words, alloc, begun)?;
-    push_words(&mut words, alloc, rest)?;
-    Ok(words)
-}
 
 // Where an answer begins.
 #[derive(Clone, Copy)]
@@ -55,22 +37,23 @@ enum Wanted<'a> {
     Usage,
 }
 
-// `board(2,3,0,0,1,0,0)`.
-fn small_board() -> Expr {
-    Expr::Generator(Generator::Board(BoardParams {
-        n1: 2,
-        n2: 3,
-        n3: 0,
-        n4: 0,
-        piece: 1,
-        wrap: 0,
-        directed: false,
-    }))
-}
+// Those of `board(2,3,0,0,1,0,0)`.
+const SMALL_BOARD: BoardParams = BoardParams {
+    n1: 2,
+    n2: 3,
+    n3: 0,
+    n4: 0,
+    piece: 1,
+    wrap: 0,
+    directed: false,
+};
 
 // Whether the expression is the board.
 fn is_board(expression: &Expr) -> bool {
-    *expression == small_board()
+    match expression {
+        Expr::Generator(Generator::Board(params)) => *params == SMALL_BOARD,
+        _ => false,
+    }
 }
 
 // Whether this is the request.
@@ -97,62 +80,43 @@ fn make(alloc: Global, words: &[String], wanted: Wanted<'_>) -> bool {
 }
 
 // Whether a command line of these words, and of those after them, makes this.
-fn is_read(alloc: Global, begun: &[&str], rest: &[&str], wanted: Wanted<'_>) -> Result<bool, Fail> {
-    let words = words_of(alloc, begun, rest)?;
-    Ok(make(alloc, &words, wanted))
-}
-
-// Says which command line does not make this.
-fn check(
-    rt: &impl Abort,
-    alloc: Global,
-    begun: &[&str],
-    rest: &[&str],
-    wanted: Wanted<'_>,
-) -> Result<(), Fail> {
-    assert!(rt; is_read(alloc, begun, rest, wanted)?, "{begun:?}, {rest:?}");
-    Ok(())
+fn is_read(alloc: Global, begun: &[&str], rest: &[&str], wanted: Wanted<'_>) -> bool {
+    let mut words = Vec::new(alloc);
+    push_words(&mut words, alloc, begun).is_ok()
+        && push_words(&mut words, alloc, rest).is_ok()
+        && make(alloc, &words, wanted)
 }
 
 const BOARD: &str = "board(2,3,0,0,1,0,0)";
 
 const FLIP: &str = "flip(1,0,0,0)";
 
-// Words after a command's name by which the answer is whole.
-static WHOLE: [&[&str]; 2] = [&[BOARD], &["--", BOARD]];
-
-// Words by which so many names or vertices are left out.
-static SKIPPED: [(&[&str], u64); 6] = [
-    (&[BOARD, "--skip", "1799"], 1799),
-    (&["--skip", "007", BOARD], 7),
-    (&[BOARD, "--skip=5"], 5),
-    (&["--skip", "3", BOARD], 3),
-    (&[BOARD, "--skip", "0"], 0),
+// Words after a command's name, each with where the answer begins: whole, with so many names or vertices left out, or
+// after a name.
+static VALID: [(&[&str], Start); 14] = [
+    (&[BOARD], Start::Whole),
+    (&["--", BOARD], Start::Whole),
+    (&[BOARD, "--skip", "1799"], Start::Skip(1799)),
+    (&["--skip", "007", BOARD], Start::Skip(7)),
+    (&[BOARD, "--skip=5"], Start::Skip(5)),
+    (&["--skip", "3", BOARD], Start::Skip(3)),
+    (&[BOARD, "--skip", "0"], Start::Skip(0)),
     (
         &[BOARD, "--skip", "999999999999999999"],
-        999_999_999_999_999_999,
+        Start::Skip(999_999_999_999_999_999),
     ),
+    (&[BOARD, "--after", "1"], Start::After("1")),
+    (&["--after", "0.2", BOARD], Start::After("0.2")),
+    (&[BOARD, "--after=-x"], Start::After("-x")),
+    (&["--after=--skip", BOARD], Start::After("--skip")),
+    (&[BOARD, "--after", ""], Start::After("")),
+    (&[BOARD, "--after="], Start::After("")),
 ];
 
-// Words by which the answer begins after this name.
-static AFTER: [(&[&str], &str); 6] = [
-    (&[BOARD, "--after", "1"], "1"),
-    (&["--after", "0.2", BOARD], "0.2"),
-    (&[BOARD, "--after=-x"], "-x"),
-    (&["--after=--skip", BOARD], "--skip"),
-    (&[BOARD, "--after", ""], ""),
-    (&[BOARD, "--after="], ""),
-];
-
-// Says whether the names, or the listing, that the words ask for do not begin there.
-fn check_start(
-    rt: &impl Abort,
-    alloc: Global,
-    words: &[&str],
-    start: Start<'_>,
-) -> Result<(), Fail> {
-    check(rt, alloc, &["sgb", "names"], words, Wanted::Names(start))?;
-    check(rt, alloc, &["sgb", "list"], words, Wanted::List(start))
+// Whether the names, and the listing, that the words ask for begin there.
+fn begin(alloc: Global, words: &[&str], start: Start<'_>) -> bool {
+    is_read(alloc, &["sgb", "names"], words, Wanted::Names(start))
+        && is_read(alloc, &["sgb", "list"], words, Wanted::List(start))
 }
 
 // A request for these random numbers.
@@ -163,29 +127,33 @@ const FOUR_NUMBERS: Wanted = Wanted::Flip(FlipParams {
     m: 4,
 });
 
-#[test]
-fn valid_command_lines(rt: HostRuntime) -> Result<(), Fail> {
-    let alloc = rt.alloc();
-    for words in &WHOLE {
-        check_start(&rt, alloc, words, Start::Whole)?;
-    }
-    for (words, count) in &SKIPPED {
-        check_start(&rt, alloc, words, Start::Skip(*count))?;
-    }
-    for (words, name) in &AFTER {
-        check_start(&rt, alloc, words, Start::After(name))?;
-    }
-    check(&rt, alloc, &["sgb", "save"], &[BOARD], Wanted::Save)?;
+// Whether a file and random numbers are asked for.
+fn are_others(alloc: Global) -> bool {
     let flip = ["sgb", "flip"];
-    check(&rt, alloc, &flip, &["flip(-1,2,3,4)"], FOUR_NUMBERS)?;
-    check(&rt, alloc, &flip, &["--", "flip(-1,2,3,4)"], FOUR_NUMBERS)
+    is_read(alloc, &["sgb", "save"], &[BOARD], Wanted::Save)
+        && is_read(alloc, &flip, &["flip(-1,2,3,4)"], FOUR_NUMBERS)
+        && is_read(alloc, &flip, &["--", "flip(-1,2,3,4)"], FOUR_NUMBERS)
 }
 
 #[test]
-fn a_name_is_its_bytes(rt: HostRuntime) -> Result<(), Fail> {
-    let name = Name::new(rt.alloc(), &[0, 255, b'.', 10])?;
-    assert!(rt; name.bytes() == [0, 255, b'.', 10].as_slice());
-    Ok(())
+fn valid_command_lines(rt: HostRuntime) {
+    for (words, start) in &VALID {
+        assert!(rt; begin(rt.alloc(), words, *start));
+    }
+    assert!(rt; are_others(rt.alloc()));
+}
+
+// Whether the name is its bytes.
+fn is_name(alloc: Global, bytes: &[u8]) -> bool {
+    match Name::new(alloc, bytes) {
+        Ok(name) => name.bytes() == bytes,
+        Err(_) => false,
+    }
+}
+
+#[test]
+fn a_name_is_its_bytes(rt: HostRuntime) {
+    assert!(rt; is_name(rt.alloc(), &[0, 255, b'.', 10]));
 }
 
 // Words that are an invalid command line.
@@ -243,9 +211,8 @@ static INVALID_COMMAND_LINES: [&[&str]; 50] = [
 ];
 
 #[test]
-fn invalid_command_lines(rt: HostRuntime) -> Result<(), Fail> {
+fn invalid_command_lines(rt: HostRuntime) {
     for words in &INVALID_COMMAND_LINES {
-        check(&rt, rt.alloc(), words, &[], Wanted::Usage)?;
+        assert!(rt; is_read(rt.alloc(), words, &[], Wanted::Usage));
     }
-    Ok(())
 }

@@ -1,7 +1,7 @@
 use sgb_file::MemSink;
 use sgb_requests::{Fault, report, status};
 use sgb_vec::Panic;
-use std::alloc::{AllocError, Global};
+use std::alloc::Global;
 
 /// Each fault, once, with its exit status.
 const FAULTS: [(Fault, u8); 7] = [
@@ -14,19 +14,24 @@ const FAULTS: [(Fault, u8); 7] = [
     (Fault::Write, 3),
 ];
 
-// Whether the line that is written is the fault's message and a newline, and the status is told.
-fn is_told(alloc: Global, fault: Fault, wanted: u8) -> Result<bool, AllocError> {
-    let line = format!(in alloc; "{fault}\n")?;
+// Whether the line that is written is this one, and the status is told.
+fn is_reported(alloc: Global, fault: Fault, line: &[u8], wanted: u8) -> bool {
     let mut errors = MemSink::new(alloc);
     let told = report(&fault, &mut errors);
-    let is_status = told == wanted && status(&fault) == wanted;
-    Ok(is_status && errors.bytes() == line.as_bytes())
+    told == wanted && status(&fault) == wanted && errors.bytes() == line
+}
+
+// Whether that line is the fault's message and a newline.
+fn is_told(alloc: Global, fault: Fault, wanted: u8) -> bool {
+    match format!(in alloc; "{fault}\n") {
+        Ok(line) => is_reported(alloc, fault, line.as_bytes(), wanted),
+        Err(_) => false,
+    }
 }
 
 #[test]
-fn each_fault_reports_its_message(rt: HostRuntime) -> Result<(), AllocError> {
+fn each_fault_reports_its_message(rt: HostRuntime) {
     for (fault, wanted) in FAULTS {
-        assert!(rt; is_told(rt.alloc(), fault, wanted)?, "at {fault}");
+        assert!(rt; is_told(rt.alloc(), fault, wanted), "at {fault}");
     }
-    Ok(())
 }
