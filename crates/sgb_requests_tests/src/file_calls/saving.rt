@@ -197,7 +197,7 @@ fn is_made(alloc: Global, names: Names, case: Case, saved: Saved) -> bool {
     }
 }
 
-// The same of a graph whose vertices have the case's names of one byte.
+// Makes the graph of a case, whose vertices have its names of one byte, and tells whether it is saved as it should be.
 fn is_met(alloc: Global, case: Case, saved: Saved) -> bool {
     let mut names = Names::new(alloc);
     let is_named = push_names(&mut names, alloc, case.digits).is_ok();

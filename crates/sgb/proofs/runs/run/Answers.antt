@@ -15,9 +15,9 @@ returns-clause-answers g c =
 pub returns-clause-certain : goal.returns-clause-certain
 returns-clause-certain g c =
     certain_run c.args.request.now _ (λ unread needs sound.
-        let (kept, each) = c.run_answer.ensures.certain unread needs sound in
-        let (stdin, gives) = stdin_given in
-        (stdin kept, each (answer_of c.args.request.now (stdin kept)) (stdin kept, gives kept, refl)))
+    let (kept, each) = c.run_answer.ensures.certain unread needs sound in
+    let (stdin, gives) = stdin_given in
+    (stdin kept, each (answer_of c.args.request.now (stdin kept)) (stdin kept, gives kept, refl)))
 
 pub returns-clause-apart : goal.returns-clause-apart
 returns-clause-apart g c = answer_own c.args.request.now
