@@ -189,11 +189,13 @@ def library(kit):
     folder = os.path.join(TREE, "crates", LIBRARY)
     kept = folder + ".kept"
     shutil.copytree(folder, kept)
-    for path in "src/graphs.rt", "src/handles.rt":
-        with open(os.path.join(folder, path), encoding="utf-8") as file:
-            text = file.read()
-        with open(os.path.join(folder, path), "w", encoding="utf-8") as file:
-            file.write(text.replace("    fn closed()", "    pub fn closed()"))
+    handles = os.path.join(folder, "src/handles.rt")
+    with open(handles, encoding="utf-8") as file:
+        text = file.read()
+    if text.count("    fn closed()") != 1:
+        raise NotBuilt(f"{handles}: no function closed, which the test of all exports begins with")
+    with open(handles, "w", encoding="utf-8") as file:
+        file.write(text.replace("    fn closed()", "    pub fn closed()"))
     names = reached(folder)
     text = module(kit, LIBRARY, "--test")
     shutil.rmtree(folder)
