@@ -5,7 +5,7 @@
 
 It builds the two programs and the library for C of the sources as they stand, unproved and optimized, and tries on them what
 needs no proof: the checks from outside (bench/outside.py), library calls with memory refused (bench/calls.py), the tests of
-public calls (`rt try --test` in each crate of tests), where definitions stand, and the callers of the pages. All lies in
+public calls (`rt try --test` in each crate of tests), where definitions stand, the callers of the pages, and the places of forms. All lies in
 out/test, a copy of the tree, so that nothing there is taken for what was proved. The last line is `N passed, M failed`.
 
 A program is built as `rt try` does it, up to the module that LLVM is handed: rt runs over a folder like the toolchain's, whose
@@ -269,6 +269,7 @@ def main():
             others[name] = pool.submit(task, rt, "try", "--test", "--steps", "1", "--seconds", SECONDS, folder=folder)
         others["definitions"] = pool.submit(task, "bench/definitions.py")
         others["callers of the pages"] = pool.submit(task, "bench/callers.py")
+        others["forms of expressions"] = pool.submit(task, "bench/forms.py")
         for name, one in built_here.items():
             tally.tell(name, one)
         if not tally.failed:
