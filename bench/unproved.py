@@ -5,8 +5,9 @@
 
 It builds the two programs and the library for C of the sources as they stand, unproved and optimized, and tries on them what
 needs no proof: the checks from outside (bench/outside.py), library calls with memory refused (bench/calls.py), the tests of
-public calls (`rt try --test` in each crate of tests), where definitions stand, the callers of the pages, and the places of forms. All lies in
-out/test, a copy of the tree, so that nothing there is taken for what was proved. The last line is `N passed, M failed`.
+public calls (`rt try --test` in each crate of tests), where definitions stand, the callers of the pages, and the places of
+forms. All lies in out/test, a copy of the tree, so that nothing there is taken for what was proved. The last line is
+`N passed, M failed`.
 
 A program is built as `rt try` does it, up to the module that LLVM is handed: rt runs over a folder like the toolchain's, whose
 clang keeps the module and stops. Of that, what finds faults of memory is left out (`sanitize_address`, the bytes that fill what is
