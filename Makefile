@@ -38,7 +38,7 @@ try: toolchain
 
 sgb: toolchain FORCE
 	@echo "Proving the crates, lowest first: some 12 minutes on a fresh machine, less where proofs are kept."
-	@bench/prove.py sgb_cli sgb_levels
+	@checks/prove.py sgb_cli sgb_levels
 	@ln -sf $(PROGRAM) sgb
 	@ln -sf crates/sgb_levels/out/sgb_levels sgb_levels
 	@echo "Done: ./sgb, ./sgb_levels"
@@ -57,7 +57,7 @@ examples: sgb
 	examples/dask_degrees_test.py ./sgb
 
 outside: sgb
-	bench/outside.py ./sgb
+	checks/outside.py ./sgb
 
 conformance: sgb
 	conformance/compare.py ./sgb
@@ -73,16 +73,16 @@ gallery: sgb
 	examples/gallery.sh ./sgb
 
 calls: toolchain
-	bench/calls.py
+	checks/calls.py
 
 test: toolchain
-	@bench/unproved.py
+	@checks/unproved.py
 
 check: toolchain
 	bash .ci/run
 
 edits: toolchain
-	bench/edits.py
+	checks/edits.py
 
 install:
 	@[ -x $(PROGRAM) ] || { echo "make: nothing is built yet: make builds the program, make install installs it" >&2; exit 1; }

@@ -5,7 +5,7 @@
 
 Where they are installed: C++ (examples/cpp/first.cpp), Boost (distances.cpp), Rust (examples/rust), and the Python package
 with what is beside it (numpy, scipy, networkx, igraph). Graphs of many expressions are compared with what the programs
-write. A line says what was left out. The C examples and Python without numpy are tried by the gate (bench/c_library.py).
+write. A line says what was left out. The C examples and Python without numpy are tried by the gate (checks/from_outside/c_library.py).
 """
 
 import os
@@ -16,9 +16,9 @@ import sys
 import tempfile
 
 TOP = os.path.dirname(os.path.dirname(os.path.abspath(__file__)))
-sys.path.insert(0, os.path.join(TOP, "bench"))
+sys.path.insert(0, os.path.join(TOP, "checks"))
 
-import c_library  # noqa: E402  (the folder is put on the path above)
+from from_outside import c_library  # noqa: E402  (the folder is put on the path above)
 
 SGB = os.path.abspath(sys.argv[1]) if len(sys.argv) > 1 else os.path.join(TOP, "sgb")
 LEVELS = os.path.abspath(sys.argv[2]) if len(sys.argv) > 2 else os.path.join(TOP, "sgb_levels")

@@ -61,7 +61,7 @@ const graph = (await load()).graph("petersen()");
 if (graph.n !== 10 || graph.m !== 30 || graph.names()[0] !== "0.0.0.1.1") throw new Error("no Petersen graph");
 """
 
-sys.path.insert(0, os.path.join(TOP, "bench"))
+sys.path.insert(0, os.path.join(TOP, "checks"))
 import archive  # noqa: E402  (the folder is put on the path above)
 
 
@@ -130,7 +130,7 @@ def shadow(kit):
 def prove(kit):
     """Proves the library, and leaves its module."""
     told("proving the crates below the library for C: minutes where proofs are kept, else the better part of an hour")
-    must([os.path.join(TOP, "bench/prove.py"), *(name for name in archive.uses()["sgb_c"] if name in archive.uses())])
+    must([os.path.join(TOP, "checks/prove.py"), *(name for name in archive.uses()["sgb_c"] if name in archive.uses())])
     words = archive.words(kit)
     if words is None:
         stop("a library of crates/*/out/rlib is not there")

@@ -1,7 +1,7 @@
 #!/usr/bin/env python3
 """Which definitions the contracts of public calls reach, and how many lines a reader has to believe.
 
-    bench/definitions.py [-v]
+    checks/definitions.py [-v]
 
 At the repository's top. A definition stands in a file of crates/*/specs; its lines count with the comment above it. It is
 reached where a clause of a public call cites it (requires, ensures, a law or a ghost member of a public trait, a ghost

@@ -1,6 +1,6 @@
-"""Checks of the library for C, for bench/outside.py: a C program on it gives what the program `sgb` writes.
+"""Checks of the library for C, for checks/outside.py: a C program on it gives what the program `sgb` writes.
 
-bench/c_arrays.c is compiled against include/sgb.h, once with libsgb.a and once with libsgb.so. The archives are made of what
+checks/from_outside/c_arrays.c is compiled against include/sgb.h, once with libsgb.a and once with libsgb.so. The archives are made of what
 `rt lib` left in crates/sgb_c/out; without that, those that are there are used. Where there are none, the checks fail: only
 with OUTSIDE_WITHOUT_LIBRARY=1 are they left out, and a line says so.
 """
@@ -13,7 +13,7 @@ import shutil
 import subprocess
 import sys
 
-TOP = os.path.dirname(os.path.dirname(os.path.abspath(__file__)))
+TOP = os.path.dirname(os.path.dirname(os.path.dirname(os.path.abspath(__file__))))
 WARNINGS = ["-std=c11", "-O1", "-Wall", "-Wextra", "-Werror"]
 WRAPPED = ["-DCOUNTED", "-Wl,--wrap=malloc,--wrap=realloc,--wrap=free"]
 
@@ -106,7 +106,7 @@ def is_there(tally, *names):
 def compiled(runs, tally, link, name, more=()):
     """The C program, or None where it does not compile without a warning."""
     path = os.path.join(runs.folder, name)
-    source = os.path.join(TOP, "bench/c_arrays.c")
+    source = os.path.join(TOP, "checks/from_outside/c_arrays.c")
     words = ["cc", *WARNINGS, *more, "-I", os.path.join(TOP, "include"), source, "-o", path, *link]
     got = subprocess.run(words, capture_output=True, check=False)
     tally.check(got.returncode == 0 and not got.stderr, " ".join(words), "gave", (got.returncode, got.stderr))
@@ -324,7 +324,7 @@ def class_of_cpp(runs, tally):
     if not is_there(tally, "libsgb.a"):
         return
     path = os.path.join(runs.folder, "cpp_graph")
-    source = os.path.join(TOP, "bench/cpp_graph.cpp")
+    source = os.path.join(TOP, "checks/from_outside/cpp_graph.cpp")
     words = ["c++", "-std=c++20", *WARNINGS[1:], "-I", os.path.join(TOP, "include"), source, *LIBRARIES["libsgb.a"]]
     status, out, err = ran(*words, "-Wl,--wrap=sgb_close", "-o", path)
     tally.check(status == 0 and not err, " ".join(words), "gave", (status, out, err))

@@ -1,7 +1,7 @@
 #!/usr/bin/env python3
 """Which lemmas and definitions of crates/*/proofs nothing cites.
 
-    bench/lemmas.py
+    checks/lemmas.py
 
 At the repository's top. A name is cited where it stands in another place than its own signature and clauses, in any file of
 proofs, specs or sources. Names of goals, invariants and worked examples are left out. The search is by names in the text: a

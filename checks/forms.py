@@ -1,5 +1,5 @@
 #!/usr/bin/env python3
-"""Finds the places that name each form of expressions, and fails where one lacks a form: bench/forms.py [FORM ..]
+"""Finds the places that name each form of expressions, and fails where one lacks a form: checks/forms.py [FORM ..]
 
 At the repository's top. The forms are those that `name_opening` gives (crates/sgb_expr/specs/Names.antt); each is of one sort:
 a generator, a short name, an operation or `stdin`. PLACES has what each sort is named in: a file, and what stands there for it.
@@ -57,13 +57,13 @@ PLACES = [
     ("gsoi", "crates/sgb/CALLING.md", r"\bNAME\b"),
     ("gso", "conformance/graphs.tsv", r"\bNAME\("),
     ("gso", "conformance/graphbase.c", r"\bNAME\b"),
-    ("gsoi", "bench/random_requests.py", r"[\"'(,]NAME[(\"']"),
-    ("o", "bench/calls/graphs.in", r"\bNAME\("),
-    ("go", "bench/calls.py", r"^    \"NAME\b"),
-    ("gso", "bench/c_library.py", r"[\"'(, ]NAME\("),
-    ("i", "bench/c_library.py", r"[\"'(,]NAME\b"),
-    ("o", "bench/outside.py", r"[\"'(, ]NAME\("),
-    ("i", "bench/outside.py", r"[\"'(,]NAME\b"),
+    ("gsoi", "checks/from_outside/random_requests.py", r"[\"'(,]NAME[(\"']"),
+    ("o", "checks/calls/graphs.in", r"\bNAME\("),
+    ("go", "checks/calls.py", r"^    \"NAME\b"),
+    ("gso", "checks/from_outside/c_library.py", r"[\"'(, ]NAME\("),
+    ("i", "checks/from_outside/c_library.py", r"[\"'(,]NAME\b"),
+    ("o", "checks/from_outside/memory.py", r"[\"'(, ]NAME\("),
+    ("i", "checks/from_outside/memory.py", r"[\"'(,]NAME\b"),
     ("gs", "examples/shards.sh", r"\bNAME\b"),
     ("gsoi", "README.md", r"`NAME\b"),
     ("gsoi", "man/sgb.1", r"\bNAME\b"),
@@ -95,11 +95,11 @@ def stands(pattern, name, variant, text):
 def main():
     found = forms()
     if not {"g", "s", "o", "i"} <= {sort for _, sort in found.values()}:
-        sys.exit(f"bench/forms.py: {NAMES} does not tell the forms")
+        sys.exit(f"checks/forms.py: {NAMES} does not tell the forms")
     asked = sys.argv[1:]
     for name in asked:
         if name not in found:
-            sys.exit(f"bench/forms.py: there is no form {name}")
+            sys.exit(f"checks/forms.py: there is no form {name}")
     passed = failed = 0
     for sorts, path, pattern in PLACES:
         text = read(path)

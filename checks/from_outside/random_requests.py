@@ -1,7 +1,7 @@
-"""Random requests in which two ways inside the program have to agree: a part of bench/outside.py.
+"""Random requests in which two ways inside the program have to agree: a part of checks/outside.py.
 
-    bench/outside.py ./sgb random                      # those of a new seed, which is printed
-    OUTSIDE_SEED=SEED bench/outside.py ./sgb random    # those of that seed once more
+    checks/outside.py ./sgb random                      # those of a new seed, which is printed
+    OUTSIDE_SEED=SEED checks/outside.py ./sgb random    # those of that seed once more
     OUTSIDE_SEED=SEED:NUMBER ..                        # one of them alone
 
 Each request is an expression, or numbers of `flip`. No answer is known beforehand. What is compared:

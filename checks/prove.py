@@ -1,5 +1,5 @@
 #!/usr/bin/env python3
-"""Proves crates and those below them, and builds the programs among those that are named: bench/prove.py CRATE ..
+"""Proves crates and those below them, and builds the programs among those that are named: checks/prove.py CRATE ..
 
 It is what `make` runs. Only the crates that are named and what they use are proved, lowest first, as many at once as there are
 processors, with 4 GB of memory for each. What earlier checks kept is not proved again. A program is built by `rt run`, on the
@@ -65,7 +65,7 @@ class Work:
 def main():
     names = sys.argv[1:]
     if not names:
-        sys.exit("usage: bench/prove.py CRATE ..")
+        sys.exit("usage: checks/prove.py CRATE ..")
     below = uses()
     left, proved, running = needed(names, below), set(), {}
     begun, most = time.monotonic(), lanes()

@@ -1,5 +1,5 @@
 #!/usr/bin/env python3
-"""Compares the callers that the pages for callers show with the sources that they are taken from: bench/callers.py
+"""Compares the callers that the pages for callers show with the sources that they are taken from: checks/callers.py
 
 At the repository's top. Each library has a page, crates/NAME/CALLING.md, with the line of crates.txt that a caller's crate
 has, and a caller as a block of Rattle. It is whole and proved:
@@ -23,7 +23,7 @@ SOURCE = re.compile(r"`(crates/\w+/src/[\w/]+\.rt)`")
 LINE = re.compile(r"`app: ([a-z_ ]+)`")
 # `use sgb_vec::{..}`, and `ghost use Rattle.sgb_vec.specs...`
 USED = re.compile(r"^\s*(?:pub )?use (\w+)::|^\s*ghost use Rattle\.(\w+)\.", re.M)
-PATH = re.compile(r"`((?:crates|bench|docs|examples|man|\.ci)/[\w./-]+\.\w+)`")
+PATH = re.compile(r"`((?:crates|bench|checks|docs|examples|man|\.ci)/[\w./-]+\.\w+)`")
 
 passed, failed = 0, 0
 

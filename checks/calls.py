@@ -1,7 +1,7 @@
 #!/usr/bin/env python3
-"""Library calls with memory refused: bench/calls.py, about a minute.
+"""Library calls with memory refused: checks/calls.py, about a minute.
 
-It builds the program in bench/calls over the crates, unproved, in a folder of its own, by `rt try --fail-alloc N`, which
+It builds the program in checks/calls over the crates, unproved, in a folder of its own, by `rt try --fail-alloc N`, which
 makes a program whose N-th allocation fails; and runs it once for each allocation that it makes, with so many others before
 that this one is the N-th. A run passes where it ends with 0, or with 1, which is want of memory for
 what it needs itself; it fails where what stood before a refused call does not stand after it, where the call has another
@@ -23,7 +23,7 @@ import time
 TOP = os.path.dirname(os.path.dirname(os.path.abspath(__file__)))
 BELOW = ["sgb_text", "sgb_vec", "sgb_graph", "sgb_gen", "sgb_ops", "sgb_file", "sgb_expr", "sgb_requests", "sgb_values",
          "sgb"]
-FAILS = 2000  # as in bench/calls/main.in
+FAILS = 2000  # as in checks/calls/main.in
 CASES = 900  # more than there are allocations
 CALLS = [
     "SumFamily::new",
@@ -88,7 +88,7 @@ def build(folder):
     source = os.path.join(folder, "crates", "calls", "src")
     os.makedirs(source)
     for name in ("main", "below", "graphs", "requests"):
-        shutil.copy(os.path.join(TOP, "bench", "calls", name + ".in"), os.path.join(source, name + ".rt"))
+        shutil.copy(os.path.join(TOP, "checks", "calls", name + ".in"), os.path.join(source, name + ".rt"))
     shutil.copy(os.path.join(TOP, "HANDLES"), folder)
     with open(os.path.join(TOP, "crates.txt")) as file:
         lines = [line for line in file if line.split(":")[0] in BELOW]

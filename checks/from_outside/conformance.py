@@ -1,4 +1,4 @@
-"""Checks of what stands around the program, for bench/outside.py: the table of conformance/, pages, and scripts."""
+"""Checks of what stands around the program, for checks/outside.py: the table of conformance/, pages, and scripts."""
 
 import importlib.util
 import os
@@ -7,7 +7,7 @@ import shutil
 import subprocess
 import sys
 
-TOP = os.path.dirname(os.path.dirname(os.path.abspath(__file__)))
+TOP = os.path.dirname(os.path.dirname(os.path.dirname(os.path.abspath(__file__))))
 # how many rows the table has: graphs and refusals
 GRAPHS, REFUSALS = 134, 26
 

@@ -1,8 +1,8 @@
-/* A library that bench/outside.py preloads into the program. It refuses memory, and it is a standard input that fails or
+/* A library that checks/outside.py preloads into the program. It refuses memory, and it is a standard input that fails or
    gives few bytes at a time. What it does, and what it tells, is in the file OUTSIDE, whose first page is `page`; it
    does nothing in another executable than the one named there.
 
-       cc -O2 -shared -fPIC -o outside.so bench/outside.c
+       cc -O2 -shared -fPIC -o outside.so checks/from_outside/preloaded.c
 */
 #define _GNU_SOURCE
 #include <errno.h>

@@ -1,5 +1,5 @@
 #!/usr/bin/env python3
-"""Tries the must-fail edits that the gate leaves out: bench/edits.py [CRATE ..]
+"""Tries the must-fail edits that the gate leaves out: checks/edits.py [CRATE ..]
 
     make edits
 
@@ -91,7 +91,7 @@ def main():
         edits = {crate: take_edits(copy, crate) for crate in crates}
         wanted = sum(map(len, edits.values()))
         print(f"{wanted} edits of {len(crates)} crates", flush=True)
-        if subprocess.run([sys.executable, os.path.join(copy, "bench", "prove.py"), *crates]).returncode:
+        if subprocess.run([sys.executable, os.path.join(copy, "checks", "prove.py"), *crates]).returncode:
             print(f"0 passed, {wanted} failed")
             sys.exit(1)
         # the crates with the most edits first, so that no long one is left to the end

@@ -1,10 +1,10 @@
 #!/usr/bin/env python3
-"""Tests what runs without a proof: bench/unproved.py, some five minutes on four processors.
+"""Tests what runs without a proof: checks/unproved.py, some five minutes on four processors.
 
     make test
 
 It builds the two programs and the library for C of the sources as they stand, unproved and optimized, and tries on them what
-needs no proof: the checks from outside (bench/outside.py), library calls with memory refused (bench/calls.py), the tests of
+needs no proof: the checks from outside (checks/outside.py), library calls with memory refused (checks/calls.py), the tests of
 public calls (`rt try --test` in each crate of tests), where definitions stand, the callers of the pages, and the places of
 forms. All lies in out/test, a copy of the tree, so that nothing there is taken for what was proved. The last line is
 `N passed, M failed`.
@@ -264,18 +264,18 @@ def main():
     tally, processors, rt = Tally(), os.cpu_count() or 1, shadow(kit, "tries")
     with concurrent.futures.ThreadPoolExecutor(processors) as pool:
         built_here = {f"{name}, built": pool.submit(build, name, kit) for name in [LIBRARY, *PROGRAMS]}
-        others = {"library calls": pool.submit(task, "bench/calls.py", RT=rt)}
+        others = {"library calls": pool.submit(task, "checks/calls.py", RT=rt)}
         for name in tests:
             folder = os.path.join(TREE, "crates", name)
             others[name] = pool.submit(task, rt, "try", "--test", "--steps", "1", "--seconds", SECONDS, folder=folder)
-        others["definitions"] = pool.submit(task, "bench/definitions.py")
-        others["callers of the pages"] = pool.submit(task, "bench/callers.py")
-        others["forms of expressions"] = pool.submit(task, "bench/forms.py")
+        others["definitions"] = pool.submit(task, "checks/definitions.py")
+        others["callers of the pages"] = pool.submit(task, "checks/callers.py")
+        others["forms of expressions"] = pool.submit(task, "checks/forms.py")
         for name, one in built_here.items():
             tally.tell(name, one)
         if not tally.failed:
             outside = pool.submit(
-                task, "bench/outside.py", f"crates/{PROGRAMS[0]}/out/{PROGRAMS[0]}", OUTSIDE_SECONDS=SECONDS
+                task, "checks/outside.py", f"crates/{PROGRAMS[0]}/out/{PROGRAMS[0]}", OUTSIDE_SECONDS=SECONDS
             )
             others = {"from outside": outside, **others}
         for name, one in others.items():

@@ -1,5 +1,5 @@
 #!/usr/bin/env python3
-"""Makes crates/sgb_c/out/libsgb_c.a of what `rt ci` proved and left: bench/archive.py
+"""Makes crates/sgb_c/out/libsgb_c.a of what `rt ci` proved and left: checks/archive.py
 
 `rt lib` proves each crate below sgb_c once more, which takes half as long as the gate itself. This proves sgb_c alone, over the
 libraries that `rt ci` left in crates/NAME/out/rlib, and compiles it with them, as `rt ci` does with programs. Where one of these

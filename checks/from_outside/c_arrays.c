@@ -1,4 +1,4 @@
-/* A C program on the library for C, with which bench/c_library.py compares what the program `sgb` writes.
+/* A C program on the library for C, with which checks/from_outside/c_library.py compares what the program `sgb` writes.
  *
  *     c_arrays list EXPR       the listing, put together from the arrays
  *     c_arrays names EXPR      the names, one a line

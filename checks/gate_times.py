@@ -1,5 +1,5 @@
 #!/usr/bin/env python3
-"""How long the gate takes, task by task: bench/gate_times.py run NAME COMMAND .., sum, table
+"""How long the gate takes, task by task: checks/gate_times.py run NAME COMMAND .., sum, table
 
 `run` runs a step of the gate, hands its output on, and adds to out/gate.tsv what each of its tasks took of a processor: of
 `rt ci` the proofs, the proofs of tests, the proofs that edits begin with, and edits, by the words of its processes, which are
@@ -235,7 +235,7 @@ def main():
         return run(said[1], said[2:])
     if said in (["sum"], ["table"]):
         return sum_up() if said == ["sum"] else table()
-    sys.exit("usage: bench/gate_times.py run NAME COMMAND .. | sum | table")
+    sys.exit("usage: checks/gate_times.py run NAME COMMAND .. | sum | table")
 
 
 if __name__ == "__main__":

@@ -1,0 +1,165 @@
+"""Checks of the scripts in examples/ that make a listing in parts, on one machine and on many."""
+
+import shutil
+
+from .script_shells import Shell
+
+
+def parts(program):
+    def checks(runs, tally):
+        """A part fails where the program does, but for the closed pipe, or where awk does; what they say is shown."""
+        shell = Shell(runs, program, "parts")
+        _, text, _ = shell.run('sgb list "board(4,4,0,0,1,0,0)" --skip 3')
+        lines = text.split("\n")
+        wanted = "".join(line + "\n" for line in lines[:lines.index("2.0")])
+        part = 'examples/part.sh "board(4,4,0,0,1,0,0)" 3 5'
+        tally.same(part, shell.run(part), (0, wanted, ""))
+        # programs that end otherwise: what they write, their line and status, and what the command's line and status are
+        some, all_ = "sed -n 1,9p", "cat"
+        ends = "no vertex comes after 3 blocks, and 5 whole ones are wanted"
+        code_1, fault = "Something went wrong (panic code 1)!", "sgb: write fault"
+        for taken, line, status, said in [
+            (some, "", 0, (1, [ends])),
+            (some, fault, 3, (3, [ends, fault])),
+            (some, code_1, 1, (1, [ends, code_1])),
+            (all_, code_1, 1, (1, [code_1])),
+            (all_, "sgb: read fault", 3, (3, ["sgb: read fault"])),
+            (all_, fault, 1, (1, [fault])),
+            (all_, fault + ".", 3, (3, [fault + "."])),
+            (all_, "", 7, (7, [])),
+            (all_, fault, 3, (0, [])),
+        ]:
+            told = f'echo "{line}" >&2\n' if line else ""
+            shell.write("other sgb", f'#!/bin/sh\nsgb "$@" 2>&- | {taken}\n{told}exit {status}\n', 0o755)
+            got, out, err = shell.run(part, SGB="./other sgb")
+            err = sorted(heard.replace("blocks.awk: ", "") for heard in err.splitlines())
+            what = f"a part of a program that writes by {taken}, says {line!r} and ends with {status}"
+            tally.same(what, (got, err), (said[0], sorted(said[1])))
+            tally.check(out == wanted if taken == all_ else wanted.startswith(out), what, "gave", out)
+        # where no head comes: the program's own line, or that it writes no listing, also where it cannot write on
+        shell.write("queens", '#!/bin/sh\nexec sgb queen\n', 0o755)
+        shell.write("names", '#!/bin/sh\nexec sgb names "board(300,300,0,0,1,0,0)"\n', 0o755)
+        no_listing = "part.sh: no listing with its head, as sgb list EXPR begins, comes from the program"
+        for words, sgb, line in [
+            ('"board(2,-251,0,0,1,0,0)" 0 1', "sgb", "Something went wrong (panic code 30)!"),
+            ('"board(4,4" 0 1', "sgb", "sgb: bad expression at byte 9"),
+            ("queen 0 1", "sgb", "sgb: bad expression at byte 0"),
+            ("queen 0 1", "./queens", no_listing),
+            ("names 0 1", "./names", no_listing),
+        ]:
+            command = f"examples/part.sh {words}"
+            status, out, err = shell.run(command, SGB=sgb)
+            is_right = status and (out, err) == ("", line + "\n")
+            tally.check(is_right, "$", command, sgb, "gave", (status, out, err))
+        for command, line in [
+            ('examples/part.sh "board(4,4,0,0,1,0,0)" 3 13', "blocks.awk: no vertex comes after 13 blocks"),
+            ('examples/part.sh "board(4,4,0,0,1,0,0)" 3', "usage: part.sh"),
+            ('examples/part.sh "board(4,4,0,0,1,0,0)" 3 x', "part.sh: no number: x"),
+            (part + " > /dev/full", ""),
+        ]:
+            status, out, err = shell.run(command)
+            tally.check(status != 0 and line in err and err, "$", command, "gave", (status, out, err))
+        status, out, err = shell.run(part, SGB="./none")
+        is_right = status != 0 and not out and "none" in err
+        tally.check(is_right, "a part of a program that is not there gave", (status, out, err))
+
+    return checks
+
+
+def shards(program):
+    def checks(runs, tally):
+        """The parts of shards.sh, put together, are the listing; what it does not take is refused with a line."""
+        shell = Shell(runs, program, "shards")
+        for expression, number, files in [
+            ("board(30,30,0,0,1,0,0)", "4", ""),
+            ("simplex(12,-3,0,0,0,0,1)", "008", ""),
+            ("subsets(2,1,-4,0,0,0,0xF,0)", "3", ""),
+            ("petersen()", "3", "it's $HOME's part"),
+            ("board(1,0,0,0,1,1,0)", "4", "a;b"),
+            ("simplex(5,2,2,0,0,0,0)", "2", ""),
+            ("board(2,2,0,0,1,0,0)", "7", "part"),
+        ]:
+            command = 'examples/shards.sh "$EXPR" "$PARTS"' + (' "$FILES"' if files else "")
+            variables = {"EXPR": expression, "PARTS": number, "FILES": files}
+            status, out, err = shell.run(command, **variables)
+            made, lines = [], out.splitlines()
+            for line in lines:
+                made.append(shell.run(line))
+            right = [(0, each[1] if not files else "", "") for each in made]
+            what = f"the {number} parts of {expression}"
+            tally.same(what, (status, err, len(lines), made), (0, "", int(number), right))
+            texts = [each[1] for each in made]
+            if files:
+                texts = [shell.text(f"{files}.{place + 1}") for place in range(len(lines))]
+            _, whole, _ = shell.run('sgb list "$EXPR"', EXPR=expression)
+            tally.check(None not in texts and "".join(texts) == whole, what, "gave", texts, "and not", whole)
+        command = 'examples/shards.sh "board(3,3,0,0,1,0,0)" 2 part'
+        status, out, err = shell.run(command, SGB="./none")
+        tally.check(status != 0 and not out and "none" in err, "shards.sh without the program gave", (status, out, err))
+        shell.write("other", '#!/bin/sh\necho "Something went wrong (panic code 1)!" >&2\nexit 1\n', 0o755)
+        tally.same(command, shell.run(command, SGB="./other"), (1, "", "Something went wrong (panic code 1)!\n"))
+        for words, line in [
+            ('"board(3,3" 2', "sgb: bad expression at byte 9"),
+            ('"board(2,-251,0,0,1,0,0)" 2', "Something went wrong (panic code 30)!"),
+            ('"lines(complete(4),0)" 2', "shards.sh: no expression of a generator"),
+            ('"stdin" 2', "shards.sh: no expression of a generator"),
+            ('"board(3,3,0,0,1,0,0)\\$(echo)" 2', "shards.sh: no expression of a generator"),
+            ('"petersen()" 0', "shards.sh: PARTS is a number from 1"),
+            ('"petersen()" 000', "shards.sh: PARTS is a number from 1"),
+            ('"petersen()" ""', "shards.sh: PARTS is a number from 1"),
+            ('"petersen()" -1', "shards.sh: PARTS is a number from 1"),
+            ('"petersen()" 0x2', "shards.sh: PARTS is a number from 1"),
+            ('"petersen()" 1000000000', "shards.sh: PARTS is a number from 1"),
+            ('"petersen()" 2 "two\nlines"', "shards.sh: a line cannot name a file"),
+            ('"petersen()"', "usage: shards.sh"),
+        ]:
+            command = f"examples/shards.sh {words}"
+            status, out, err = shell.run(command)
+            is_right = status in (1, 2) and not out and err.startswith(line) and err.count("\n") == 1
+            tally.check(is_right, "$", command, "gave", (status, out, err))
+
+    return checks
+
+
+def clusters(program):
+    def checks(runs, tally):
+        """The jobs for Slurm, by the variables that it sets, and for GNU parallel, on this machine as a host."""
+        shell = Shell(runs, program, "clusters")
+        expression = "board(30,30,0,0,1,0,0)"
+        whole = shell.run(f'sgb list "{expression}"')[1]
+        job = 'examples/slurm.sh "$EXPR" "the part"'
+        array = {f"SLURM_ARRAY_TASK_{name}": value for name, value in [("MIN", "1"), ("MAX", "3"), ("COUNT", "3")]}
+        array["EXPR"] = expression
+        for task in ("1", "2", "3"):
+            tally.same(f"task {task} of {job}", shell.run(job, **array, SLURM_ARRAY_TASK_ID=task), (0, "", ""))
+        texts = [shell.text(f"the part.{task}") for task in ("1", "2", "3")]
+        tally.check(None not in texts and "".join(texts) == whole, job, "gave", texts)
+        for changed in [
+            {"SLURM_ARRAY_TASK_ID": "4"},
+            {"SLURM_ARRAY_TASK_ID": "1", "SLURM_ARRAY_TASK_MIN": "0"},
+            {"SLURM_ARRAY_TASK_ID": "3", "SLURM_ARRAY_TASK_COUNT": "2"},
+            {"SLURM_ARRAY_TASK_ID": "1", "EXPR": "board(2,-251,0,0,1,0,0)"},
+            {},
+        ]:
+            status, out, err = shell.run(job, **{**array, **changed})
+            tally.check(status != 0 and not out and err, job, repr(changed), "gave", (status, out, err))
+        if not shutil.which("parallel"):
+            print("  skipped, without GNU parallel: examples/hosts.sh")
+            return
+        job = f'examples/hosts.sh "{expression}" 4 :'
+        tally.same(job, shell.run(job), (0, whole, ""))
+        third = 'case $* in "list "*"--skip 450") echo "no 3" >&2; exit 1 ;; esac'
+        shell.write("no 3", f'#!/bin/sh\n{third}\nexec sgb "$@"\n', 0o755)
+        status, out, err = shell.run(job, SGB="./no 3")
+        is_right = status != 0 and not out and "no 3" in err
+        tally.check(is_right, job, "with a program that fails gave", (status, out, err))
+        status, out, err = shell.run('examples/hosts.sh "board(3,3" 4 :')
+        tally.check(status != 0 and not out and err, "examples/hosts.sh of no expression gave", (status, out, err))
+
+    return checks
+
+
+def all_checks(program):
+    yield "scripts of a part", parts(program)
+    yield "scripts of parts", shards(program)
+    yield "scripts of clusters", clusters(program)
