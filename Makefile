@@ -49,12 +49,12 @@ demo: sgb
 	./sgb queen
 
 examples: sgb
-	python3 examples/convert_test.py ./sgb
-	python3 examples/sgb_graph_test.py
-	examples/cookbook_test.py ./sgb
-	examples/shards_test.sh
-	examples/callers_test.py ./sgb ./sgb_levels
-	examples/dask_degrees_test.py ./sgb
+	python3 examples/tests/convert_test.py ./sgb
+	python3 examples/tests/sgb_graph_test.py
+	examples/tests/cookbook_test.py ./sgb
+	examples/tests/shards_test.sh
+	examples/tests/callers_test.py ./sgb ./sgb_levels
+	examples/tests/dask_degrees_test.py ./sgb
 
 outside: sgb
 	checks/outside.py ./sgb
@@ -70,7 +70,7 @@ graphbase: sgb
 	conformance/graphbase.py ./sgb conformance/out/graphbase
 
 gallery: sgb
-	examples/gallery.sh ./sgb
+	examples/listings/gallery.sh ./sgb
 
 calls: toolchain
 	checks/calls.py

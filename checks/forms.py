@@ -64,7 +64,7 @@ PLACES = [
     ("i", "checks/from_outside/c_library.py", r"[\"'(,]NAME\b"),
     ("o", "checks/from_outside/memory.py", r"[\"'(, ]NAME\("),
     ("i", "checks/from_outside/memory.py", r"[\"'(,]NAME\b"),
-    ("gs", "examples/shards.sh", r"\bNAME\b"),
+    ("gs", "examples/parts/shards.sh", r"\bNAME\b"),
     ("gsoi", "README.md", r"`NAME\b"),
     ("gsoi", "man/sgb.1", r"\bNAME\b"),
     ("gsoi", "completions/sgb.bash", r"\bNAME\b"),

@@ -15,7 +15,7 @@ import zipfile
 
 from built import HERE, TOP, ran
 
-LEFT_OUT = ("_test.py", "_test.sh", ".gitignore")  # of the examples: what tries them in the repository
+LEFT_OUT = re.compile(r"examples/tests/|.*\.gitignore$")  # of the examples: what tries them in the repository
 
 
 def read(*path):
@@ -65,7 +65,7 @@ def shared_part():
     for name in "INSTALL.md", "CALLING_FROM_C.md", "COOKBOOK.md":
         add_file(tree, "share/doc/sgb/" + name, "docs/" + name)
     for path in tracked("examples") + tracked("conformance"):
-        if not path.endswith(LEFT_OUT) and not path.startswith("examples/converted/"):
+        if not LEFT_OUT.match(path):
             add_file(tree, "share/sgb/" + path, path)
     return tree
 

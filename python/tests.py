@@ -1,7 +1,7 @@
 #!/usr/bin/env python3
 """Tests of the package sgb: python/tests.py [PROGRAM], where PROGRAM is the program sgb, ./sgb if none is named.
 
-Its graphs are compared with what the program writes, also as examples/sgb_graph.py reads it; with scipy's, networkx's
+Its graphs are compared with what the program writes, also as examples/listings/sgb_graph.py reads it; with scipy's, networkx's
 and igraph's where these are installed. With SGB_WITHOUT_NUMPY=1 the package does without numpy.
 """
 
@@ -21,7 +21,7 @@ import unittest.mock
 
 HERE = os.path.dirname(os.path.abspath(__file__))
 PROGRAM = os.path.abspath(sys.argv.pop(1)) if len(sys.argv) > 1 else os.path.join(os.path.dirname(HERE), "sgb")
-sys.path[:0] = [HERE, os.path.join(os.path.dirname(HERE), "examples")]
+sys.path[:0] = [HERE, os.path.join(os.path.dirname(HERE), "examples", "listings")]
 if os.environ.get("SGB_WITHOUT_NUMPY") == "1":
     sys.modules["numpy"] = None
 

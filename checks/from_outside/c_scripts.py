@@ -52,9 +52,9 @@ def gb(program):
     def checks(runs, tally):
         """gb.h reads what sgb saves, and refuses what sgb refuses, with its codes."""
         shell = Shell(runs, program, "gb")
-        status, _, err = shell.run("cc -O2 -Wall -Wextra -Werror -o gb_list examples/gb_list.c")
+        status, _, err = shell.run("cc -O2 -Wall -Wextra -Werror -o gb_list examples/files/gb_list.c")
         tally.same("cc gb_list.c", (status, err), (0, ""))
-        with open(os.path.join(TOP, "examples", "gb.h"), encoding="utf-8") as file:
+        with open(os.path.join(TOP, "examples", "files", "gb.h"), encoding="utf-8") as file:
             tally.check(len(file.readlines()) < 150, "gb.h has too many lines")
 
         def compare(what):

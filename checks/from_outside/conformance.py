@@ -11,7 +11,7 @@ TOP = os.path.dirname(os.path.dirname(os.path.dirname(os.path.abspath(__file__))
 # how many rows the table has: graphs and refusals
 GRAPHS, REFUSALS = 134, 26
 
-# what examples/draw.awk draws: options, expression, how many lines and how many of them wrap around
+# what examples/listings/draw.awk draws: options, expression, how many lines and how many of them wrap around
 DRAWN = [
     ("", "board(8,8,0,0,5,0,0)", 168, 0),
     ("", "board(3,4,2,0,1,7,0)", 72, 8 + 6),
@@ -86,18 +86,18 @@ def script(*words):
 
 def gallery(runs, tally):
     """The pictures of the gallery are those that its commands make."""
-    tally.same("examples/gallery.sh", script("examples/gallery.sh", runs.program), (0, b"8 pictures\n", b""))
+    tally.same("examples/listings/gallery.sh", script("examples/listings/gallery.sh", runs.program), (0, b"8 pictures\n", b""))
 
 
 def cookbook(runs, tally):
     """Each row of the cookbook, with the numbers of its listing, and by networkx where that is installed."""
-    status, out, err = script("examples/cookbook_test.py", runs.program)
+    status, out, err = script("examples/tests/cookbook_test.py", runs.program)
     lines = out.decode().splitlines()
     for line in lines:
         if line.startswith("skipped"):
             print(f"  {line}")
     is_right = status == 0 and not err and lines and re.fullmatch("[0-9]+ rows, 0 failed", lines[-1])
-    tally.check(is_right, "examples/cookbook_test.py gave", (status, out, err))
+    tally.check(is_right, "examples/tests/cookbook_test.py gave", (status, out, err))
 
 
 def bad_expressions(runs, tally):
@@ -138,7 +138,7 @@ def carets(runs, tally):
     environment = dict(os.environ, SGB=runs.program)
 
     def script_of(words):
-        words = [os.path.join(TOP, "examples", "caret.sh"), *words]
+        words = [os.path.join(TOP, "examples", "listings", "caret.sh"), *words]
         got = subprocess.run(words, env=environment, stdin=subprocess.DEVNULL, capture_output=True)
         return got.returncode, got.stdout, got.stderr.decode("utf-8")
 
@@ -172,14 +172,14 @@ def drawings(shell_of):
         """Each picture has its vertices and lines, and its places apart; a listing that is not whole has none."""
         shell = shell_of(runs, "drawn")
         for options, expression, lines, wrapped in DRAWN:
-            command = f'sgb list "{expression}" | awk {options} -f examples/draw.awk'
+            command = f'sgb list "{expression}" | awk {options} -f examples/listings/draw.awk'
             status, out, err = shell.run(command)
             names = shell.run(f'sgb names "{expression}"')[1].count(b"\n")
             spots = re.findall(rb'<circle cx="([-0-9.]+)" cy="([-0-9.]+)"', out)
             seen = (status, err, len(spots), len(set(spots)), out.count(b'<path class="'), out.count(b'<path class="w"'))
             tally.same(command, seen, (0, b"", names, names, lines, wrapped))
         for before, options, line in NOT_DRAWN:
-            command = f"{before} | awk {options} -f examples/draw.awk"
+            command = f"{before} | awk {options} -f examples/listings/draw.awk"
             if line is not None:
                 tally.same(command, shell.run(command), (1, b"", b"draw.awk: " + line.encode() + b"\n"))
             else:

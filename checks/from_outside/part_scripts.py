@@ -12,7 +12,7 @@ def parts(program):
         _, text, _ = shell.run('sgb list "board(4,4,0,0,1,0,0)" --skip 3')
         lines = text.split("\n")
         wanted = "".join(line + "\n" for line in lines[:lines.index("2.0")])
-        part = 'examples/part.sh "board(4,4,0,0,1,0,0)" 3 5'
+        part = 'examples/parts/part.sh "board(4,4,0,0,1,0,0)" 3 5'
         tally.same(part, shell.run(part), (0, wanted, ""))
         # programs that end otherwise: what they write, their line and status, and what the command's line and status are
         some, all_ = "sed -n 1,9p", "cat"
@@ -47,14 +47,14 @@ def parts(program):
             ("queen 0 1", "./queens", no_listing),
             ("names 0 1", "./names", no_listing),
         ]:
-            command = f"examples/part.sh {words}"
+            command = f"examples/parts/part.sh {words}"
             status, out, err = shell.run(command, SGB=sgb)
             is_right = status and (out, err) == ("", line + "\n")
             tally.check(is_right, "$", command, sgb, "gave", (status, out, err))
         for command, line in [
-            ('examples/part.sh "board(4,4,0,0,1,0,0)" 3 13', "blocks.awk: no vertex comes after 13 blocks"),
-            ('examples/part.sh "board(4,4,0,0,1,0,0)" 3', "usage: part.sh"),
-            ('examples/part.sh "board(4,4,0,0,1,0,0)" 3 x', "part.sh: no number: x"),
+            ('examples/parts/part.sh "board(4,4,0,0,1,0,0)" 3 13', "blocks.awk: no vertex comes after 13 blocks"),
+            ('examples/parts/part.sh "board(4,4,0,0,1,0,0)" 3', "usage: part.sh"),
+            ('examples/parts/part.sh "board(4,4,0,0,1,0,0)" 3 x', "part.sh: no number: x"),
             (part + " > /dev/full", ""),
         ]:
             status, out, err = shell.run(command)
@@ -79,7 +79,7 @@ def shards(program):
             ("simplex(5,2,2,0,0,0,0)", "2", ""),
             ("board(2,2,0,0,1,0,0)", "7", "part"),
         ]:
-            command = 'examples/shards.sh "$EXPR" "$PARTS"' + (' "$FILES"' if files else "")
+            command = 'examples/parts/shards.sh "$EXPR" "$PARTS"' + (' "$FILES"' if files else "")
             variables = {"EXPR": expression, "PARTS": number, "FILES": files}
             status, out, err = shell.run(command, **variables)
             made, lines = [], out.splitlines()
@@ -93,7 +93,7 @@ def shards(program):
                 texts = [shell.text(f"{files}.{place + 1}") for place in range(len(lines))]
             _, whole, _ = shell.run('sgb list "$EXPR"', EXPR=expression)
             tally.check(None not in texts and "".join(texts) == whole, what, "gave", texts, "and not", whole)
-        command = 'examples/shards.sh "board(3,3,0,0,1,0,0)" 2 part'
+        command = 'examples/parts/shards.sh "board(3,3,0,0,1,0,0)" 2 part'
         status, out, err = shell.run(command, SGB="./none")
         tally.check(status != 0 and not out and "none" in err, "shards.sh without the program gave", (status, out, err))
         shell.write("other", '#!/bin/sh\necho "Something went wrong (panic code 1)!" >&2\nexit 1\n', 0o755)
@@ -113,7 +113,7 @@ def shards(program):
             ('"petersen()" 2 "two\nlines"', "shards.sh: a line cannot name a file"),
             ('"petersen()"', "usage: shards.sh"),
         ]:
-            command = f"examples/shards.sh {words}"
+            command = f"examples/parts/shards.sh {words}"
             status, out, err = shell.run(command)
             is_right = status in (1, 2) and not out and err.startswith(line) and err.count("\n") == 1
             tally.check(is_right, "$", command, "gave", (status, out, err))
@@ -127,7 +127,7 @@ def clusters(program):
         shell = Shell(runs, program, "clusters")
         expression = "board(30,30,0,0,1,0,0)"
         whole = shell.run(f'sgb list "{expression}"')[1]
-        job = 'examples/slurm.sh "$EXPR" "the part"'
+        job = 'examples/parts/slurm.sh "$EXPR" "the part"'
         array = {f"SLURM_ARRAY_TASK_{name}": value for name, value in [("MIN", "1"), ("MAX", "3"), ("COUNT", "3")]}
         array["EXPR"] = expression
         for task in ("1", "2", "3"):
@@ -144,17 +144,17 @@ def clusters(program):
             status, out, err = shell.run(job, **{**array, **changed})
             tally.check(status != 0 and not out and err, job, repr(changed), "gave", (status, out, err))
         if not shutil.which("parallel"):
-            print("  skipped, without GNU parallel: examples/hosts.sh")
+            print("  skipped, without GNU parallel: examples/parts/hosts.sh")
             return
-        job = f'examples/hosts.sh "{expression}" 4 :'
+        job = f'examples/parts/hosts.sh "{expression}" 4 :'
         tally.same(job, shell.run(job), (0, whole, ""))
         third = 'case $* in "list "*"--skip 450") echo "no 3" >&2; exit 1 ;; esac'
         shell.write("no 3", f'#!/bin/sh\n{third}\nexec sgb "$@"\n', 0o755)
         status, out, err = shell.run(job, SGB="./no 3")
         is_right = status != 0 and not out and "no 3" in err
         tally.check(is_right, job, "with a program that fails gave", (status, out, err))
-        status, out, err = shell.run('examples/hosts.sh "board(3,3" 4 :')
-        tally.check(status != 0 and not out and err, "examples/hosts.sh of no expression gave", (status, out, err))
+        status, out, err = shell.run('examples/parts/hosts.sh "board(3,3" 4 :')
+        tally.check(status != 0 and not out and err, "examples/parts/hosts.sh of no expression gave", (status, out, err))
 
     return checks
 

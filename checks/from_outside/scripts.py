@@ -101,16 +101,16 @@ def refused(program):
         shell = Shell(runs, program, "refused")
         for awk, to in [(awk, "edges") for awk in awks()] + [(awks()[0], "dot")]:
             for given, options, line in REFUSED + REFUSED_OF_EDGES * (to == "edges"):
-                command = f"{given} | {awk} -v to={to} {options} -f examples/convert.awk"
+                command = f"{given} | {awk} -v to={to} {options} -f examples/listings/convert.awk"
                 status, out, err = shell.run(command)
                 is_right = err.startswith(f"convert.awk: {line}") and err.count("\n") == 1
                 tally.check((status, out, is_right) == (1, "", True), "$", command, "gave", (status, out, err))
             for option in ("", "-v to=", "-v to=DOT", "-v to=edge"):
-                command = f'sgb list "petersen()" | {awk} {option} -f examples/convert.awk'
+                command = f'sgb list "petersen()" | {awk} {option} -f examples/listings/convert.awk'
                 status, out, err = shell.run(command)
                 is_right = (status, out) == (1, "") and err.startswith("convert.awk: say what to write")
                 tally.check(is_right, "$", command, "gave", (status, out, err))
-            command = f'sgb list "petersen()" | {awk} -v to=dot -v numbers=1 -f examples/convert.awk'
+            command = f'sgb list "petersen()" | {awk} -v to=dot -v numbers=1 -f examples/listings/convert.awk'
             tally.same(command, shell.run(command), (1, "", "convert.awk: numbers=1 is for to=edges\n"))
 
     return checks
@@ -122,7 +122,7 @@ def agreed(program):
         shell = Shell(runs, program, "agreed")
         shell.write(
             "edges.py",
-            "import sys\nsys.path.insert(0, 'examples')\nsys.dont_write_bytecode = True\nimport sgb_graph\n"
+            "import sys\nsys.path.insert(0, 'examples/listings')\nsys.dont_write_bytecode = True\nimport sgb_graph\n"
             "def listing(): return sgb_graph.read(sys.argv[1], None if sys.argv[1] != 'stdin' else sys.stdin.buffer)\n"
             "edges = list(sgb_graph.to_edges(listing(), len(sys.argv) > 2))\n"
             "if sys.argv[1] == 'stdin': sys.stdin.buffer.seek(0)\n"
@@ -141,7 +141,7 @@ def agreed(program):
             tally.check(wanted[0] == 0 and not wanted[2], "$", command, "gave", wanted)
             for awk in awks():
                 options = "-v directed=1" if directed else ""
-                command = f"sgb list {expression} | {awk} -v to=edges {options} -f examples/convert.awk"
+                command = f"sgb list {expression} | {awk} -v to=edges {options} -f examples/listings/convert.awk"
                 tally.same(command, shell.run(command), wanted)
         for awk in awks():
             for given, options, out in [
@@ -156,11 +156,11 @@ def agreed(program):
                 ("stdin < empty.gb", "-v numbers=1", "1\n2\t3\n"),
                 ("stdin < behind.gb", "-v numbers=1 -v directed=1", "1\t2\n2\t1\n"),
             ]:
-                command = f"sgb list {given} | {awk} -v to=edges {options} -f examples/convert.awk"
+                command = f"sgb list {given} | {awk} -v to=edges {options} -f examples/listings/convert.awk"
                 tally.same(command, shell.run(command), (0, out, ""))
             # the queens' listing, which has a title before it
             for to in ("edges", "dimacs", "metis", "graphml"):
-                end = f"{awk} -v to={to} -v lengths=1 -f examples/convert.awk"
+                end = f"{awk} -v to={to} -v lengths=1 -f examples/listings/convert.awk"
                 wanted = shell.run(f'sgb list "{QUEENS}" | {end}')
                 is_right = wanted[0] == 0 and wanted[1].count("\n") > 12 and not wanted[2]
                 tally.check(is_right, to, "of queens gave", wanted)
@@ -181,7 +181,7 @@ def blocks(program):
                 wanted = "".join(lines[:names[5]])
                 for size in [*range(0, len(wanted) - 50, 40), *range(len(wanted) - 50, len(wanted) + 8)]:
                     shell.write("cut", text[:size])
-                    command = f"{awk} {option} -v blocks=5 -f examples/blocks.awk < cut"
+                    command = f"{awk} {option} -v blocks=5 -f examples/parts/blocks.awk < cut"
                     status, out, err = shell.run(command)
                     what = f"$ {command} of {size} bytes gave"
                     if size > len(wanted):
@@ -197,7 +197,7 @@ def blocks(program):
                 ('sgb list "board(4,4,0,0,1,0,0)"', "-v blocks=17", "no vertex comes after 16 blocks"),
                 ('sgb list "board(4,4,0,0,1,0,0)" --skip 16', "-v resumed=1 -v blocks=0", "no vertex comes after 0"),
             ]:
-                command = f"{given} | {awk} {option} -f examples/blocks.awk > taken"
+                command = f"{given} | {awk} {option} -f examples/parts/blocks.awk > taken"
                 status, _, err = shell.run(command)
                 is_right = status == 1 and err.startswith(f"blocks.awk: {line}") and err.count("\n") == 1
                 tally.check(is_right, "$", command, "gave", (status, err))
@@ -221,7 +221,7 @@ def lists(program):
             tally.same((expression, "in enough"), arcs(expression, vertex, room), min(vectors, COUNTED))
         for expression, vertex, count in SHORT:
             tally.same((expression, "in 8 MB"), arcs(expression, vertex, 8 << 20), min(count, COUNTED))
-        for page in ("docs/ERRORS.md", "examples/slurm.sh"):
+        for page in ("docs/ERRORS.md", "examples/parts/slurm.sh"):
             with open(os.path.join(TOP, page), encoding="utf-8") as file:
                 text = re.sub("[\n #`]+", " ", file.read())
             lists_of = r"disjoint_subsets\(40,8\) has lists of ([0-9,]+) vectors of ([0-9]+) entries"
@@ -236,7 +236,7 @@ def lists(program):
 def forms(program):
     def checks(runs, tally):
         """The forms that convert.awk writes: those that are stored, and more that are read again."""
-        counted(tally, os.path.join(TOP, "examples", "convert_test.py"), program, "stored")
+        counted(tally, os.path.join(TOP, "examples", "tests", "convert_test.py"), program, "stored")
 
     return checks
 
@@ -244,7 +244,7 @@ def forms(program):
 def python(program):
     def checks(runs, tally):
         """The tests of sgb_graph.py."""
-        tests = os.path.join(TOP, "examples", "sgb_graph_test.py")
+        tests = os.path.join(TOP, "examples", "tests", "sgb_graph_test.py")
         got = subprocess.run([sys.executable, "-B", tests, program], capture_output=True, timeout=SECONDS)
         tally.check(got.returncode == 0, tests, "gave", got.stderr.decode())
 

@@ -1,7 +1,7 @@
 # The first blocks of a generator's listing, as many as `blocks` says, with its head; it ends then:
 #
-#   sgb list "board(9,9,0,0,1,0,0)" | awk -v blocks=5 -f examples/blocks.awk
-#   sgb list "board(9,9,0,0,1,0,0)" --skip 20 | awk -v resumed=1 -v blocks=5 -f examples/blocks.awk
+#   sgb list "board(9,9,0,0,1,0,0)" | awk -v blocks=5 -f examples/parts/blocks.awk
+#   sgb list "board(9,9,0,0,1,0,0)" --skip 20 | awk -v resumed=1 -v blocks=5 -f examples/parts/blocks.awk
 #
 # A block is whole where the vertex after it is seen. So it fails, with a line on standard error and status 1, where no
 # vertex comes after the blocks, since the last of them may be cut off then. It fails where there is no head, unless

@@ -1,5 +1,5 @@
 #!/usr/bin/env python3
-"""Tests of sgb_graph.py: examples/sgb_graph_test.py [PROGRAM]. Graphs are compared with networkx's, if it is there."""
+"""Tests of sgb_graph.py: examples/tests/sgb_graph_test.py [PROGRAM]. Graphs are compared with networkx's, if it is there."""
 
 import copy
 import itertools
@@ -8,7 +8,7 @@ import pickle
 import sys
 import unittest
 
-sys.path.insert(0, os.path.dirname(os.path.abspath(__file__)))
+sys.path.insert(0, os.path.join(os.path.dirname(os.path.abspath(__file__)), "..", "listings"))
 import sgb_graph
 
 try:
@@ -17,7 +17,7 @@ except ImportError:
     networkx = None
 
 HERE = os.path.dirname(os.path.abspath(__file__))
-PROGRAM = sys.argv.pop(1) if len(sys.argv) > 1 else os.path.join(HERE, "..", "sgb")
+PROGRAM = sys.argv.pop(1) if len(sys.argv) > 1 else os.path.join(HERE, "..", "..", "sgb")
 
 FILE = (
     b"* GraphBase graph (util_types ZZZZZZZZZZZZZZ,2V,2A)\n"

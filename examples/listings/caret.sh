@@ -1,7 +1,7 @@
 #!/bin/sh
 # Runs sgb, and shows the byte at which a bad expression goes wrong under its text.
 #
-#   examples/caret.sh list "board(3, 3,0,0,1,0,0)"
+#   examples/listings/caret.sh list "board(3, 3,0,0,1,0,0)"
 #   sgb: bad expression at byte 8
 #     board(3, 3,0,0,1,0,0)
 #             ^ here

@@ -1,6 +1,6 @@
 /* Prints the listing of the .gb file on standard input, as `sgb list stdin` does; a refusal is its code on standard error.
 
-     cc -o gb_list examples/gb_list.c && sgb save "petersen()" | ./gb_list */
+     cc -o gb_list examples/files/gb_list.c && sgb save "petersen()" | ./gb_list */
 #include "gb.h"
 
 int main(void) {

@@ -1,5 +1,5 @@
 #!/usr/bin/env python3
-"""Tries the callers of the library for C that need more than cc: examples/callers_test.py [SGB [SGB_LEVELS]].
+"""Tries the callers of the library for C that need more than cc: examples/tests/callers_test.py [SGB [SGB_LEVELS]].
 
     make lib && make examples
 
@@ -15,7 +15,7 @@ import subprocess
 import sys
 import tempfile
 
-TOP = os.path.dirname(os.path.dirname(os.path.abspath(__file__)))
+TOP = os.path.dirname(os.path.dirname(os.path.dirname(os.path.abspath(__file__))))
 sys.path.insert(0, os.path.join(TOP, "checks"))
 
 from from_outside import c_library  # noqa: E402  (the folder is put on the path above)

@@ -1,7 +1,7 @@
 # Draws a listing of sgb as SVG.
 #
-#   sgb list "board(8,8,0,0,5,0,0)" | awk -f examples/draw.awk > knight.svg
-#   sgb list "cycle(7)" | awk -v directed=1 -v on=circle -f examples/draw.awk > cycle.svg
+#   sgb list "board(8,8,0,0,5,0,0)" | awk -f examples/listings/draw.awk > knight.svg
+#   sgb list "cycle(7)" | awk -v directed=1 -v on=circle -f examples/listings/draw.awk > cycle.svg
 #
 # Coordinates are taken from the names. Vectors of one, two or three entries are places of a board; where two or three have
 # the same sum everywhere, they are places on a line or in a triangle. The names `a,b` of a product count as vectors too, and

@@ -2,7 +2,7 @@
 # One part of the listing of a generator's graph: COUNT blocks after the first FROM vertices, with the head where FROM
 # is 0:
 #
-#   examples/part.sh "board(30,30,0,0,1,0,0)" 225 225 > part.2
+#   examples/parts/part.sh "board(30,30,0,0,1,0,0)" 225 225 > part.2
 #
 # There has to be a vertex after them: blocks.awk looks for it, since it shows that the last block is whole, and closes
 # the pipe then. That the program could not write on is no fault, and that line of its is left out; so is what

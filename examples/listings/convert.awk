@@ -1,8 +1,8 @@
 # Turns a listing of sgb into another form of the same graph:
 #
-#   sgb list "petersen()" | awk -v to=edges -f examples/convert.awk > petersen.tsv
-#   sgb list "petersen()" | awk -v to=dot -f examples/convert.awk | dot -Tsvg > petersen.svg
-#   sgb list "cycle(4)" | awk -v to=dot -v directed=1 -f examples/convert.awk | dot -Tsvg > cycle.svg
+#   sgb list "petersen()" | awk -v to=edges -f examples/listings/convert.awk > petersen.tsv
+#   sgb list "petersen()" | awk -v to=dot -f examples/listings/convert.awk | dot -Tsvg > petersen.svg
+#   sgb list "cycle(4)" | awk -v to=dot -v directed=1 -f examples/listings/convert.awk | dot -Tsvg > cycle.svg
 #
 #   to=dot      Graphviz's DOT. The label of an edge is its length.
 #   to=edges    A line for each edge: two names and its length with tabs between them; an isolated vertex alone on a line.

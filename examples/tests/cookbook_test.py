@@ -1,5 +1,5 @@
 #!/usr/bin/env python3
-"""Tries each row of docs/COOKBOOK.md: examples/cookbook_test.py [PROGRAM].
+"""Tries each row of docs/COOKBOOK.md: examples/tests/cookbook_test.py [PROGRAM].
 
 A row's numbers of vertices and edges are held against the listing of its expression; where networkx is installed, its graph
 against that of the last column. A line tells of each row that fails, and the last line counts; the status is 1 where one
@@ -13,7 +13,7 @@ import os
 import re
 import sys
 
-sys.path.insert(0, os.path.dirname(os.path.abspath(__file__)))
+sys.path.insert(0, os.path.join(os.path.dirname(os.path.abspath(__file__)), "..", "listings"))
 sys.dont_write_bytecode = True
 import sgb_graph
 
@@ -23,8 +23,8 @@ except ImportError:
     networkx = None
 
 HERE = os.path.dirname(os.path.abspath(__file__))
-PROGRAM = os.path.abspath(sys.argv[1]) if len(sys.argv) > 1 else os.path.join(HERE, "..", "sgb")
-PAGE = os.path.join(HERE, "..", "docs", "COOKBOOK.md")
+PROGRAM = os.path.abspath(sys.argv[1]) if len(sys.argv) > 1 else os.path.join(HERE, "..", "..", "sgb")
+PAGE = os.path.join(HERE, "..", "..", "docs", "COOKBOOK.md")
 FEWEST = 50  # rows that the page has at least
 
 Row = collections.namedtuple("Row", "line graph expression numbers vertices edges wanted directed")

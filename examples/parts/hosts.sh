@@ -1,7 +1,7 @@
 #!/bin/sh
 # Prints the listing of a generator's graph, its parts made on several hosts by GNU parallel:
 #
-#   examples/hosts.sh "board(3000,3000,0,0,1,0,0)" 40 anna,berta,: > listing
+#   examples/parts/hosts.sh "board(3000,3000,0,0,1,0,0)" 40 anna,berta,: > listing
 #
 # HOSTS are names with commas between them, : being this machine; ssh has to reach them without a password. Each needs
 # sgb on its path, and the folder in which this is called, with examples/ in it, under the same name. Nothing is

@@ -5,7 +5,7 @@
 # A job of Slurm that makes the listing of a generator's graph in parts, one a task: FILES.1, FILES.2, .., which one
 # after another are the listing. From the folder with examples/, with sgb on the path, and a task for each part:
 #
-#   sbatch --array=1-100 examples/slurm.sh "board(30000,30000,0,0,1,0,0)" part
+#   sbatch --array=1-100 examples/parts/slurm.sh "board(30000,30000,0,0,1,0,0)" part
 #
 # A task whose part is not whole fails. The array has to begin with 1 and to leave no number out.
 #
@@ -14,9 +14,9 @@
 # while it grows.
 # Lists of subsets, and of pieces that ride around a board, may be as long as there are vertices, or twice as long:
 # disjoint_subsets(40,8) has lists of 10,518,300 vectors of 40 entries, which take 1.7 GB. A greater --mem at the
-# command goes before the one above: sbatch --mem=4G --array=1-PARTS examples/slurm.sh EXPR FILES
+# command goes before the one above: sbatch --mem=4G --array=1-PARTS examples/parts/slurm.sh EXPR FILES
 set -eu
-[ $# -eq 2 ] || { echo "usage: sbatch --array=1-PARTS examples/slurm.sh EXPR FILES" >&2; exit 2; }
+[ $# -eq 2 ] || { echo "usage: sbatch --array=1-PARTS examples/parts/slurm.sh EXPR FILES" >&2; exit 2; }
 task=${SLURM_ARRAY_TASK_ID:?is set by sbatch --array}
 parts=${SLURM_ARRAY_TASK_MAX:?is set by sbatch --array}
 if [ "${SLURM_ARRAY_TASK_MIN:-1}" -ne 1 ] || [ "${SLURM_ARRAY_TASK_COUNT:-$parts}" -ne "$parts" ]; then
@@ -24,6 +24,6 @@ if [ "${SLURM_ARRAY_TASK_MIN:-1}" -ne 1 ] || [ "${SLURM_ARRAY_TASK_COUNT:-$parts
     exit 2
 fi
 # sbatch runs a copy of this script in the folder where it was called: so the others are not beside $0
-command=$(examples/shards.sh "$1" "$parts" "$2" | sed -n "${task}p")
+command=$(examples/parts/shards.sh "$1" "$parts" "$2" | sed -n "${task}p")
 [ -n "$command" ] || { echo "slurm.sh: no command for part $task" >&2; exit 1; }
 exec sh -c "$command"

@@ -1,5 +1,5 @@
 #!/usr/bin/env python3
-"""Tries dask_degrees.py: examples/dask_degrees_test.py [PROGRAM]. Its counts are held against the program's listings.
+"""Tries dask_degrees.py: examples/tests/dask_degrees_test.py [PROGRAM]. Its counts are held against the program's listings.
 
     make lib && make examples
 
@@ -17,12 +17,13 @@ import sys
 import tempfile
 
 HERE = os.path.dirname(os.path.abspath(__file__))
-TOP = os.path.dirname(HERE)
-SCRIPT = os.path.join(HERE, "dask_degrees.py")
+TOP = os.path.dirname(os.path.dirname(HERE))
+SCRIPTS = os.path.join(TOP, "examples", "parts")
+SCRIPT = os.path.join(SCRIPTS, "dask_degrees.py")
 PROGRAM = os.path.abspath(sys.argv[1]) if len(sys.argv) > 1 else os.path.join(TOP, "sgb")
 DEBIAN = "/usr/bin/python3"
 SECONDS = int(os.environ.get("DASK_SECONDS", "120"))
-sys.path[:0] = [HERE, os.path.join(TOP, "python")]
+sys.path[:0] = [SCRIPTS, os.path.join(TOP, "python")]
 sys.dont_write_bytecode = True
 
 # an expression, and how it is cut: parts and chunks that do not go into it, that do, and one that is all of it
@@ -137,10 +138,10 @@ def main():
         there = [DEBIAN, "-c", "import distributed"]
         if os.path.exists(DEBIAN) and subprocess.run(there, capture_output=True, check=False).returncode == 0:
             os.execv(DEBIAN, [DEBIAN, *sys.argv])
-        print("  skipped, without Dask's distributed (Debian package python3-distributed): examples/dask_degrees.py")
+        print("  skipped, without Dask's distributed (Debian package python3-distributed): examples/parts/dask_degrees.py")
         return
     if not os.environ.get("SGB_LIBRARY") and not os.path.exists(os.path.join(TOP, "libsgb.so")):
-        print("  skipped, without libsgb.so, which `make lib` leaves: examples/dask_degrees.py")
+        print("  skipped, without libsgb.so, which `make lib` leaves: examples/parts/dask_degrees.py")
         return
     import dask_degrees
 

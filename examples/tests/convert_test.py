@@ -1,5 +1,5 @@
 #!/usr/bin/env python3
-"""Tests of convert.awk: examples/convert_test.py PROGRAM [stored].
+"""Tests of convert.awk: examples/tests/convert_test.py PROGRAM [stored].
 
 Each form of some graphs is compared with the file in converted/ that is stored for it, by each kind of awk that is there.
 Each form of more graphs is read again, here and, unless `stored` asks for no more, by the readers that are installed
@@ -17,8 +17,9 @@ import tempfile
 import xml.etree.ElementTree
 
 HERE = os.path.dirname(os.path.abspath(__file__))
-SCRIPT = os.path.join(HERE, "convert.awk")
-sys.path.insert(0, HERE)
+SCRIPTS = os.path.join(HERE, "..", "listings")
+SCRIPT = os.path.join(SCRIPTS, "convert.awk")
+sys.path.insert(0, SCRIPTS)
 sys.dont_write_bytecode = True
 import sgb_graph
 
@@ -380,7 +381,7 @@ def awks():
 
 
 def main():
-    program = os.path.abspath(sys.argv[1]) if len(sys.argv) > 1 else os.path.join(HERE, "..", "sgb")
+    program = os.path.abspath(sys.argv[1]) if len(sys.argv) > 1 else os.path.join(HERE, "..", "..", "sgb")
     failed, done = [], collections.Counter()
 
     def check(is_right, *what):

@@ -2,12 +2,12 @@
 # Writes commands, one a line, whose outputs, one after another, are the listing of a generator's graph: each begins at its
 # own vertex, with none before it, so they can run anywhere, in any order, at the same time.
 #
-#   examples/shards.sh "board(3000,3000,0,0,1,0,0)" 4             the commands
-#   examples/shards.sh "board(3000,3000,0,0,1,0,0)" 4 part        each writes a file: part.1, part.2, ..
+#   examples/parts/shards.sh "board(3000,3000,0,0,1,0,0)" 4             the commands
+#   examples/parts/shards.sh "board(3000,3000,0,0,1,0,0)" 4 part        each writes a file: part.1, part.2, ..
 #
-#   examples/shards.sh EXPR 4 part | xargs -d '\n' -P 4 -I{} sh -c {} && cat part.1 part.2 part.3 part.4
-#   examples/shards.sh EXPR 4 | parallel -k
-#   sh -c "$(examples/shards.sh EXPR 4 part | sed -n "${SLURM_ARRAY_TASK_ID}p")"
+#   examples/parts/shards.sh EXPR 4 part | xargs -d '\n' -P 4 -I{} sh -c {} && cat part.1 part.2 part.3 part.4
+#   examples/parts/shards.sh EXPR 4 | parallel -k
+#   sh -c "$(examples/parts/shards.sh EXPR 4 part | sed -n "${SLURM_ARRAY_TASK_ID}p")"
 #
 # A command fails where its part is not whole (part.sh). SGB names the program, if it is not the one on the path. EXPR is a
 # board, a simplex, subsets or one of their short names: any other graph would be made anew by each command.

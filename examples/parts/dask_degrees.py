@@ -1,8 +1,8 @@
 #!/usr/bin/env python3
 """How many vertices of a generator's graph have how many arcs, counted by Dask's distributed scheduler.
 
-    examples/dask_degrees.py "board(1000,1000,0,0,1,0,0)"
-    examples/dask_degrees.py "simplex(44000,-2,0,0,0,0,0)" --scheduler tcp://anna:8786
+    examples/parts/dask_degrees.py "board(1000,1000,0,0,1,0,0)"
+    examples/parts/dask_degrees.py "simplex(44000,-2,0,0,0,0,0)" --scheduler tcp://anna:8786
 
 The graph is not built, so it may have 10^9 vertices. Its vertices are cut into parts, and each is a task: a worker
 goes through it in chunks by the package sgb, and hands back counts alone. The first line has the numbers of vertices
@@ -30,7 +30,7 @@ import os
 import sys
 import tempfile
 
-sys.path.append(os.path.join(os.path.dirname(os.path.dirname(os.path.abspath(__file__))), "python"))
+sys.path.append(os.path.join(os.path.dirname(os.path.abspath(__file__)), "..", "..", "python"))
 
 PART = 1_000_000  # vertices of a task
 CHUNK = 16_384  # vertices of a chunk, whose lists a worker holds

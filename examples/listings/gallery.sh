@@ -1,12 +1,12 @@
 #!/bin/sh
 # Makes the pictures of docs/gallery.md by the commands of that page, and compares them with those in docs/gallery/.
 #
-#   examples/gallery.sh [-u] [PROGRAM]     -u keeps what is made in docs/gallery/
+#   examples/listings/gallery.sh [-u] [PROGRAM]     -u keeps what is made in docs/gallery/
 #
 # PROGRAM is ./sgb if none is named. The status is 1, with a line for each, where a picture differs, or is not there, or is
 # made by no command.
 set -eu
-top=$(cd "$(dirname "$0")/.." && pwd)
+top=$(cd "$(dirname "$0")/../.." && pwd)
 keep=
 if [ "${1:-}" = -u ]; then keep=1; shift; fi
 program=$(realpath "${1:-$top/sgb}")
