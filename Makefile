@@ -52,6 +52,7 @@ examples: sgb
 	python3 examples/tests/convert_test.py ./sgb
 	python3 examples/tests/sgb_graph_test.py
 	examples/tests/cookbook_test.py ./sgb
+	examples/tests/course_test.py ./sgb
 	examples/tests/shards_test.sh
 	examples/tests/callers_test.py ./sgb ./sgb_levels
 	examples/tests/dask_degrees_test.py ./sgb

@@ -1,6 +1,6 @@
 /* Prints the file on standard input as `sgb save stdin` does, without a checksum, each record on one line: so it shows all
    that gb.h has read. The number of arc records, which a Graph does not keep, is its word. */
-#include "../examples/files/gb.h"
+#include "../../examples/files/gb.h"
 
 static Graph *g;
 static Arc *arcs;

@@ -3,6 +3,7 @@ wrong output, where a listing is cut off or refused, has no head, has a name twi
 completion, in a terminal.
 """
 
+import importlib.util
 import math
 import os
 import re
@@ -259,6 +260,25 @@ def completion(runs, tally):
     counted(tally, os.path.join(TOP, "completions", "sgb_test.py"))
 
 
+def explanations(program):
+    def checks(runs, tally):
+        """What explain.sh says of refusals."""
+        counted(tally, os.path.join(TOP, "examples", "tests", "explain_test.py"), program)
+
+    return checks
+
+
+def course(program):
+    def checks(runs, tally):
+        """The exercises of docs/COURSE.md, where networkx is installed."""
+        if importlib.util.find_spec("networkx") is None:
+            print("  skipped, without networkx: docs/COURSE.md")
+            return
+        counted(tally, os.path.join(TOP, "examples", "tests", "course_test.py"), program)
+
+    return checks
+
+
 def counted(tally, *words):
     """Runs a test of Python whose last line tells how many checks passed."""
     got = subprocess.run([sys.executable, "-B", *words], stdin=subprocess.DEVNULL, capture_output=True, timeout=SECONDS)
@@ -276,3 +296,5 @@ def all_checks(program):
     yield "scripts of blocks", blocks(program)
     yield "scripts in Python", python(program)
     yield "scripts of completion", completion
+    yield "scripts of explanations", explanations(program)
+    yield "scripts of the course", course(program)
