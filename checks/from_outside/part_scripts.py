@@ -121,6 +121,35 @@ def shards(program):
     return checks
 
 
+def retried(program):
+    def checks(runs, tally):
+        """With --retry a part that failed has no name, one that is there is not made again, and in the end all are there."""
+        shell = Shell(runs, program, "retried")
+        variables = {"EXPR": "board(20,20,0,0,1,0,0)", "FILES": "it's a part"}
+        command = 'examples/parts/shards.sh --retry "$EXPR" 5 "$FILES"'
+        _, whole, _ = shell.run('sgb list "$EXPR"', EXPR=variables["EXPR"])
+        shell.write("no third", '#!/bin/sh\ncase $* in "list "*"--skip 160") echo "no third" >&2; exit 1 ;; esac\nexec sgb "$@"\n', 0o755)
+        for sgb, there in ("./no third", [1, 2, 4, 5]), ("sgb", [1, 2, 3, 4, 5]), ("./none of them", None):
+            status, out, err = shell.run(command, **variables, SGB=sgb)
+            if there is None:
+                tally.check(status != 0 and not out and err, command, "without the program gave", (status, out, err))
+                continue
+            lines = out.splitlines()
+            known = [place for place in range(1, 6) if shell.text(f"{variables['FILES']}.{place}") is not None]
+            told = [place for place, line in enumerate(lines, 1) if line == ":"]
+            tally.same((command, "of parts that are there"), (status, err, len(lines), told), (0, "", 5, known))
+            ends = [shell.run(line)[0] for line in lines]
+            tally.same((command, "by", sgb), [place for place, end in enumerate(ends, 1) if not end], there)
+            texts = [shell.text(f"{variables['FILES']}.{place}") for place in range(1, 6)]
+            tally.same((command, "parts by", sgb), [place for place, text in enumerate(texts, 1) if text is not None], there)
+        tally.check(None not in texts and "".join(texts) == whole, command, "gave", texts, "and not", whole)
+        for words in ('--retry "petersen()" 2', '--retry "petersen()"', '"petersen()" 2 part more'):
+            status, out, err = shell.run(f"examples/parts/shards.sh {words}")
+            tally.check(status == 2 and not out and err.startswith("usage: shards.sh"), words, "gave", (status, out, err))
+
+    return checks
+
+
 def clusters(program):
     def checks(runs, tally):
         """The jobs for Slurm, by the variables that it sets, and for GNU parallel, on this machine as a host."""
@@ -162,4 +191,5 @@ def clusters(program):
 def all_checks(program):
     yield "scripts of a part", parts(program)
     yield "scripts of parts", shards(program)
+    yield "scripts of parts once more", retried(program)
     yield "scripts of clusters", clusters(program)

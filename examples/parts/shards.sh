@@ -9,13 +9,20 @@
 #   examples/parts/shards.sh EXPR 4 | parallel -k
 #   sh -c "$(examples/parts/shards.sh EXPR 4 part | sed -n "${SLURM_ARRAY_TASK_ID}p")"
 #
+#   examples/parts/shards.sh --retry EXPR 4 part      those of the parts that are not there yet
+#
+# With --retry a part gets its name when it is whole, so that one with its name is there and is not made again: its command
+# is `:`. What was made without --retry, and may be cut off, is to be removed before.
+#
 # A command fails where its part is not whole (part.sh). SGB names the program, if it is not the one on the path. EXPR is a
 # board, a simplex, subsets or one of their short names: any other graph would be made anew by each command.
 set -eu
 LC_ALL=C
 export LC_ALL
 refuse() { echo "shards.sh: $*" >&2; exit 2; }
-[ $# -eq 2 ] || [ $# -eq 3 ] || { echo "usage: shards.sh EXPR PARTS [FILES]" >&2; exit 2; }
+retry=
+if [ "${1:-}" = --retry ]; then retry=1; shift; fi
+[ $# -eq 3 ] || { [ $# -eq 2 ] && [ -z "$retry" ]; } || { echo "usage: shards.sh [--retry] EXPR PARTS [FILES]" >&2; exit 2; }
 expression=$1 parts=$2 files=${3:-}
 sgb=${SGB:-sgb}
 here=$(dirname "$0")
@@ -63,6 +70,7 @@ done
 named=$(quoted "$sgb")
 if [ "$sgb" = sgb ]; then part=; else part="SGB=$named "; fi
 part=$part$(quoted "$here/part.sh")
+given=$files
 files=$(quoted "$files")
 
 # Part k has the blocks from this one, counted from 0, up to that one. Some have none where there are more parts than
@@ -79,6 +87,12 @@ while [ "$k" -lt "$parts" ]; do
     else
         command="$part \"$expression\" $this $((that - this))"
     fi
-    echo "$command${files:+ > $files.$k}"
+    if [ -z "$retry" ]; then
+        echo "$command${files:+ > $files.$k}"
+    elif [ -e "$given.$k" ]; then
+        echo :
+    else
+        echo "$command > $files.$k.begun && mv $files.$k.begun $files.$k"
+    fi
     this=$that
 done

@@ -7,7 +7,8 @@
 #
 #   sbatch --array=1-100 examples/parts/slurm.sh "board(30000,30000,0,0,1,0,0)" part
 #
-# A task whose part is not whole fails. The array has to begin with 1 and to leave no number out.
+# A task whose part is not whole fails, and its part has no name of its own then: called once more, only the parts that are
+# not there are made. The array has to begin with 1 and to leave no number out.
 #
 # 200 MB are ample for a simplex, and for a board on which no side wraps around. Else a task keeps the longest list of
 # one vertex: for each vector on it 4 bytes for each of its entries and 4 more (of a board 12), and up to twice that
@@ -24,6 +25,6 @@ if [ "${SLURM_ARRAY_TASK_MIN:-1}" -ne 1 ] || [ "${SLURM_ARRAY_TASK_COUNT:-$parts
     exit 2
 fi
 # sbatch runs a copy of this script in the folder where it was called: so the others are not beside $0
-command=$(examples/parts/shards.sh "$1" "$parts" "$2" | sed -n "${task}p")
+command=$(examples/parts/shards.sh --retry "$1" "$parts" "$2" | sed -n "${task}p")
 [ -n "$command" ] || { echo "slurm.sh: no command for part $task" >&2; exit 1; }
 exec sh -c "$command"
