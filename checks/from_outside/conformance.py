@@ -29,8 +29,23 @@ DRAWN = [
     ("", "product(circuit(3),petersen(),0,0)", 75, 0),
     ("", "empty(3)", 0, 0),
     ("", "simplex(5,2,2,0,0,0,0)", 0, 0),
+    ("", "bi_complete(3,4,0)", 12, 0),
+    ("-v on=columns", "board(3,4,0,0,5,0,0)", 14, 0),
+    ("-v on=columns -v directed=1", "bi_complete(2,2,1)", 4, 0),
+    ("-v rim=20", "product(petersen(),complete(2),1,0)", 30, 0),
+    ("-v directed=1 -v on=circle", "complement(cycle(4),0,1,1)", 12, 0),
 ]
 # what it refuses: what comes before it in a pipe, its options, and its line
+# the numbers that stand in a picture: lengths once for each edge, and places on lists once for each arc
+NUMBERED = [
+    ("-v lengths=1", "board(3,0,0,0,-1,0,0)", [1, 1, 2]),
+    ("-v lengths=1 -v directed=1", "board(3,0,0,0,-1,0,1)", [1, 1, 2]),
+    ("-v order=1", "board(3,0,0,0,1,0,0)", [1, 1, 2, 1]),
+    ("-v order=1 -v on=circle", "gunion(complete(3),circuit(3),1,0)", [1, 2, 3, 4] * 3),
+    ("-v order=1 -v directed=1", "transitive(4)", [1, 2, 3, 1, 2, 1]),
+    ("-v order=1", "complement(empty(2),0,1,0)", [1, 2, 3, 1, 2, 3]),
+    ("", "bi_complete(2,3,0)", []),
+]
 NOT_DRAWN = [
     ('sgb names "petersen()"', "", "line 1: no head of a whole listing"),
     ('sgb list "petersen()" --skip 0', "", "line 1: no head of a whole listing"),
@@ -46,6 +61,7 @@ NOT_DRAWN = [
     ('sgb list "empty(12)" | head -c -2', "", "line 15: the listing is cut off in the middle of a line"),
     ('sgb list "petersen()"', "-v rim=4", "line 44: no cycle of 4 vertices through the first one"),
     ('sgb list "complete(4)"', "-v rim=3 -v on=circle", None),
+    ('sgb list "complete(3)"', "-v on=columns", "line 13: no two columns, since the edge of 2 and 1 closes an odd cycle"),
     ('sgb list "petersen()"', "-v on=triangle", "line 44: names that are no vectors of one to three entries: on=circle draws them"),
 ]
 
@@ -86,7 +102,7 @@ def script(*words):
 
 def gallery(runs, tally):
     """The pictures of the gallery are those that its commands make."""
-    tally.same("examples/listings/gallery.sh", script("examples/listings/gallery.sh", runs.program), (0, b"8 pictures\n", b""))
+    tally.same("examples/listings/gallery.sh", script("examples/listings/gallery.sh", runs.program), (0, b"12 pictures\n", b""))
 
 
 def cookbook(runs, tally):
@@ -178,6 +194,11 @@ def drawings(shell_of):
             spots = re.findall(rb'<circle cx="([-0-9.]+)" cy="([-0-9.]+)"', out)
             seen = (status, err, len(spots), len(set(spots)), out.count(b'<path class="'), out.count(b'<path class="w"'))
             tally.same(command, seen, (0, b"", names, names, lines, wrapped))
+        for options, expression, numbers in NUMBERED:
+            command = f'sgb list "{expression}" | awk {options} -f examples/listings/draw.awk'
+            status, out, err = shell.run(command)
+            found = sorted(int(number) for number in re.findall(rb'<text class="n"[^>]*>(-?[0-9]+)<', out))
+            tally.same(command, (status, err, found), (0, b"", sorted(numbers)))
         for before, options, line in NOT_DRAWN:
             command = f"{before} | awk {options} -f examples/listings/draw.awk"
             if line is not None:
@@ -192,7 +213,7 @@ def all_checks(document, shell_of):
     """Each check with its name; `document` makes one of a page's commands, `shell_of` a folder in which they run."""
     yield "conformance table", table
     yield "document conformance/README.md", document("conformance/README.md", 3)
-    yield "document docs/gallery.md", document("docs/gallery.md", 8)
+    yield "document docs/gallery.md", document("docs/gallery.md", 12)
     yield "document docs/COOKBOOK.md", document("docs/COOKBOOK.md", 14)
     yield "cookbook", cookbook
     yield "document docs/ERRORS.md", document("docs/ERRORS.md", 30)

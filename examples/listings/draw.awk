@@ -10,7 +10,11 @@
 # over another place, or that wraps around a side of a board, is an arc; so are parallel edges.
 #
 # With rim=K, the first cycle of K vertices that a search finds is on the circle, and the others are inside, each on the side
-# where its neighbours on the rim are.
+# where its neighbours on the rim are. With on=columns, as bi_complete is drawn, all edges lead from one column to the other.
+#
+#   lengths=1   each edge with its length
+#   colours=1   edges of one length in one colour
+#   order=1     at each vertex the place of each arc on its list, counted from 1: the order in which programs meet them
 #
 # A listing does not say whether its graph is directed: without directed=1 each edge, which stands on the lists of both its
 # ends, is drawn once. Where the listing has no head, is not whole, or has a name twice, nothing is drawn: the status is 1,
@@ -37,6 +41,7 @@ END {
     find_places()
     if (rim) draw_rim()
     else if (on == "circle") draw_circle()
+    else if (on == "columns") draw_columns()
     else draw_places()
     write()
 }
@@ -89,10 +94,12 @@ function find_tips(    k, u, v, loops) {
     for (k = 1; k <= m; k++) {
         u = from[k]
         v = tip[k]
+        rank[k] = ++listed[u]
         is_drawn[k] = directed || u < v || (u == v && ++loops[u, len[k]] % 2)
         if (!directed && (records[u, v, len[k]] != records[v, u, len[k]] || u == v && records[u, v, len[k]] % 2))
             fail("not a graph of edges, which directed=1 draws: " name[u] " and " name[v])
-        if (u != v && !((u, v) in others)) {
+        if (u == v) has_loop[u] = 1
+        else if (!((u, v) in others)) {
             others[u, v] = 1
             neighbours[u]++
         }
@@ -110,9 +117,10 @@ function find_places(    v, k, entries, sum, sums, has_sums) {
         if (v > 1 && sum != sums) has_sums = 1
         sums = sum
     }
+    if (on == "" && id ~ /^bi_complete\(/) on = "columns"
     if (on == "") on = d <= 0 ? "circle" : d >= 2 && !has_sums && n > 1 && id !~ /^board/ ? "triangle" : "board"
-    if (on != "circle" && on != "board" && on != "triangle") fail("on is board, triangle or circle")
-    if (on != "circle" && d <= 0) fail("names that are no vectors of one to three entries: on=circle draws them")
+    if (on !~ /^(circle|columns|board|triangle)$/) fail("on is board, triangle, columns or circle")
+    if (on != "circle" && on != "columns" && d <= 0) fail("names that are no vectors of one to three entries: on=circle draws them")
     if (on == "triangle" && (d < 2 || has_sums)) fail("names that have no common sum: on=board draws them")
     for (v = 1; v <= n; v++) if (length(name[v]) > longest) longest = length(name[v])
     if (id ~ /^board\([-0-9,]*\)$/) {
@@ -204,6 +212,7 @@ function move(k,    u, v, t, step, square, common, nth, is_wrapped, is_bent, ben
     u = from[k]
     v = tip[k]
     nth = drawn[u, v]++
+    drawing = k
     if (u == v) { loop(u, 0.7, -0.7, nth); return }
     for (t = 1; t <= d; t++) {
         step = coord[v, t] - coord[u, t]
@@ -218,7 +227,7 @@ function move(k,    u, v, t, step, square, common, nth, is_wrapped, is_bent, ben
         if (bend > cell * 0.47) bend = cell * 0.47
     }
     # an edge stands off to one side, however it is directed; two arcs to and fro stand apart
-    if (directed && bend == 0 && ((v, u) in records)) bend = cell * 0.1
+    if (directed && bend == 0 && ((v, u) in others)) bend = cell * 0.1
     else if (lines_only && is_wrapped) bend = -bend
     if (!directed && (y[u] > y[v] || (y[u] == y[v] && x[u] > x[v]))) bend = -bend
     edge(u, v, bend, is_wrapped, lines_only || is_wrapped ? 0.06 : 0.25)
@@ -265,17 +274,51 @@ function join_on_circle(    k, u, v, nth, across, down, size, off) {
         u = from[k]
         v = tip[k]
         nth = drawn[u, v]++
+        drawing = k
         size = sqrt(x[u] * x[u] + y[u] * y[u])
         if (u == v) loop(u, size < 1 ? 0.7 : x[u] / size, size < 1 ? -0.7 : y[u] / size, nth)
-        else edge(u, v, nth ? 9 * nth : directed && ((v, u) in records) ? 5 : 0, 0, 0.25)
+        else edge(u, v, nth ? 9 * nth : directed && ((v, u) in others) ? 5 : 0, 0, 0.25)
     }
     for (v = 1; v <= n; v++) {
         size = sqrt(x[v] * x[v] + y[v] * y[v])
         if (size < radius - 1) { dot(v, rim ? "" : "start", r + 4, -r - 3); continue }
         across = x[v] / size
         down = y[v] / size
-        off = r + (((v, v) in records) ? 17 + 7 * drawn[v, v] : 6)
+        off = r + ((v in has_loop) ? 17 + 7 * drawn[v, v] : 6)
         dot(v, across > 0.15 ? "start" : across < -0.15 ? "end" : "middle", x[v] + across * off, y[v] + down * (off + 2) + 3.4)
+    }
+}
+
+# The two sides of a bipartite graph, each in the order of the listing; a vertex without neighbours stands on the first.
+function draw_columns(    k, v, u, nth, first, last, queue, count, across, down) {
+    for (k = 1; k <= m; k++) {
+        out[from[k], ++degree[from[k]]] = tip[k]
+        if (directed) out[tip[k], ++degree[tip[k]]] = from[k]
+    }
+    for (v = 1; v <= n; v++) {
+        if (side[v]) continue
+        side[v] = 1
+        queue[first = last = 1] = v
+        for (; first <= last; first++)
+            for (k = 1; k <= degree[queue[first]]; k++) {
+                u = out[queue[first], k]
+                if (side[u] == side[queue[first]])
+                    fail("no two columns, since the edge of " name[queue[first]] " and " name[u] " closes an odd cycle")
+                if (!side[u]) { side[u] = 3 - side[queue[first]]; queue[++last] = u }
+            }
+    }
+    for (v = 1; v <= n; v++) count[side[v]]++
+    r = 5.5
+    across = 130 + 8 * (count[1] > count[2] ? count[1] : count[2])
+    for (v = 1; v <= n; v++) {
+        down = (++spot[side[v]] - (count[side[v]] + 1) / 2) * 34
+        set(v, side[v] == 1 ? 0 : across, down)
+        dot(v, side[v] == 1 ? "end" : "start", side[v] == 1 ? -r - 6 : across + r + 6, down + 3.4)
+    }
+    for (k = 1; k <= m; k++) if (is_drawn[k]) {
+        nth = drawn[from[k], tip[k]]++
+        drawing = k
+        edge(from[k], tip[k], nth ? 9 * nth : directed && ((tip[k], from[k]) in others) ? 5 : 0, 0, 0.25)
     }
 }
 
@@ -341,6 +384,7 @@ function edge(u, v, bend, is_wrapped, along,    dx, dy, size, px, py, ax, ay, bx
         tx -= (tx - bx) / size * (r + 2)
         ty -= (ty - by) / size * (r + 2)
     }
+    marks(u, v, ax + (bx - ax) / 2 - px / 4, ay + (by - ay) / 2 - py / 4, px, py, size_of(dx, dy))
     if (bend) {
         see((ax + bx) / 2 - px / 4, (ay + by) / 2 - py / 4, 3)
         line("M" point(x[u], y[u]) " C" point(ax, ay) " " point(bx, by) " " point(tx, ty), is_wrapped)
@@ -349,19 +393,68 @@ function edge(u, v, bend, is_wrapped, along,    dx, dy, size, px, py, ax, ay, bx
 }
 
 # A loop, in the direction of (across, down).
-function loop(v, across, down, nth,    size, ax, ay, bx, by) {
+function loop(v, across, down, nth,    size, ax, ay, bx, by, dx, dy) {
     size = r + 16 + 7 * nth
     ax = x[v] + (across + 0.55 * down) * size * 1.3
     ay = y[v] + (down - 0.55 * across) * size * 1.3
     bx = x[v] + (across - 0.55 * down) * size * 1.3
     by = y[v] + (down + 0.55 * across) * size * 1.3
     see(x[v] + across * size, y[v] + down * size, 6)
-    line("M" point(x[v], y[v]) " C" point(ax, ay) " " point(bx, by) " " point(x[v], y[v]), 0)
+    if (lengths) mark(x[v] + across * (size + 4), y[v] + down * (size + 4), len[drawing])
+    if (order) {
+        mark(x[v] + (across + 0.5 * down) * size * 0.8, y[v] + (down - 0.5 * across) * size * 0.8, rank[drawing])
+        if (!directed) mark(x[v] + (across - 0.5 * down) * size * 0.8, y[v] + (down + 0.5 * across) * size * 0.8, rank[drawing] + 1)
+    }
+    if (directed) {
+        # the point of the arrow is at the rim of the vertex, where the loop comes back
+        dx = bx - x[v]
+        dy = by - y[v]
+        line("M" point(x[v], y[v]) " C" point(ax, ay) " " point(bx, by) " " \
+            point(x[v] + dx / size_of(dx, dy) * (r + 2), y[v] + dy / size_of(dx, dy) * (r + 2)), 0)
+    } else
+        line("M" point(x[v], y[v]) " C" point(ax, ay) " " point(bx, by) " " point(x[v], y[v]), 0)
 }
 
 function line(way, is_wrapped) {
-    edges = edges "<path class=\"" (is_wrapped ? "w" : "e") "\" d=\"" way "\"/>\n"
+    edges = edges "<path class=\"" (is_wrapped ? "w" : "e") "\"" (colours ? " style=\"stroke: " colour(len[drawing]) "\"" : "") \
+        " d=\"" way "\"/>\n"
 }
+
+# The colour of a length: lengths get theirs as they come.
+function colour(length_) {
+    if (!(length_ in colour_of)) {
+        split("#33618f #c2541b #3f8f4f #8e44ad #b8860b #c0396b #2a9d9d #6b6b6b", palette, " ")
+        colour_of[length_] = palette[colours_used++ % 8 + 1]
+    }
+    return colour_of[length_]
+}
+
+# The length in the middle of an edge, and at its ends the places of its arcs on their lists.
+function marks(u, v, across, down, px, py, size,    k, back) {
+    if (lengths) mark(across, down, len[drawing])
+    if (!order) return
+    at_end(u, v, px, py, size, rank[drawing])
+    if (directed) return
+    # the other record of the edge: the next that is as long and not met before
+    for (k = 1; k <= m; k++)
+        if (from[k] == v && tip[k] == u && len[k] == len[drawing] && !(k in met)) { back = k; break }
+    met[back] = 1
+    at_end(v, u, px, py, size, rank[back])
+}
+
+# A number beside the way from u to v, near u.
+function at_end(u, v, px, py, size, text,    along) {
+    along = (r + 9) / size
+    if (along > 0.4) along = 0.4
+    mark(x[u] + (x[v] - x[u]) * along + px * 3 * along * (1 - along), y[u] + (y[v] - y[u]) * along + py * 3 * along * (1 - along), text)
+}
+
+function mark(across, down, text) {
+    labels = labels "<text class=\"n\" x=\"" num(across) "\" y=\"" num(down + 3) "\" text-anchor=\"middle\">" text "</text>\n"
+    see(across, down, 7)
+}
+
+function size_of(dx, dy) { return sqrt(dx * dx + dy * dy) }
 
 function dot(v, anchor, across, down,    width) {
     dots = dots "<circle cx=\"" num(x[v]) "\" cy=\"" num(y[v]) "\" r=\"" num(r) "\"><title>" escaped(name[v]) \
@@ -390,6 +483,8 @@ function write(    left, top, width, height) {
     print ".w { fill: none; stroke: #c2541b; stroke-width: 1.3; stroke-opacity: 0.75 }"
     print "circle { fill: #ffffff; stroke: #22313f; stroke-width: 1.3 }"
     print "text { font: 10px Helvetica, Arial, sans-serif; fill: #22313f }"
+    if (lengths || order)
+        print ".n { font-size: 8px; fill: #8a2f12; stroke: #ffffff; stroke-width: 2.4; paint-order: stroke }"
     if (directed) print "path.e, path.w { marker-end: url(#arrow) }"
     print "</style>"
     if (directed)
@@ -397,7 +492,7 @@ function write(    left, top, width, height) {
             "orient=\"auto\"><path d=\"M0 0 L8 4 L0 8 Z\" fill=\"#33618f\"/></marker>"
     print "<rect x=\"" num(left) "\" y=\"" num(top) "\" width=\"" num(width) "\" height=\"" num(height) \
         "\" fill=\"#ffffff\"/>"
-    printf "%s%s%s", ground, edges, dots
+    printf "%s%s%s%s", ground, edges, dots, labels
     print "</svg>"
 }
 
