@@ -86,14 +86,14 @@ edits: toolchain
 
 install:
 	@[ -x $(PROGRAM) ] || { echo "make: nothing is built yet: make builds the program, make install installs it" >&2; exit 1; }
-	install -D $(PROGRAM) $(DESTDIR)$(PREFIX)/bin/sgb
-	install -D -m 644 man/sgb.1 $(DESTDIR)$(PREFIX)/share/man/man1/sgb.1
-	install -D -m 644 completions/sgb.bash $(DESTDIR)$(PREFIX)/share/bash-completion/completions/sgb
+	install -D $(PROGRAM) "$(DESTDIR)$(PREFIX)/bin/sgb"
+	install -D -m 644 man/sgb.1 "$(DESTDIR)$(PREFIX)/share/man/man1/sgb.1"
+	install -D -m 644 completions/sgb.bash "$(DESTDIR)$(PREFIX)/share/bash-completion/completions/sgb"
 	@[ ! -f libsgb.a ] || $(MAKE) --no-print-directory install-lib
 
 uninstall:
-	rm -f $(DESTDIR)$(PREFIX)/bin/sgb $(DESTDIR)$(PREFIX)/share/man/man1/sgb.1
-	rm -f $(DESTDIR)$(PREFIX)/share/bash-completion/completions/sgb
+	rm -f "$(DESTDIR)$(PREFIX)/bin/sgb" "$(DESTDIR)$(PREFIX)/share/man/man1/sgb.1"
+	rm -f "$(DESTDIR)$(PREFIX)/share/bash-completion/completions/sgb"
 
 clean:
 	rm -rf crates/*/out conformance/out out dist

@@ -31,6 +31,7 @@ import time
 import tty
 
 import c_library
+import c_many
 import conformance
 import great_listings
 import random_requests
@@ -701,7 +702,7 @@ class Shell:
         os.mkdir(self.folder)
         os.symlink(PROGRAM, os.path.join(self.folder, "sgb"))
         os.symlink(os.path.join(TOP, "crates/sgb_levels/out/sgb_levels"), os.path.join(self.folder, "sgb_levels"))
-        for there in ("conformance", "examples", "include", "python", "libsgb.a", "libsgb.so"):
+        for there in ("conformance", "examples", "include", "python", "libsgb.a", "libsgb.so", "libsgb.so.1"):
             os.symlink(os.path.join(TOP, there), os.path.join(self.folder, there))
         self.environment = dict(os.environ, PATH=self.folder + os.pathsep + os.environ.get("PATH", os.defpath))
 
@@ -835,6 +836,7 @@ def all_checks():
     yield from great_listings.all_checks()
     yield from random_requests.all_checks()
     yield from c_library.all_checks(PROGRAM, document)
+    yield from c_many.all_checks(PROGRAM)
 
 
 # these take longest, so they begin first
