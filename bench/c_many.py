@@ -24,7 +24,7 @@ REQUESTS = 3000
 SECONDS = 120  # after so many no new expression is begun; what is left out is told
 ROUNDS = 100_000
 STACK = 128  # kilobytes
-FLAGS = ["-D_GNU_SOURCE", "-pthread"]
+FLAGS = ["-pthread"]
 
 # a `.gb` file of ten vertices
 TEN = "circuit(10)"

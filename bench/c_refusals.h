@@ -156,13 +156,13 @@ static void refuse(int is_built) {
     is_graph(&other, wanted);
     sgb_close(&other);
     if (refusals == 0) fail("no call asked for memory");
-    printf("right %zu\n", refusals);
     /* a run in the middle */
     open_graph();
+    must(sgb_file_size(&graph, &size.file), SGB_OK, "sgb_file_size");
     uint32_t n = vertices();
-    refusals = 0;
     begin_run(n / 3, n / 2);
     free_arrays();
     refuse_calls(is_built, &refusals);
     make_arrays();
+    printf("right %zu\n", refusals);
 }
