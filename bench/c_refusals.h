@@ -93,7 +93,8 @@ static void refuse_calls(int is_built, size_t *refusals) {
         uint64_t wanted = call(&graph, which);
         counting = 0;
         if (which != INTS) must(wanted, SGB_OK, call_names[which]);
-        if (asked != 0 && (is_built || which == SIZES)) fail("a call takes memory that is to take none");
+        int takes_none = which == SIZES || which == INTS || which == ID || which == KINDS;
+        if (asked != 0 && (is_built || takes_none)) fail("a call takes memory that is to take none");
         uint64_t after = state();
         free_arrays();
         for (size_t number = 1; refuse_call(which, number, number, wanted, after, refusals); number++)

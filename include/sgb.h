@@ -25,10 +25,12 @@
  * (SGB_WRONG_LENGTH). sgb_sizes, sgb_rows_size, sgb_names_size and sgb_file_size say which lengths these are.
  *
  * Memory. sgb_open takes what it holds. The other calls on an open graph hold nothing more when they have answered. On a graph
- * that is built they take none; on a generator's they may take some while they run, and sgb_file and sgb_file_size build it for
- * that time. sgb_sizes, sgb_close, sgb_draws, sgb_uniform_draws and sgb_version never take any. Where memory is refused the
- * answer is SGB_NO_ROOM, and all is as it was before the call. A handle that is not open, a run that is not there, a field
- * that holds no integers and `starts` of a wrong length are told before memory is taken.
+ * that is built they take none; on a generator's sgb_arcs and the calls on rows, tips and names may take some while they run, and
+ * sgb_file and sgb_file_size build the graph for that time. All other calls never take any. Where memory is refused the answer
+ * is SGB_NO_ROOM, and all is as it was before the call. A handle that is not open, a run that is not there and `starts` of a
+ * wrong length are told before memory is taken, and so are a handle that is open already and a text that is too large.
+ *
+ * STACK
  *
  * Threads. A handle is used by one call at a time; several handles may be open, and used by many threads at once. That a
  * handle may go to another thread, under a lock, is not proved: the library keeps nothing of a thread's.
