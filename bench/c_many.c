@@ -3,7 +3,8 @@
  *     c_many runs FILE        each line of the file is `FIRST COUNT INPUT EXPR`, where INPUT is a file or `-`: the answer of
  *                             sgb_open where there is no graph; else its listing of the run with the head, and its file
  *     c_many leaks N FILE     N openings and closings of each kind, where FILE is a `.gb` file: the process is as large as before
- *     c_many stack KB EXPR    each call in a thread of so many kilobytes: how many bytes of its stack it touches, a line each
+ *     c_many stack KB OPEN ARCS EXPR    each call in a thread of KB kilobytes, sgb_open and sgb_arcs in others: how many bytes of its
+ *                             stack it touches, a line each
  *     c_many threads N EXPR.. N threads, each with graphs of its own and one that they share under a lock
  *     c_many great EXPR       opens the graph: seconds of a processor, the arcs on its lists, kilobytes held at most
  *
@@ -100,6 +101,7 @@ static uint64_t opened_and_closed(void) {
     static uint32_t ends[64];
     static int64_t wide[64];
     static char bytes[512];
+    static unsigned rounds;
     sgb_graph_sizes there;
     uint64_t answer = open_text(&graph), arcs, len;
     if (answer == SGB_OK) {
@@ -111,7 +113,8 @@ static uint64_t opened_and_closed(void) {
         must(sgb_tips(&graph, 0, 2, places, 3, ends, arcs + 1), SGB_WRONG_LENGTH, "sgb_tips");
         must(sgb_names(&graph, 0, 2, places, 3, bytes, len), SGB_OK, "sgb_names");
         sgb_ints(&graph, 3, 0, 2, wide, 2);
-        if (there.vertices < 100) must(sgb_file_size(&graph, &len), SGB_OK, "sgb_file_size");
+        /* the file now and then: a generator's graph is built for it */
+        if (++rounds % 16 == 0 && there.vertices < 100) must(sgb_file_size(&graph, &len), SGB_OK, "sgb_file_size");
     }
     sgb_close(&graph);
     return answer;
@@ -196,6 +199,7 @@ static void *in_thread(void *none) {
     case INTS: answer_of = sgb_ints(of_main, 3, lent.first, lent.count, lent.wide, lens[0]); break;
     case ID: answer_of = sgb_id(of_main, lent.bytes, lens[0]); break;
     case KINDS: answer_of = sgb_kinds(of_main, lent.bytes, lens[0]); break;
+    case CALLS + 1: answer_of = sgb_uniform_draws(7, 1000000007, 6, lent.ends, lens[1]); break;
     case FILE_SIZE: answer_of = sgb_file_size(of_main, &lent.told.file); break;
     case WHOLE_FILE: answer_of = sgb_file(of_main, lent.bytes, lens[0]); break;
     default: sgb_close(of_main); break;
@@ -221,7 +225,7 @@ static size_t touched(int which, size_t bytes) {
     return bytes - kept;
 }
 
-static int stack(size_t bytes, const char *now) {
+static int stack(size_t bytes, size_t of_open, size_t of_arcs, const char *now) {
     set_text(now);
     open_graph();
     must(sgb_file_size(&graph, &size.file), SGB_OK, "sgb_file_size");
@@ -234,13 +238,15 @@ static int stack(size_t bytes, const char *now) {
     lent.bytes = array(width + 160, 1);
     sgb_close(&graph);
     size_t least = touched(-2, bytes);
-    printf("sgb_open %zu\n", touched(-1, bytes) - least);
+    printf("sgb_open %zu\n", touched(-1, of_open) - least);
     must(answer_of, SGB_OK, "sgb_open in a thread");
     for (int which = 0; which < CALLS; which++) {
         for (int k = 0; k < 3; k++) lens_of[k] = places(which, k);
-        printf("%s %zu\n", call_names[which], touched(which, bytes) - least);
+        printf("%s %zu\n", call_names[which], touched(which, which == ARCS ? of_arcs : bytes) - least);
         if (which != INTS) must(answer_of, SGB_OK, call_names[which]);
     }
+    lens_of[1] = size.listed;
+    printf("sgb_uniform_draws %zu\n", touched(CALLS + 1, bytes) - least);
     printf("sgb_close %zu\n", touched(CALLS, bytes) - least);
     if (graph.is_open) fail("a graph that was closed is open");
     free(lent.wide);
@@ -338,7 +344,8 @@ int main(int words_len, char **words) {
     if (words_len < 3) fail("usage");
     input = whole(stdin, &input_len);
     int status = 2;
-    if (words_len == 4 && strcmp(words[1], "stack") == 0) status = stack(strtoul(words[2], NULL, 10) << 10, words[3]);
+    if (words_len == 6 && strcmp(words[1], "stack") == 0)
+        status = stack(strtoul(words[2], NULL, 10) << 10, strtoul(words[3], NULL, 10) << 10, strtoul(words[4], NULL, 10) << 10, words[5]);
     if (words_len >= 4 && strcmp(words[1], "threads") == 0) status = threads(atoi(words[2]), words + 3, words_len - 3);
     if (words_len == 3 && strcmp(words[1], "great") == 0) status = great(words[2]);
     free(input);

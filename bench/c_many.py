@@ -3,7 +3,8 @@
 - 3,000 random expressions, each with a run of its vertices, are listed and saved by the library, and held against the text that
   the program writes. The seed is printed: `OUTSIDE_SEED=SEED bench/outside.py ./sgb "library random"` makes the same ones again.
 - 10^5 openings and closings of each kind leave the process as large as before.
-- Each call runs in a thread with a stack of 128 KB, and touches no more of it than include/sgb.h says.
+- Each call runs in a thread with a stack of 128 KB, or of more where it needs more, and touches no more of it than
+  include/sgb.h says.
 - The callers are built with AddressSanitizer and ThreadSanitizer, where the compiler has them, and run.
 - A hostile file opens at once.
 """
@@ -143,10 +144,11 @@ def leaks(program):
 
 
 def stack_said():
-    """What include/sgb.h says that a call needs of its stack, and for each pair of parentheses in one another, in bytes."""
+    """What include/sgb.h says that calls touch of their stack, in bytes: to open a generator's call, any other expression, and for
+    each pair of parentheses in it, of sgb_arcs, and of all others."""
     with open(HEADER, encoding="utf-8") as file:
         text = re.sub(r"\n \* ?", " ", file.read())
-    return [int(number.replace(",", "")) for number in re.search(r"takes at most ([0-9,]+) bytes of stack, and ([0-9,]+) more", text).groups()]
+    return [1024 * int(number) for number in re.findall(r"([0-9]+) KB", re.search(r" Stack[.] .*? (?=Threads[.])", text)[0])]
 
 
 def nested(depth, of="petersen()"):
@@ -165,23 +167,25 @@ STACKS = [
 
 
 def stack(runs, tally):
-    """Each call in a thread with a stack of 128 KB touches no more of it than sgb.h says; expressions in one another, with
-    more stack, too."""
-    path = many(runs, tally)
+    """Calls in a thread with a stack of 128 KB, sgb_arcs and expressions in one another with more: they touch no more of it than
+    sgb.h says."""
+    path = many(runs, tally, "c_many", "-Wl,-z,now")
     if not path:
         return
-    call, pair = stack_said()
+    generator, other, pair, arcs, all_else = stack_said()
     deep = [(nested(depth), depth) for depth in (2, 8, 32, 64)] + [("product(" * 63 + "complete(1)" + ",complete(1),0,0)" * 63, 64)]
     most = {}
     for text, depth in STACKS + deep:
-        size = STACK if depth < 3 else 1024
-        status, out, err = c_library.ran(path, "stack", str(size), text, given=c_library.SHARED)
-        tally.check(status == 0 and not err, path, "stack", str(size), text[:60], "gave", (status, out, err))
+        is_generator = c_library.is_generator(text)
+        allowed = {"sgb_open": generator if is_generator else other + pair * depth, "sgb_arcs": arcs}
+        words = ("stack", str(STACK), str(STACK if is_generator else 4096), "256", text)
+        status, out, err = c_library.ran(path, *words, given=c_library.SHARED)
+        tally.check(status == 0 and not err, path, *words, "gave", (status, out, err))
         for line in out.decode().splitlines():
             name, touched = line.split()
             most[name] = max(most.get(name, 0), int(touched))
-            allowed = call + pair * depth
-            tally.check(int(touched) <= allowed, name, text[:60], "touches", touched, "bytes of its stack, and not", str(allowed))
+            most_here = allowed.get(name, all_else)
+            tally.check(int(touched) <= most_here, name, text[:60], "touches", touched, "bytes of its stack, of", str(most_here))
     if os.environ.get("OUTSIDE_STACK"):
         print("\n".join(f"  {name}: {touched} bytes of stack" for name, touched in most.items()))
 
@@ -252,7 +256,11 @@ def shared_lists(runs, tally):
     vertices, arcs = 800_000, 320_000
     file = hostile(vertices, arcs)
     begun = time.monotonic()
-    status, out, err = c_library.ran(path, "great", "stdin", given=file)
+    try:
+        status, out, err = c_library.ran(path, "great", "stdin", given=file, seconds=20)
+    except subprocess.TimeoutExpired:
+        tally.check(False, "a file of", str(len(file)), "bytes whose vertices share a list does not open in 20 seconds")
+        return
     tally.check(status == 0 and not err, path, "great stdin of", str(len(file)), "bytes gave", (status, out, err))
     if status == 0:
         seconds, listed, kilobytes = out.decode().split()
