@@ -2,21 +2,21 @@
  *
  *     c_arrays list EXPR       the listing, put together from the arrays
  *     c_arrays names EXPR      the names, one a line
- *     c_arrays ints EXPR       for each utility field of the vertices its number, the answer, and its integers, on a line
+ *     c_arrays ints EXPR       for each utility field of the vertices its number, the answer, its integers, on a line
  *     c_arrays save EXPR       the file
  *     c_arrays kinds EXPR      the letters of the kinds, on a line
- *     c_arrays answer EXPR     the answer of sgb_open, and of the calls on this handle, where all their arrays are empty
- *     c_arrays wrong EXPR      each array one too short and one too long: the answer is SGB_WRONG_LENGTH, nothing is written
+ *     c_arrays answer EXPR     the answer of sgb_open, and of the calls on this handle with empty arrays
+ *     c_arrays wrong EXPR      each array one too short and one too long: SGB_WRONG_LENGTH, and nothing is written
  *     c_arrays handles EXPR    handles that are open, opened again, closed, closed twice, and two at once
- *     c_arrays refuse EXPR     each allocation refused in turn: the answer is SGB_NO_ROOM, nothing is opened, written or held
+ *     c_arrays refuse EXPR     each allocation refused in turn: SGB_NO_ROOM, and nothing is opened, written or held
  *     c_arrays refuse_built EXPR     so too, and the calls on the graph take no memory
  *     c_arrays draws START SKIP COUNT M     draws, one a line: uniform ones below M where that is not 0
  *     c_arrays chunks EXPR SIZE          the blocks of all vertices, put together from runs of so many
  *     c_arrays chunk EXPR FIRST COUNT    those of one run
  *     c_arrays chunk_wrong EXPR          runs that are not there, and those of no vertices
  *
- * Standard input is the input of the expression. What is not as it must be ends it with status 4 and a line. With COUNTED
- * defined, malloc, realloc and free are wrapped (cc -Wl,--wrap=malloc,--wrap=realloc,--wrap=free). */
+ * Standard input is the input of the expression. What is not as it must be ends it with status 4 and a line. With
+ * COUNTED defined, malloc, realloc and free are wrapped (cc -Wl,--wrap=malloc,--wrap=realloc,--wrap=free). */
 #include "c_calls.h"
 #include "c_chunks.h"
 #include "c_refusals.h"
@@ -94,7 +94,7 @@ static void wrong(void) {
     puts("right");
 }
 
-/* Each call on a handle that holds no graph says so, and writes nothing: whatever the run, the field and the lengths. */
+/* Each call on a handle of no graph says so, and writes nothing: whatever the run, the field and the lengths. */
 static void is_closed(sgb_graph *at) {
     if (at->is_open) fail("a handle of no graph is open");
     make_arrays();

@@ -1,5 +1,5 @@
-/* What the checks of the library for C share: a graph, a run of its vertices, and each call on them with the arrays that it
- * fills. bench/c_arrays.c and bench/c_many.c take this file in. */
+/* What the checks of the library for C share: a graph, a run of its vertices, and each call on them with the arrays
+ * that it fills. bench/c_arrays.c and bench/c_many.c take this file in. */
 #include <inttypes.h>
 #include <stdio.h>
 #include <stdlib.h>
@@ -35,7 +35,8 @@ OWN sgb_graph graph = SGB_NO_GRAPH;
 OWN uint32_t first, count, field = 3;
 OWN numbers size, told;
 
-/* The arrays that calls fill: one place more than they may have at each end of what is looked at, and that is not written. */
+/* The arrays that calls fill: one place more than they may have at each end of what is looked at, and that is not
+ * written. */
 OWN uint64_t *starts, *tip_starts, *name_starts;
 OWN uint32_t *tips, *plain_tips;
 OWN int64_t *lengths, *values;

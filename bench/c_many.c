@@ -1,15 +1,16 @@
 /* A C program on the library for C that makes many calls, for bench/c_many.py.
  *
- *     c_many runs FILE        each line of the file is `FIRST COUNT INPUT EXPR`, where INPUT is a file or `-`: the answer of
- *                             sgb_open where there is no graph; else its listing of the run with the head, and its file
- *     c_many leaks N FILE     N openings and closings of each kind, where FILE is a `.gb` file: the process is as large as before
- *     c_many stack KB OPEN ARCS EXPR    each call in a thread of KB kilobytes, sgb_open and sgb_arcs in others: how many bytes of its
- *                             stack it touches, a line each
+ *     c_many runs FILE        each line of the file is `FIRST COUNT INPUT EXPR`, where INPUT is a file or `-`: the
+ *                             answer of sgb_open where there is no graph; else the listing of the run, and the file
+ *     c_many leaks N FILE     N openings and closings of each kind, where FILE is a `.gb` file: the process is as large
+ *                             as before
+ *     c_many stack KB OPEN ARCS EXPR    each call in a thread of KB kilobytes, sgb_open and sgb_arcs in others: how many
+ *                             bytes of its stack it touches, a line each
  *     c_many threads N EXPR.. N threads, each with graphs of its own and one that they share under a lock
  *     c_many great EXPR       opens the graph: seconds of a processor, the arcs on its lists, kilobytes held at most
  *
- * Standard input is the input of the expressions of `stack`, `threads` and `great`. What is not as it must be ends it with
- * status 4 and a line. */
+ * Standard input is the input of the expressions of `stack`, `threads` and `great`. What is not as it must be ends it
+ * with status 4 and a line. */
 #define _GNU_SOURCE
 #include <pthread.h>
 #include <sys/mman.h>
@@ -167,7 +168,7 @@ static int leaks(long rounds, const char *path) {
     return 0;
 }
 
-/* The call that a thread makes, on the graph and the arrays of the thread that waits for it: -2 is none, -1 sgb_open. */
+/* The call that a thread makes, on the graph and the arrays of the one that waits for it: -2 is none, -1 sgb_open. */
 static int which_call;
 static sgb_graph *of_main;
 static uint64_t lens_of[3], answer_of;

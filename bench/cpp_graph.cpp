@@ -1,5 +1,5 @@
-// Tests of include/sgb.hpp: a graph that is moved, closed and refused; runs, iterators, chunks. It prints what is not as it must be, and ends
-// with status 4; else "right". Calls of sgb_close are counted (-Wl,--wrap=sgb_close).
+// Tests of include/sgb.hpp: a graph that is moved, closed and refused; runs, iterators, chunks. It prints what is not
+// as it must be, and ends with status 4; else "right". Calls of sgb_close are counted (-Wl,--wrap=sgb_close).
 #include <algorithm>
 #include <cstdlib>
 #include <iostream>

@@ -1,4 +1,5 @@
-// The library of sgb.h for C++: a graph by its official name, and its arrays, of all vertices or in runs. It needs C++20.
+// The library of sgb.h for C++: a graph by its official name, and its arrays, of all vertices or in runs. It needs
+// C++20.
 //
 //     sgb::graph g("petersen()");
 //     for (auto [from, tip, length] : g.rows().arcs()) ...
@@ -245,11 +246,11 @@ private:
 
 class chunk_list;
 
-// A graph that is open. It may be moved, and is not copied. It is used by one call at a time; what its calls return is the
-// caller's, stays when it is closed, and may be read by many.
+// A graph that is open. It may be moved, and is not copied. It is used by one call at a time; what its calls return is
+// the caller's, stays when it is closed, and may be read by many.
 //
-// A generator's graph is not built, so that one of 10^9 vertices is open at once, and is had in runs: `first` and `count` are
-// those of sgb.h. Without them a call is of all vertices.
+// A generator's graph is not built, so that one of 10^9 vertices is open at once, and is had in runs: `first` and
+// `count` are those of sgb.h. Without them a call is of all vertices.
 class graph {
 public:
     explicit graph(std::string_view text, std::string_view input = "") : handle_(new sgb_graph SGB_NO_GRAPH) {
@@ -357,8 +358,8 @@ private:
     std::string id_;
 };
 
-// The lists of all vertices of a graph, so many vertices at a time: each is made when it is come to, and the last one may be
-// shorter. It is gone through once, while its graph is open.
+// The lists of all vertices of a graph, so many vertices at a time: each is made when it is come to, and the last one
+// may be shorter. It is gone through once, while its graph is open.
 class chunk_list {
 public:
     class iterator {
