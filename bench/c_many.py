@@ -6,7 +6,7 @@
 - Each call runs in a thread with a stack of 128 KB, or of more where it needs more, and touches no more of it than
   include/sgb.h says.
 - The callers are built with AddressSanitizer and ThreadSanitizer, where the compiler has them, and run.
-- A hostile file opens at once.
+- With OUTSIDE_SHARED_LISTS=1, and not in the gate: a hostile file opens at once.
 """
 
 import concurrent.futures
@@ -277,4 +277,5 @@ def all_checks(program):
     yield "library stack", stack
     yield "library threads", threads
     yield "library addresses", addresses(program)
-    yield "library shared lists", shared_lists
+    if os.environ.get("OUTSIDE_SHARED_LISTS") == "1":
+        yield "library shared lists", shared_lists
