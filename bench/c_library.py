@@ -406,6 +406,24 @@ def exports(runs, tally):
         tally.check(b"soname: [libsgb.so.1]" in got[1], "libsgb.so has another soname:", got)
 
 
+def headers(runs, tally):
+    """The headers are C99 and C++, refuse machines of 32 bits and older C++, and are of the version that is installed."""
+    folder = os.path.join(TOP, "include")
+    syntax = ("-pedantic", "-Wall", "-Wextra", "-Werror", "-fsyntax-only")
+    tally.same("sgb.h in C99", ran("cc", "-std=c99", *syntax, "-x", "c", folder + "/sgb.h"), (0, b"", b""))
+    if os.uname().machine == "x86_64":
+        status, _, err = ran("cc", "-m32", "-ffreestanding", *syntax, "-x", "c", folder + "/sgb.h")
+        tally.check(status != 0 and b"size_t has 64 bits" in err, "sgb.h of 32 bits gave", (status, err))
+    if shutil.which("c++"):
+        tally.same("sgb.h in C++11", ran("c++", "-std=c++11", *syntax, "-x", "c++", folder + "/sgb.h"), (0, b"", b""))
+        status, _, err = ran("c++", "-std=c++17", *syntax, "-x", "c++", folder + "/sgb.hpp")
+        tally.check(status != 0 and b"sgb.hpp needs C++20" in err, "sgb.hpp in C++17 gave", (status, err))
+    for path, line in ("lib.mk", r"^LIB_VERSION = ([0-9.]+)$"), ("CHANGELOG.md", r"^## The library for C, ([0-9.]+)$"):
+        with open(os.path.join(TOP, path), encoding="utf-8") as file:
+            found = re.search(line, file.read(), re.M)
+        tally.check(found and found[1].encode() == version_said(), path, "has another version of the library for C")
+
+
 def words(runs, tally):
     """The answers have the words of sgb.h in every language."""
     with open(os.path.join(TOP, "include/sgb.h"), encoding="utf-8") as file:
@@ -432,6 +450,7 @@ def all_checks(program, document):
         yield f"library {name}", checks_of(program, name)
     yield "library memory", memory
     yield "library exports", exports
+    yield "library headers", headers
     yield "library words", words
     yield "library structures", structures(program)
     yield "library python", python_package(program)
