@@ -4,7 +4,7 @@
   the program writes. The seed is printed: `OUTSIDE_SEED=SEED bench/outside.py ./sgb "library random"` makes the same ones again.
 - 10^5 openings and closings of each kind leave the process as large as before.
 - Each call runs in a thread with a stack of 128 KB, or of more where it needs more, and touches no more of it than
-  include/sgb.h says.
+  include/sgb.h says. With OUTSIDE_STACK=1 it prints how much each touches.
 - The callers are built with AddressSanitizer and ThreadSanitizer, where the compiler has them, and run.
 - With OUTSIDE_SHARED_LISTS=1, and not in the gate: a hostile file opens at once.
 """
