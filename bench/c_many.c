@@ -131,7 +131,7 @@ static void leaks_of(const char *now, const char *bytes, size_t len, uint64_t wa
         must(opened_and_closed(), wanted, "sgb_open");
     }
     pages(&all_then, &there_then);
-    if (all_then > all || there_then > there + 16) {
+    if (all_then > all || there_then > there + 256) {
         fprintf(stderr, "c_many: %.60s: %ld pages and not %ld, of them in memory %ld and not %ld\n", now, all_then, all, there_then,
                 there);
         exit(4);
