@@ -12,6 +12,7 @@
 # make check      the gate: all proofs from nothing, must-fail edits, the tests, the program
 # make edits      tries the must-fail edits that the gate leaves out, on a copy
 # make lib        proves the library for C, and leaves libsgb.a and libsgb.so (lib.mk)
+# make rows       what the arrays of graphs cost in C, beside a plain loop that fills them (lib.mk)
 # make dist       proves all, and leaves in dist/ what runs on machines without the toolchain: tarballs, Debian packages and
 #                 wheels for x86-64 and aarch64, each tried (dist.mk)
 # make wasm       makes the package for Node and browsers of the proved library, and tests it: dist/sgb-VERSION.tgz (wasm.mk)
@@ -87,14 +88,14 @@ edits: toolchain
 
 install:
 	@[ -x $(PROGRAM) ] || { echo "make: nothing is built yet: make builds the program, make install installs it" >&2; exit 1; }
-	install -D $(PROGRAM) $(DESTDIR)$(PREFIX)/bin/sgb
-	install -D -m 644 man/sgb.1 $(DESTDIR)$(PREFIX)/share/man/man1/sgb.1
-	install -D -m 644 completions/sgb.bash $(DESTDIR)$(PREFIX)/share/bash-completion/completions/sgb
+	install -D $(PROGRAM) "$(DESTDIR)$(PREFIX)/bin/sgb"
+	install -D -m 644 man/sgb.1 "$(DESTDIR)$(PREFIX)/share/man/man1/sgb.1"
+	install -D -m 644 completions/sgb.bash "$(DESTDIR)$(PREFIX)/share/bash-completion/completions/sgb"
 	@[ ! -f libsgb.a ] || $(MAKE) --no-print-directory install-lib
 
 uninstall:
-	rm -f $(DESTDIR)$(PREFIX)/bin/sgb $(DESTDIR)$(PREFIX)/share/man/man1/sgb.1
-	rm -f $(DESTDIR)$(PREFIX)/share/bash-completion/completions/sgb
+	rm -f "$(DESTDIR)$(PREFIX)/bin/sgb" "$(DESTDIR)$(PREFIX)/share/man/man1/sgb.1"
+	rm -f "$(DESTDIR)$(PREFIX)/share/bash-completion/completions/sgb"
 
 clean:
 	rm -rf crates/*/out conformance/out out dist

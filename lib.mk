@@ -2,11 +2,18 @@
 #
 # make lib        proves the library for C, and leaves libsgb.a and libsgb.so beside include/sgb.h
 # make archives   makes these two of what `rt lib` left in crates/sgb_c/out, without a proof
-# make install-lib, make uninstall-lib   put them, the headers and sgb.pc below $(PREFIX), and take them away again; nothing
-#                 is built. make install does so too where the library is there.
+# make install-lib, make uninstall-lib   put them below $(LIBDIR), the headers below $(INCLUDEDIR), and sgb.pc, and take them
+#                 away again; nothing is built. make install does so too where the library is there.
+# make rows       what the arrays of boards and other graphs cost, beside a plain loop that fills them (bench/rows.c)
 
-# of the calls, which may still change, and not of the program
-LIB_VERSION = 0.1
+# of the calls: that of include/sgb.h
+LIB_VERSION = 1.0.0
+
+LIBDIR ?= $(PREFIX)/lib
+INCLUDEDIR ?= $(PREFIX)/include
+
+# the name that a program keeps of the shared library: another one where a program of the first numbers runs no more
+SONAME = libsgb.so.$(firstword $(subst ., ,$(LIB_VERSION)))
 
 # the kit's object with malloc, realloc and free
 KIT_HEAP = $(dir $(shell rt doc))c/liblibc_c.a
@@ -16,40 +23,49 @@ lib: toolchain FORCE
 	cd crates/sgb_c && rt check > /dev/null && rt lib > /dev/null
 	@$(MAKE) --no-print-directory archives
 
-# the two archives of what `rt lib` left: one file is enough, and the shared one shows the calls of sgb.h alone
+# the two archives of what `rt lib` left: one file is enough, and both show the calls of sgb.h alone
 archives: toolchain FORCE
 	rm -rf out_lib && mkdir out_lib
-	cd out_lib && ar x $(KIT_HEAP)
-	cp crates/sgb_c/out/libsgb_c.a out_lib/libsgb.a
-	chmod u+w out_lib/libsgb.a
-	ar rs out_lib/libsgb.a out_lib/*.o
+	cd out_lib && ar x $(KIT_HEAP) && ar x ../crates/sgb_c/out/libsgb_c.a
+	cd out_lib && ld -r -o sgb.whole *.o && objcopy --wildcard --keep-global-symbol='sgb_*' sgb.whole sgb.o
+	ar rcs out_lib/libsgb.a out_lib/sgb.o
 	printf '{ global: sgb_*; local: *; };\n' > out_lib/sgb.map
-	cc -shared -o libsgb.so -Wl,-soname,libsgb.so -Wl,--version-script=out_lib/sgb.map \
-	  -Wl,--whole-archive out_lib/libsgb.a -Wl,--no-whole-archive
-	mv out_lib/libsgb.a libsgb.a
+	cc -shared -o out_lib/$(SONAME) -Wl,-soname,$(SONAME) -Wl,--version-script=out_lib/sgb.map out_lib/sgb.o
+	mv out_lib/libsgb.a out_lib/$(SONAME) .
+	ln -sf $(SONAME) libsgb.so
 	rm -rf out_lib
 	@echo "Done: libsgb.a, libsgb.so, include/sgb.h"
 
 install-lib:
-	@[ -f libsgb.a ] && [ -f libsgb.so ] || { echo "make: libsgb.a and libsgb.so are not there: make lib makes them" >&2; exit 1; }
-	install -D -m 644 include/sgb.h $(DESTDIR)$(PREFIX)/include/sgb.h
-	install -D -m 644 include/sgb.hpp $(DESTDIR)$(PREFIX)/include/sgb.hpp
-	install -D -m 644 libsgb.a $(DESTDIR)$(PREFIX)/lib/libsgb.a
-	install -D -m 755 libsgb.so $(DESTDIR)$(PREFIX)/lib/libsgb.so
-	mkdir -p $(DESTDIR)$(PREFIX)/lib/pkgconfig
-	printf '%s\n' 'prefix=$(PREFIX)' 'libdir=$${prefix}/lib' 'includedir=$${prefix}/include' '' 'Name: sgb' \
+	@[ -f libsgb.a ] && [ -f $(SONAME) ] || { echo "make: libsgb.a and $(SONAME) are not there: make lib makes them" >&2; exit 1; }
+	install -D -m 644 include/sgb.h "$(DESTDIR)$(INCLUDEDIR)/sgb.h"
+	install -D -m 644 include/sgb.hpp "$(DESTDIR)$(INCLUDEDIR)/sgb.hpp"
+	install -D -m 644 libsgb.a "$(DESTDIR)$(LIBDIR)/libsgb.a"
+	install -D -m 755 $(SONAME) "$(DESTDIR)$(LIBDIR)/$(SONAME)"
+	ln -sf $(SONAME) "$(DESTDIR)$(LIBDIR)/libsgb.so"
+	mkdir -p "$(DESTDIR)$(LIBDIR)/pkgconfig"
+	printf '%s\n' 'prefix=$(PREFIX)' 'libdir=$(subst $(PREFIX)/,$${prefix}/,$(LIBDIR))' \
+	  'includedir=$(subst $(PREFIX)/,$${prefix}/,$(INCLUDEDIR))' '' 'Name: sgb' \
 	  'Description: Graphs of the Stanford GraphBase as arrays, proved' 'Version: $(LIB_VERSION)' \
-	  'Libs: -L$${libdir} -lsgb' 'Cflags: -I$${includedir}' > $(DESTDIR)$(PREFIX)/lib/pkgconfig/sgb.pc
+	  'Libs: -L"$${libdir}" -lsgb' 'Cflags: -I"$${includedir}"' > "$(DESTDIR)$(LIBDIR)/pkgconfig/sgb.pc"
 
 uninstall-lib:
-	rm -f $(DESTDIR)$(PREFIX)/include/sgb.h $(DESTDIR)$(PREFIX)/include/sgb.hpp
-	rm -f $(DESTDIR)$(PREFIX)/lib/libsgb.a $(DESTDIR)$(PREFIX)/lib/libsgb.so $(DESTDIR)$(PREFIX)/lib/pkgconfig/sgb.pc
+	rm -f "$(DESTDIR)$(INCLUDEDIR)/sgb.h" "$(DESTDIR)$(INCLUDEDIR)/sgb.hpp"
+	rm -f "$(DESTDIR)$(LIBDIR)/libsgb.a" "$(DESTDIR)$(LIBDIR)/libsgb.so" "$(DESTDIR)$(LIBDIR)/$(SONAME)"
+	rm -f "$(DESTDIR)$(LIBDIR)/pkgconfig/sgb.pc"
+
+# with BOARDS="EXPR .." those graphs alone
+rows: FORCE
+	@[ -f libsgb.a ] || { echo "make: libsgb.a is not there: make lib makes it" >&2; exit 1; }
+	mkdir -p out
+	cc -O2 -Iinclude bench/rows.c libsgb.a -lm -o out/rows
+	out/rows $(foreach board,$(BOARDS),'$(board)')
 
 clean-lib:
-	rm -rf libsgb.a libsgb.so out_lib
+	rm -rf libsgb.a libsgb.so libsgb.so.* out_lib
 
 # what takes the program away takes the library away; make install puts both there
 uninstall: uninstall-lib
 clean: clean-lib
 
-.PHONY: lib archives install-lib uninstall-lib clean-lib
+.PHONY: lib archives install-lib uninstall-lib rows clean-lib

@@ -1,30 +1,40 @@
-// The library of sgb.h for C++20: a graph by its official name, with its arrays; a great one in chunks.
+// The library of sgb.h for C++: a graph by its official name, and its arrays, of all vertices or in runs. It needs
+// C++20.
 //
 //     sgb::graph g("petersen()");
-//     for (std::uint32_t v : g.tips(0)) ...
+//     for (auto [from, tip, length] : g.rows().arcs()) ...
 #ifndef SGB_HPP
 #define SGB_HPP
 
+#if __cplusplus < 202002L && (!defined(_MSVC_LANG) || _MSVC_LANG < 202002L)
+#error "sgb.hpp needs C++20"
+#endif
+
+#include <algorithm>
+#include <compare>
+#include <cstddef>
 #include <cstdint>
+#include <iterator>
 #include <memory>
 #include <new>
 #include <span>
 #include <stdexcept>
 #include <string>
 #include <string_view>
+#include <utility>
 #include <vector>
 
 #include "sgb.h"
 
 namespace sgb {
 
-// why there is no graph: an answer of sgb.h
+// why there is no graph: an answer of sgb.h, in its words
 class error : public std::runtime_error {
 public:
     explicit error(std::uint64_t answer)
-        : std::runtime_error(answer >= SGB_BAD_EXPRESSION
-                                 ? "bad expression at byte " + std::to_string(answer - SGB_BAD_EXPRESSION)
-                                 : "something went wrong (code " + std::to_string(answer) + ")"),
+        : std::runtime_error(std::string(sgb_words(answer))
+                             + (answer >= SGB_BAD_EXPRESSION ? " at byte " + std::to_string(answer - SGB_BAD_EXPRESSION)
+                                                             : " (code " + std::to_string(answer) + ")")),
           code(answer) {}
     const std::uint64_t code;
 };
@@ -34,81 +44,278 @@ inline void must(std::uint64_t answer) {
     if (answer != SGB_OK) throw error(answer);
 }
 
+// an arc of a graph: the vertex whose list it is on, where it leads, and its length
+struct arc {
+    std::uint32_t from, tip;
+    std::int64_t length;
+    friend bool operator==(const arc &, const arc &) = default;
+};
+
 namespace detail {
 
 // a view of nothing may have no address
 inline const char *address(std::string_view bytes) { return bytes.empty() ? "" : bytes.data(); }
 
-// the names that stand in these bytes, one from each of the places up to the next one
-inline std::vector<std::string> names_in(const std::string &bytes, const std::vector<std::uint64_t> &begins) {
-    std::vector<std::string> names;
-    names.reserve(begins.size() - 1);
-    for (std::size_t k = 0; k + 1 < begins.size(); k++) names.push_back(bytes.substr(begins[k], begins[k + 1] - begins[k]));
-    return names;
-}
+// so many values, which are not written before the library does so
+template <class T> class array {
+public:
+    array() = default;
+    explicit array(std::uint64_t size) : at_(new T[size]), size_(size) {}
+    array(array &&other) noexcept : at_(std::move(other.at_)), size_(std::exchange(other.size_, 0)) {}
+    array &operator=(array &&other) noexcept {
+        at_ = std::move(other.at_);
+        size_ = std::exchange(other.size_, 0);
+        return *this;
+    }
+    T *data() { return at_.get(); }
+    std::size_t size() const { return size_; }
+    std::span<const T> all() const { return {at_.get(), size_}; }
 
-// the part of list k of these lists; std::out_of_range where there is no such list
-template <class T>
-std::span<const T> row(std::span<const T> all, std::span<const std::uint64_t> starts, std::uint64_t k) {
-    if (starts.empty() || k >= starts.size() - 1) throw std::out_of_range("sgb: no such vertex");
-    return all.subspan(starts[k], starts[k + 1] - starts[k]);
+private:
+    std::unique_ptr<T[]> at_;
+    std::size_t size_ = 0;
+};
+
+// the vertices of a run, and where the part of each begins and ends
+class run {
+public:
+    run() = default;
+    run(std::uint32_t first, std::uint32_t count) : first_(first), starts_(std::uint64_t{count} + 1) {}
+
+    std::uint32_t first() const { return first_; }
+    std::uint32_t count() const { return starts_.size() == 0 ? 0 : static_cast<std::uint32_t>(starts_.size() - 1); }
+    std::span<const std::uint64_t> starts() const { return starts_.all(); }
+
+    // where the part of vertex v of the graph begins and ends; std::out_of_range where v is not in the run
+    std::pair<std::uint64_t, std::uint64_t> part(std::uint64_t v) const {
+        if (v < first_ || v - first_ >= count()) throw std::out_of_range("sgb: no such vertex");
+        return {starts()[v - first_], starts()[v - first_ + 1]};
+    }
+
+protected:
+    std::uint32_t first_ = 0;
+    array<std::uint64_t> starts_;
+};
+
+template <class T> std::span<const T> between(std::span<const T> all, std::pair<std::uint64_t, std::uint64_t> part) {
+    return all.subspan(part.first, part.second - part.first);
 }
 
 } // namespace detail
 
-// A graph: the lists of its vertices in compressed sparse rows. It may be moved, and is not copied.
+class graph;
+
+// The lists of a run of vertices: where their arcs lead, without lengths. It may be moved, and is not copied.
+class tip_lists : public detail::run {
+public:
+    tip_lists() = default;
+
+    // all lists one after another; that of vertex first() + k is from starts()[k] up to starts()[k + 1]
+    std::span<const std::uint32_t> tips() const { return tips_.all(); }
+    // the list of vertex v of the graph; std::out_of_range where v is not in the run. So are `lengths` and `arcs` below
+    std::span<const std::uint32_t> tips(std::uint64_t v) const { return detail::between(tips(), part(v)); }
+
+protected:
+    friend class graph;
+    tip_lists(std::uint32_t first, std::uint32_t count, std::uint64_t arcs) : run(first, count), tips_(arcs) {}
+    detail::array<std::uint32_t> tips_;
+};
+
+// The lists of a run of vertices with the lengths of their arcs. It may be moved, and is not copied.
+class arc_lists : public tip_lists {
+public:
+    arc_lists() = default;
+
+    std::span<const std::int64_t> lengths() const { return lengths_.all(); }
+    std::span<const std::int64_t> lengths(std::uint64_t v) const { return detail::between(lengths(), part(v)); }
+
+    // goes through arcs of the run
+    class iterator {
+    public:
+        using value_type = arc;
+        using reference = arc;
+        using pointer = void;
+        using difference_type = std::ptrdiff_t;
+        using iterator_category = std::input_iterator_tag;
+        using iterator_concept = std::forward_iterator_tag;
+
+        iterator() = default;
+        arc operator*() const { return {of_->first() + row_, of_->tips()[at_], of_->lengths()[at_]}; }
+        iterator &operator++() {
+            at_++;
+            pass();
+            return *this;
+        }
+        iterator operator++(int) {
+            iterator before = *this;
+            ++*this;
+            return before;
+        }
+        friend bool operator==(const iterator &one, const iterator &other) { return one.at_ == other.at_; }
+
+    private:
+        friend class arc_lists;
+        iterator(const arc_lists *of, std::uint32_t row, std::uint64_t at) : of_(of), row_(row), at_(at) { pass(); }
+        // passes the rows that end here
+        void pass() {
+            while (row_ < of_->count() && of_->starts()[row_ + 1] == at_) row_++;
+        }
+        const arc_lists *of_ = nullptr;
+        std::uint32_t row_ = 0;
+        std::uint64_t at_ = 0;
+    };
+
+    // what has a beginning and an end
+    struct range {
+        iterator first, last;
+        iterator begin() const { return first; }
+        iterator end() const { return last; }
+    };
+
+    // the arcs of all lists, and those of one
+    range arcs() const { return {iterator(this, 0, 0), iterator(this, count(), tips().size())}; }
+    range arcs(std::uint64_t v) const {
+        const auto [begin, end] = part(v);
+        const auto row = static_cast<std::uint32_t>(v - first());
+        return {iterator(this, row, begin), iterator(this, row, end)};
+    }
+
+private:
+    friend class graph;
+    arc_lists(std::uint32_t first, std::uint32_t count, std::uint64_t arcs) : tip_lists(first, count, arcs), lengths_(arcs) {}
+    detail::array<std::int64_t> lengths_;
+};
+
+// The names of a run of vertices. It may be moved, and is not copied; the names that it shows stand in it.
+class name_list : public detail::run {
+public:
+    name_list() = default;
+
+    std::size_t size() const { return count(); }
+    // the name of vertex v of the graph; std::out_of_range where v is not in the run
+    std::string_view operator[](std::uint64_t v) const {
+        const auto [begin, end] = part(v);
+        return {bytes_.all().data() + begin, end - begin};
+    }
+
+    // goes through names of the run
+    class iterator {
+    public:
+        using value_type = std::string_view;
+        using reference = std::string_view;
+        using pointer = void;
+        using difference_type = std::ptrdiff_t;
+        using iterator_category = std::input_iterator_tag;
+        using iterator_concept = std::random_access_iterator_tag;
+
+        iterator() = default;
+        std::string_view operator*() const { return (*of_)[at_]; }
+        std::string_view operator[](difference_type by) const { return *(*this + by); }
+        iterator &operator+=(difference_type by) {
+            at_ += static_cast<std::uint64_t>(by);
+            return *this;
+        }
+        iterator &operator-=(difference_type by) { return *this += -by; }
+        iterator &operator++() { return *this += 1; }
+        iterator &operator--() { return *this -= 1; }
+        iterator operator++(int) { return std::exchange(*this, *this + 1); }
+        iterator operator--(int) { return std::exchange(*this, *this - 1); }
+        friend iterator operator+(iterator at, difference_type by) { return at += by; }
+        friend iterator operator+(difference_type by, iterator at) { return at += by; }
+        friend iterator operator-(iterator at, difference_type by) { return at -= by; }
+        friend difference_type operator-(const iterator &one, const iterator &other) {
+            return static_cast<difference_type>(one.at_ - other.at_);
+        }
+        friend bool operator==(const iterator &one, const iterator &other) { return one.at_ == other.at_; }
+        friend auto operator<=>(const iterator &one, const iterator &other) { return one.at_ <=> other.at_; }
+
+    private:
+        friend class name_list;
+        iterator(const name_list *of, std::uint64_t at) : of_(of), at_(at) {}
+        const name_list *of_ = nullptr;
+        std::uint64_t at_ = 0;
+    };
+    iterator begin() const { return {this, first()}; }
+    iterator end() const { return {this, std::uint64_t{first()} + count()}; }
+
+private:
+    friend class graph;
+    name_list(std::uint32_t first, std::uint32_t count, std::uint64_t bytes) : run(first, count), bytes_(bytes) {}
+    detail::array<char> bytes_;
+};
+
+class chunk_list;
+
+// A graph that is open. It may be moved, and is not copied. It is used by one call at a time; what its calls return is
+// the caller's, stays when it is closed, and may be read by many.
 //
-// The library holds the graph until close() or the end of this object; names, integers, kinds and files are fetched from
-// it. A graph is used by one call of names, ints, kinds, file or close at a time; its arrays may be read by many.
+// A generator's graph is not built, so that one of 10^9 vertices is open at once, and is had in runs: `first` and
+// `count` are those of sgb.h. Without them a call is of all vertices.
 class graph {
 public:
     explicit graph(std::string_view text, std::string_view input = "") : handle_(new sgb_graph SGB_NO_GRAPH) {
         must(sgb_open(detail::address(text), text.size(), detail::address(input), input.size(), handle_.get()));
-        must(sgb_sizes(handle_.get(), &sizes_));
-        // one place more than is handed over, so that there is always an address
-        starts_.resize(n() + 1);
-        tips_.resize(sizes_.listed + 1);
-        lengths_.resize(sizes_.listed + 1);
-        must(sgb_rows(handle_.get(), starts_.data(), starts_.size(), tips_.data(), sizes_.listed, lengths_.data(),
-                      sizes_.listed));
-        tips_.pop_back();
-        lengths_.pop_back();
-        id_.resize(sizes_.id);
+        sgb_graph_sizes sizes;
+        must(sgb_sizes(handle_.get(), &sizes));
+        n_ = static_cast<std::uint32_t>(sizes.vertices);
+        id_.resize(sizes.id);
         must(sgb_id(handle_.get(), id_.data(), id_.size()));
     }
 
-    // gives back what the library holds: the arrays stay, and names(), ints(), kinds() and file() throw SGB_NOT_OPEN
+    // gives back what the library holds: n() and id() stay, and all other calls throw SGB_NOT_OPEN
     void close() { handle_.reset(); }
 
-    // the numbers of vertices and of arcs, and the official name
-    std::uint64_t n() const { return sizes_.vertices; }
-    std::uint64_t m() const { return sizes_.arcs; }
+    // the number of vertices, and the official name
+    std::uint32_t n() const { return n_; }
     const std::string &id() const { return id_; }
 
-    // all lists one after another; that of vertex v is from starts()[v] up to starts()[v + 1]
-    std::span<const std::uint64_t> starts() const { return starts_; }
-    std::span<const std::uint32_t> tips() const { return tips_; }
-    std::span<const std::int64_t> lengths() const { return lengths_; }
-
-    // the list of one vertex; std::out_of_range where there is no such vertex
-    std::span<const std::uint32_t> tips(std::uint64_t v) const { return detail::row(tips(), starts(), v); }
-    std::span<const std::int64_t> lengths(std::uint64_t v) const { return detail::row(lengths(), starts(), v); }
-
-    // the names of the vertices
-    std::vector<std::string> names() {
-        std::vector<std::uint64_t> begins(n() + 1);
-        std::string bytes(sizes_.names, ' ');
-        must(sgb_names(held(), begins.data(), begins.size(), bytes.data(), bytes.size()));
-        return detail::names_in(bytes, begins);
+    // the number of arcs that the graph counts; 2^64 - 1 also where there are more
+    std::uint64_t m() {
+        std::uint64_t arcs = 0;
+        must(sgb_arcs(held(), &arcs));
+        return arcs;
     }
 
-    // the integers in a utility field of the vertices: u v w x y z are 0 to 5
-    std::vector<std::int64_t> ints(std::uint32_t field) {
-        std::vector<std::int64_t> values(n() + 1);
-        must(sgb_ints(held(), field, values.data(), n()));
+    // the lists of a run
+    arc_lists rows(std::uint32_t first, std::uint32_t count) {
+        arc_lists made(first, count, arcs_in(first, count));
+        must(sgb_rows(held(), first, count, made.starts_.data(), made.starts_.size(), made.tips_.data(), made.tips_.size(),
+                      made.lengths_.data(), made.lengths_.size()));
+        return made;
+    }
+    arc_lists rows() { return rows(0, n()); }
+
+    // the same without lengths
+    tip_lists tips(std::uint32_t first, std::uint32_t count) {
+        tip_lists made(first, count, arcs_in(first, count));
+        must(sgb_tips(held(), first, count, made.starts_.data(), made.starts_.size(), made.tips_.data(), made.tips_.size()));
+        return made;
+    }
+    tip_lists tips() { return tips(0, n()); }
+
+    // the names of a run
+    name_list names(std::uint32_t first, std::uint32_t count) {
+        std::uint64_t size = 0;
+        must(sgb_names_size(held(), first, count, &size));
+        name_list made(first, count, size);
+        must(sgb_names(held(), first, count, made.starts_.data(), made.starts_.size(), made.bytes_.data(), made.bytes_.size()));
+        return made;
+    }
+    name_list names() { return names(0, n()); }
+
+    // the lists of all vertices, `size` vertices at a time: for (const auto &part : g.chunks(10000)) ...
+    chunk_list chunks(std::uint32_t size);
+
+    // the integers of a run in a utility field of the vertices: u v w x y z are 0 to 5
+    std::vector<std::int64_t> ints(std::uint32_t field, std::uint32_t first, std::uint32_t count) {
+        if (first > n() || count > n() - first) throw error(handle_ ? SGB_NO_VERTEX : SGB_NOT_OPEN);
+        // one place more than is handed over, so that there is always an address
+        std::vector<std::int64_t> values(std::size_t{count} + 1);
+        must(sgb_ints(held(), field, first, count, values.data(), count));
         values.pop_back();
         return values;
     }
+    std::vector<std::int64_t> ints(std::uint32_t field) { return ints(field, 0, n()); }
 
     // what the utility fields hold, a letter each: of vertices u v w x y z, of arcs a b, of the graph uu vv ww xx yy zz
     std::string kinds() {
@@ -139,79 +346,58 @@ private:
         return handle_.get();
     }
 
+    std::uint64_t arcs_in(std::uint32_t first, std::uint32_t count) {
+        std::uint64_t arcs = 0;
+        must(sgb_rows_size(held(), first, count, &arcs));
+        return arcs;
+    }
+
     // the handle stays at its address where the graph is moved
     std::unique_ptr<sgb_graph, closer> handle_;
-    sgb_graph_sizes sizes_ = {};
+    std::uint32_t n_ = 0;
     std::string id_;
-    std::vector<std::uint64_t> starts_;
-    std::vector<std::uint32_t> tips_;
-    std::vector<std::int64_t> lengths_;
 };
 
-// how many vertices the graph of a generator's call has, which is not built
-inline std::uint64_t family_vertices(std::string_view text) {
-    std::uint64_t vertices = 0;
-    must(sgb_family_vertices(detail::address(text), text.size(), &vertices));
-    return vertices;
-}
-
-// how many arcs it has; 2^64 - 1 also where there are more
-inline std::uint64_t family_arcs(std::string_view text) {
-    std::uint64_t arcs = 0;
-    must(sgb_family_arcs(detail::address(text), text.size(), &arcs));
-    return arcs;
-}
-
-// A chunk of such a graph: `count` of its vertices, one after another from vertex `first` on. Vertex k of the chunk is vertex
-// first + k of the graph. It may be copied and moved, and the library holds nothing of it.
-//
-//     const std::string_view line = "board(1000000000,0,0,0,1,0,0)";
-//     const sgb::chunk middle(line, 500000000, 10);
-//     for (std::uint32_t v : middle.tips(0)) ...
-class chunk {
+// The lists of all vertices of a graph, so many vertices at a time: each is made when it is come to, and the last one
+// may be shorter. It is gone through once, while its graph is open.
+class chunk_list {
 public:
-    chunk(std::string_view text, std::uint32_t first, std::uint32_t count) : text_(text), first_(first), count_(count) {
-        std::uint64_t listed = 0;
-        must(sgb_chunk_sizes(text_.data(), text_.size(), first_, count_, &listed, &names_));
-        // one place more than is handed over, so that there is always an address
-        starts_.resize(std::size_t{count_} + 1);
-        tips_.resize(listed + 1);
-        lengths_.resize(listed + 1);
-        must(sgb_chunk_rows(text_.data(), text_.size(), first_, count_, starts_.data(), starts_.size(), tips_.data(), listed,
-                            lengths_.data(), listed));
-        tips_.pop_back();
-        lengths_.pop_back();
-    }
+    class iterator {
+    public:
+        using value_type = arc_lists;
+        using difference_type = std::ptrdiff_t;
+        using iterator_concept = std::input_iterator_tag;
 
-    std::uint32_t first() const { return first_; }
-    std::uint32_t count() const { return count_; }
+        const arc_lists &operator*() const { return part_; }
+        const arc_lists *operator->() const { return &part_; }
+        iterator &operator++() {
+            make(part_.first() + part_.count());
+            return *this;
+        }
+        void operator++(int) { ++*this; }
+        friend bool operator==(const iterator &at, std::default_sentinel_t) { return at.part_.count() == 0; }
 
-    // all its lists one after another; that of vertex k of the chunk is from starts()[k] up to starts()[k + 1]
-    std::span<const std::uint64_t> starts() const { return starts_; }
-    std::span<const std::uint32_t> tips() const { return tips_; }
-    std::span<const std::int64_t> lengths() const { return lengths_; }
-
-    // the list of vertex k of the chunk; std::out_of_range where there is no such vertex. Tips are vertices of the graph.
-    std::span<const std::uint32_t> tips(std::uint64_t k) const { return detail::row(tips(), starts(), k); }
-    std::span<const std::int64_t> lengths(std::uint64_t k) const { return detail::row(lengths(), starts(), k); }
-
-    // the names of its vertices, which are made when they are asked for
-    std::vector<std::string> names() const {
-        std::vector<std::uint64_t> begins(std::size_t{count_} + 1);
-        std::string bytes(names_, ' ');
-        must(sgb_chunk_names(text_.data(), text_.size(), first_, count_, begins.data(), begins.size(), bytes.data(),
-                             bytes.size()));
-        return detail::names_in(bytes, begins);
-    }
+    private:
+        friend class chunk_list;
+        iterator(graph *of, std::uint32_t size) : of_(of), size_(size) { make(0); }
+        void make(std::uint32_t first) { part_ = of_->rows(first, std::min(size_, of_->n() - first)); }
+        graph *of_;
+        std::uint32_t size_;
+        arc_lists part_;
+    };
+    iterator begin() const { return {of_, size_}; }
+    std::default_sentinel_t end() const { return {}; }
 
 private:
-    std::string text_;
-    std::uint32_t first_, count_;
-    std::uint64_t names_ = 0;
-    std::vector<std::uint64_t> starts_;
-    std::vector<std::uint32_t> tips_;
-    std::vector<std::int64_t> lengths_;
+    friend class graph;
+    chunk_list(graph *of, std::uint32_t size) : of_(of), size_(size) {
+        if (size == 0) throw std::invalid_argument("sgb: chunks of no vertices");
+    }
+    graph *of_;
+    std::uint32_t size_;
 };
+
+inline chunk_list graph::chunks(std::uint32_t size) { return {this, size}; }
 
 // so many draws of GB_FLIP from a generator that is started from `start`, after `skip` that are left out
 inline std::vector<std::uint32_t> draws(std::int64_t start, std::uint64_t skip, std::size_t count) {

@@ -1,14 +1,15 @@
 """Checks of the library for C, for checks/outside.py: a C program on it gives what the program `sgb` writes.
 
-checks/from_outside/c_arrays.c is compiled against include/sgb.h, once with libsgb.a and once with libsgb.so. The archives are made of what
-`rt lib` left in crates/sgb_c/out; without that, those that are there are used. Where there are none, the checks fail: only
-with OUTSIDE_WITHOUT_LIBRARY=1 are they left out, and a line says so.
+c_arrays.c is compiled against include/sgb.h, once with libsgb.a and once with libsgb.so; what is tried by the thousand is in
+c_many.py. The archives are made of what `rt lib` left in crates/sgb_c/out; without that, those that are there are used. Where
+there are none, the checks fail: only with OUTSIDE_WITHOUT_LIBRARY=1 are they left out, and a line says so.
 """
 
 import itertools
 import math
 import os
 import re
+import shlex
 import shutil
 import subprocess
 import sys
@@ -48,7 +49,7 @@ bi_complete(2,3,0) bi_complete(3,1,1) wheel(5,1,0) wheel(4,2,1)
 stdin gunion(stdin,stdin,1,1) lines(stdin,1)
 """.split()
 
-# whose calls name graphs that need not be built
+# whose calls name graphs that are not built
 GENERATORS = "board simplex subsets complete transitive empty circuit cycle disjoint_subsets petersen".split()
 
 # graphs that no memory would hold, with how many vertices each has, and how many are looked at at once
@@ -113,11 +114,11 @@ def compiled(runs, tally, link, name, more=()):
     return path if got.returncode == 0 else None
 
 
-def ran(*words, given=b"", more=None):
+def ran(*words, given=b"", more=None, seconds=120):
     # a make that this one runs in has no orders for those that are run here
     environment = {name: value for name, value in os.environ.items() if not name.startswith("MAKE")}
     environment.update(more or {})
-    got = subprocess.run(words, input=given, env=environment, capture_output=True, check=False, timeout=120)
+    got = subprocess.run(words, input=given, env=environment, capture_output=True, check=False, timeout=seconds)
     return got.returncode, got.stdout, got.stderr
 
 
@@ -177,15 +178,19 @@ def tables(tally, program, path):
 
 
 def chunks(tally, program, path):
-    """Graphs that are not built, by chunks of several sizes; wrong lengths, and chunks that are not there."""
-    for expression in filter(is_generator, EXPRESSIONS):
-        wanted = ran(program, "list", expression, "--skip", "0")
+    """Graphs by runs of several sizes, also those that no memory would hold; runs that are not there."""
+    for expression in EXPRESSIONS:
+        given = input_of(expression)
+        wanted = ran(program, "list", expression, "--skip", "0", given=given)
         for size in ("1", "3", "7", "1000"):
-            tally.same((path, "chunks", expression, size), ran(path, "chunks", expression, size), wanted)
-        tally.same((path, "chunk_wrong", expression), ran(path, "chunk_wrong", expression), (0, b"right\n", b""))
-        # where there is no vertex 0, there is no chunk of it
-        answers = b"0 0 0 101 101\n" if wanted[1] else b"0 0 106 106 106\n"
-        tally.same((path, "chunk_answer", expression), ran(path, "chunk_answer", expression), (0, answers, b""))
+            tally.same((path, "chunks", expression, size), ran(path, "chunks", expression, size, given=given), wanted)
+        tally.same((path, "chunk_wrong", expression), ran(path, "chunk_wrong", expression, given=given), (0, b"right\n", b""))
+        # where there is no vertex 0, there is no run of it
+        status, out, err = ran(path, "answer", expression, given=given)
+        field = "102" if wanted[1] else "106"
+        run = ["0", "0", "101", "101", "101"] if wanted[1] else ["106"] * 5
+        answers = ["0", "0", "0", *run, field, "101", "101", "0", "101"]
+        tally.same((path, "answer", expression), (status, out, err), (0, (" ".join(answers) + "\n").encode(), b""))
     for expression, n, count in GREAT:
         for first in (0, n // 2, n - count):
             words = (expression, str(first), str(count))
@@ -196,14 +201,6 @@ def chunks(tally, program, path):
             # the next line begins another block, where there is one
             is_whole = not after.startswith(b" ") and (after == b"") == (first + count == n)
             tally.check(is_whole, program, expression, "goes on after vertex", first + count - 1, "with", after)
-    # another expression, a text that is refused, and parameters that are: each of the five calls says so
-    others = [(expression, 107) for expression in EXPRESSIONS if not is_generator(expression)]
-    for text, _, number in ANSWERS:
-        is_refused = is_generator(text) or number == 100 or number >= 1000
-        others.append((text, number if is_refused else 107))
-    for text, number in others:
-        answers = " ".join([str(number)] * 5) + "\n"
-        tally.same((path, "chunk_answer", text[:40]), ran(path, "chunk_answer", text), (0, answers.encode(), b""))
 
 
 def begun(program, expression, first, count):
@@ -228,12 +225,10 @@ def refusals(tally, program, path):
         elif number != 100:
             is_told = told and number in (int(told[1] or -1), 1000 + int(told[2] or -1001))
             tally.check(is_told, program, "names", text[:40], "gave", (status, err), "and not", str(number))
-        # the answer of sgb_open, and of the eight calls on a handle that was not opened
-        wanted = " ".join([str(number)] + ["105"] * 8) + "\n"
+        # the answer of sgb_open, and of the twelve calls on a handle that was not opened
+        wanted = " ".join([str(number)] + ["105"] * 12) + "\n"
         # a text of 65,537 bytes is a word of a command line
         tally.same((path, "answer", text[:40]), ran(path, "answer", text, given=given), (0, wanted.encode(), b""))
-    # arrays of a wrong length, and a field that there is not, are told of only where there is a graph
-    tally.same((path, "answer", "complete(2)"), ran(path, "answer", "complete(2)"), (0, b"0 0 101 101 102 101 101 0 101\n", b""))
 
 
 def draws(tally, program, path):
@@ -257,14 +252,14 @@ def checks_of(program, name):
 
 
 def memory(runs, tally):
-    """Each allocation refused in turn, with malloc counted against free."""
+    """Each allocation refused in turn, alone and with all after it, with malloc counted against free."""
     path = is_there(tally, "libsgb.a") and compiled(runs, tally, LIBRARIES["libsgb.a"], "c_counted", WRAPPED)
     for expression in EXPRESSIONS if path else ():
         if "60,60" not in expression:
-            for word in ("refuse", "chunk_refuse")[: 1 + is_generator(expression)]:
-                status, out, err = ran(path, word, expression, given=SHARED)
-                is_right = status == 0 and re.fullmatch(rb"right [1-9][0-9]*\n", out) and not err
-                tally.check(is_right, path, word, expression, "gave", (status, out, err))
+            word = "refuse" if is_generator(expression) else "refuse_built"
+            status, out, err = ran(path, word, expression, given=SHARED)
+            is_right = status == 0 and re.fullmatch(rb"right [1-9][0-9]*\n", out) and not err
+            tally.check(is_right, path, word, expression, "gave", (status, out, err))
 
 
 def structures(program):
@@ -334,27 +329,45 @@ def class_of_cpp(runs, tally):
 
 def installed(runs, tally):
     """A program that finds the installed library by pkg-config; and all of it is taken away again."""
-    prefix, source = os.path.join(runs.folder, "prefix"), os.path.join(runs.folder, "id.c")
+    source = os.path.join(runs.folder, "id.c")
     if not is_there(tally, *LIBRARIES):
         return
-    tally.same("make install-lib", ran("make", "-s", "-C", TOP, "install-lib", "PREFIX=" + prefix), (0, b"", b""))
+    with open(source, "w", encoding="utf-8") as file:
+        file.write(INSTALLED)
+    installed_in(runs, tally, source, "prefix", "lib")
+    # a space in its name, and places of one's own
+    installed_in(runs, tally, source, "a prefix", "lib/a place", "LIBDIR={}/lib/a place", "INCLUDEDIR={}/headers of sgb")
+
+
+def installed_in(runs, tally, source, name, folder, *places):
+    """The library is installed below a folder of this name, where the libraries come into this folder."""
+    prefix = os.path.join(runs.folder, name)
+    where = ["PREFIX=" + prefix, *(place.format(prefix) for place in places)]
+    libraries = os.path.join(prefix, folder)
+    tally.same("make install-lib", ran("make", "-s", "-C", TOP, "install-lib", *where), (0, b"", b""))
+    tally.same("the link libsgb.so", os.readlink(os.path.join(libraries, "libsgb.so")), "libsgb.so.1")
     if shutil.which("pkg-config"):
-        where = {"PKG_CONFIG_PATH": prefix + "/lib/pkgconfig"}
-        status, flags, err = ran("pkg-config", "--cflags", "--libs", "sgb", more=where)
+        found = {"PKG_CONFIG_PATH": libraries + "/pkgconfig"}
+        status, flags, err = ran("pkg-config", "--cflags", "--libs", "sgb", more=found)
         tally.check(status == 0, "pkg-config gave", (status, flags, err))
-        with open(source, "w", encoding="utf-8") as file:
-            file.write(INSTALLED)
+        tally.same("its version", ran("pkg-config", "--modversion", "sgb", more=found), (0, version_said() + b"\n", b""))
         path = os.path.join(runs.folder, "id")
-        got = ran("cc", source, "-o", path, *flags.decode().split())
+        got = ran("cc", source, "-o", path, *shlex.split(flags.decode()))
         tally.same("cc, installed", got, (0, b"", b""))
         if got[0] == 0:
-            seen = ran(path, more={"LD_LIBRARY_PATH": prefix + "/lib"})
+            seen = ran(path, more={"LD_LIBRARY_PATH": libraries})
             tally.same((path,), seen, (0, b"board(2,0,0,0,-1,0,0)\n", b""))
     else:
         print("  skipped, without pkg-config: a program on the installed library")
-    tally.same("make uninstall-lib", ran("make", "-s", "-C", TOP, "uninstall-lib", "PREFIX=" + prefix), (0, b"", b""))
+    tally.same("make uninstall-lib", ran("make", "-s", "-C", TOP, "uninstall-lib", *where), (0, b"", b""))
     left = [name for _, _, names in os.walk(prefix) for name in names]
     tally.check(not left, "make uninstall-lib leaves", left)
+
+
+def version_said():
+    """The version that include/sgb.h says, of the library for C."""
+    with open(os.path.join(TOP, "include/sgb.h"), encoding="utf-8") as file:
+        return re.search(r'^#define SGB_VERSION "([0-9.]+)"$', file.read(), re.M)[1].encode()
 
 
 def page(document):
@@ -370,7 +383,7 @@ CALLED = {"malloc", "realloc", "free", "memcpy", "memmove", "memset"}
 
 
 def exports(runs, tally):
-    """libsgb.so shows the calls of sgb.h and no others, and calls what sgb.h says."""
+    """libsgb.so and libsgb.a show the calls of sgb.h and no others, and call what sgb.h says."""
     if not shutil.which("nm"):
         print("  skipped, without nm: the symbols of libsgb.so")
         return
@@ -384,6 +397,48 @@ def exports(runs, tally):
     got = subprocess.run(["nm", "-D", "--undefined-only", os.path.join(TOP, "libsgb.so")], capture_output=True, check=False)
     called = {line.split()[1].split("@")[0] for line in got.stdout.decode().splitlines() if line.split()[0] == "U"}
     tally.check("malloc" in called and called <= CALLED, "libsgb.so calls", " ".join(sorted(called)))
+    # the archive shows the same calls, and hides all else
+    got = subprocess.run(["nm", "-g", "--defined-only", os.path.join(TOP, "libsgb.a")], capture_output=True, check=False)
+    shown = sorted(line.split()[2].decode() for line in got.stdout.splitlines() if len(line.split()) == 3)
+    tally.same("the symbols of libsgb.a", shown, wanted)
+    if shutil.which("readelf"):
+        got = ran("readelf", "-d", os.path.join(TOP, "libsgb.so"))
+        tally.check(b"soname: [libsgb.so.1]" in got[1], "libsgb.so has another soname:", got)
+
+
+def headers(runs, tally):
+    """The headers are C99 and C++, refuse machines of 32 bits and older C++, and are of the version that is installed."""
+    folder = os.path.join(TOP, "include")
+    syntax = ("-pedantic", "-Wall", "-Wextra", "-Werror", "-fsyntax-only")
+    tally.same("sgb.h in C99", ran("cc", "-std=c99", *syntax, "-x", "c", folder + "/sgb.h"), (0, b"", b""))
+    if os.uname().machine == "x86_64":
+        status, _, err = ran("cc", "-m32", "-ffreestanding", *syntax, "-x", "c", folder + "/sgb.h")
+        tally.check(status != 0 and b"size_t has 64 bits" in err, "sgb.h of 32 bits gave", (status, err))
+    if shutil.which("c++"):
+        tally.same("sgb.h in C++11", ran("c++", "-std=c++11", *syntax, "-x", "c++", folder + "/sgb.h"), (0, b"", b""))
+        status, _, err = ran("c++", "-std=c++17", *syntax, "-x", "c++", folder + "/sgb.hpp")
+        tally.check(status != 0 and b"sgb.hpp needs C++20" in err, "sgb.hpp in C++17 gave", (status, err))
+    for path, line in ("lib.mk", r"^LIB_VERSION = ([0-9.]+)$"), ("CHANGELOG.md", r"^## The library for C, ([0-9.]+)$"):
+        with open(os.path.join(TOP, path), encoding="utf-8") as file:
+            found = re.search(line, file.read(), re.M)
+        tally.check(found and found[1].encode() == version_said(), path, "has another version of the library for C")
+
+
+def words(runs, tally):
+    """The answers have the words of sgb.h in every language."""
+    with open(os.path.join(TOP, "include/sgb.h"), encoding="utf-8") as file:
+        text = file.read()
+    numbers = {name: int(number) for name, number in re.findall(r"^#define (SGB_[A-Z_]+) ([0-9]+)\b", text, re.M)}
+    said = {numbers[name]: words for name, words in re.findall(r'case (SGB_[A-Z_]+): return "(.*)";', text)}
+    tally.same("answers with words", sorted(said), sorted(set(numbers.values()) - {1000}))
+    for folder, end in ("python/sgb", ".py"), ("examples/rust/src", ".rs"), ("web", ".js"):
+        found = {}
+        for name in os.listdir(os.path.join(TOP, folder)):
+            if name.endswith(end):
+                with open(os.path.join(TOP, folder, name), encoding="utf-8") as file:
+                    pairs = re.findall(r'^ *\(?([0-9]+)[:,] "(.*)"\)?,$', file.read(), re.M)
+                found.update((int(number), words) for number, words in pairs)
+        tally.same(f"the words of answers in {folder}", found, {number: said[number] for number in said if number})
 
 
 def all_checks(program, document):
@@ -395,6 +450,8 @@ def all_checks(program, document):
         yield f"library {name}", checks_of(program, name)
     yield "library memory", memory
     yield "library exports", exports
+    yield "library headers", headers
+    yield "library words", words
     yield "library structures", structures(program)
     yield "library python", python_package(program)
     yield "library C++", class_of_cpp

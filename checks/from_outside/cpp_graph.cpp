@@ -1,8 +1,9 @@
-// Tests of include/sgb.hpp: a graph that is moved, closed and refused; chunks. It prints what is not as it must be, and ends
-// with status 4; else "right". Calls of sgb_close are counted (-Wl,--wrap=sgb_close).
+// Tests of include/sgb.hpp: a graph that is moved, closed and refused; runs, iterators, chunks. It prints what is not
+// as it must be, and ends with status 4; else "right". Calls of sgb_close are counted (-Wl,--wrap=sgb_close).
 #include <algorithm>
 #include <cstdlib>
 #include <iostream>
+#include <ranges>
 #include <type_traits>
 #include <utility>
 
@@ -40,43 +41,120 @@ template <class F> static bool is_no_vertex(F call) {
     return false;
 }
 
-static void chunks() {
-    const std::string_view text = "board(3,4,0,0,1,0,0)";
-    sgb::graph whole(text);
-    const auto names = whole.names();
-    check(sgb::family_vertices(text) == 12 && sgb::family_arcs(text) == 34, "the sizes of a board of 3 by 4");
+static void runs() {
+    sgb::graph graph("board(3,4,0,0,1,0,0)");
+    const auto whole = graph.rows();
+    const auto names = graph.names();
     for (std::uint32_t first = 0; first <= 12; first++)
         for (std::uint32_t count = 0; first + count <= 12; count++) {
-            const sgb::chunk part(text, first, count);
-            const auto called = part.names();
-            check(part.first() == first && part.count() == count, "the vertices of a chunk");
-            check(part.starts().size() == count + 1 && called.size() == count, "the sizes of a chunk");
-            check(part.tips().size() == whole.starts()[first + count] - whole.starts()[first], "the arcs of a chunk");
-            for (std::uint32_t k = 0; k < count; k++) {
-                check(std::ranges::equal(part.tips(k), whole.tips(first + k)), "the tips of a chunk");
-                check(std::ranges::equal(part.lengths(k), whole.lengths(first + k)), "the lengths of a chunk");
-                check(called[k] == names[first + k], "the names of a chunk");
+            const auto part = graph.rows(first, count);
+            const auto plain = graph.tips(first, count);
+            const auto called = graph.names(first, count);
+            check(part.first() == first && part.count() == count && plain.count() == count, "the vertices of a run");
+            check(part.starts().size() == count + 1 && called.size() == count, "the sizes of a run");
+            check(part.tips().size() == whole.starts()[first + count] - whole.starts()[first], "the arcs of a run");
+            check(std::ranges::equal(part.tips(), plain.tips()) && std::ranges::equal(part.starts(), plain.starts()), "lists alone");
+            for (std::uint32_t v = first; v < first + count; v++) {
+                check(std::ranges::equal(part.tips(v), whole.tips(v)), "the tips of a run");
+                check(std::ranges::equal(plain.tips(v), whole.tips(v)), "the tips of lists alone");
+                check(std::ranges::equal(part.lengths(v), whole.lengths(v)), "the lengths of a run");
+                check(std::ranges::equal(part.arcs(v), whole.arcs(v)), "the arcs of a vertex in a run");
+                check(called[v] == names[v], "the names of a run");
             }
+            check(is_no_vertex([&] { part.tips(first + count); }) && is_no_vertex([&] { called[first + count]; }), "past a run");
+            check(first == 0 || is_no_vertex([&] { part.lengths(first - 1); }), "before a run");
+            check(graph.ints(3, first, count).size() == count, "the integers of a run");
         }
-    sgb::chunk last(std::string("board(1000000000,0,0,0,1,0,0)"), 999999998, 2);
-    const sgb::chunk copy = last;
-    const sgb::chunk moved = std::move(last);
-    for (const auto *part : {&copy, &moved}) {
-        check(part->names() == std::vector<std::string>{"999999998", "999999999"}, "the last names of a great board");
-        check(part->tips(1).size() == 1 && part->tips(1)[0] == 999999998 && part->lengths(1)[0] == 1, "its last arc");
-        check(is_no_vertex([&] { part->tips(2); }), "the list of a vertex that is not in the chunk");
-    }
-    check(is_no_vertex([&] { last.tips(0); }), "the list of a chunk that was moved away");
-    check(sgb::family_vertices("board(1000000000,0,0,0,1,0,0)") == 1000000000, "the vertices of a great board");
-    check(sgb::family_arcs("board(1000000000,0,0,0,1,0,0)") == 1999999998, "the arcs of a great board");
-    check(code_of([&] { sgb::chunk part(text, 12, 1); }) == SGB_NO_VERTEX, "a chunk past the end");
-    check(code_of([] { sgb::chunk part("wheel(5,1,0)", 0, 1); }) == SGB_NO_GENERATOR, "a chunk of an operation");
-    check(code_of([] { sgb::chunk part("", 0, 1); }) == SGB_BAD_EXPRESSION, "a chunk of a text of no bytes");
-    check(code_of([] { sgb::chunk part(std::string_view{}, 0, 0); }) == SGB_BAD_EXPRESSION, "a chunk of no text");
-    check(code_of([] { sgb::family_vertices("board(2,-251,0,0,1,0,0)"); }) == SGB_BAD_SPECS, "no vertices");
-    check(code_of([] { sgb::family_arcs(std::string_view{}); }) == SGB_BAD_EXPRESSION, "no arcs");
+    check(code_of([&] { graph.rows(12, 1); }) == SGB_NO_VERTEX, "a run past the end");
+    check(code_of([&] { graph.tips(13, 0); }) == SGB_NO_VERTEX, "lists past the end");
+    check(code_of([&] { graph.names(0, 13); }) == SGB_NO_VERTEX, "names past the end");
+    check(code_of([&] { graph.ints(3, 1, 4294967295); }) == SGB_NO_VERTEX, "integers past the end");
 }
 
+static void iterators() {
+    sgb::graph graph("board(3,4,0,0,1,0,0)");
+    const auto whole = graph.rows();
+    std::vector<sgb::arc> arcs;
+    for (std::uint32_t v = 0; v < 12; v++)
+        for (std::size_t k = 0; k < whole.tips(v).size(); k++) arcs.push_back({v, whole.tips(v)[k], whole.lengths(v)[k]});
+    check(std::ranges::equal(whole.arcs(), arcs) && arcs.size() == 34, "all arcs");
+    std::size_t at = 0;
+    for (auto [from, tip, length] : whole.arcs()) {
+        check(sgb::arc{from, tip, length} == arcs[at], "the arcs that a loop goes through");
+        at++;
+    }
+    // a vertex without arcs, which is passed
+    sgb::graph few("board(5,0,0,0,9,0,0)");
+    const auto lists = few.rows();
+    check(std::ranges::equal(lists.arcs(), std::vector<sgb::arc>{{0, 3, 1}, {1, 4, 1}, {3, 0, 1}, {4, 1, 1}}), "moves by three");
+    const auto late = few.rows(2, 2);
+    check(std::ranges::equal(late.arcs(), std::vector<sgb::arc>{{3, 0, 1}}), "the arcs of a run that begins with none");
+    check(std::ranges::distance(late.arcs(2)) == 0 && std::ranges::distance(late.arcs(3)) == 1, "the arcs of its vertices");
+    const auto none = sgb::graph("empty(4)").rows();
+    check(none.count() == 4 && none.arcs().begin() == none.arcs().end() && none.arcs(2).begin() == none.arcs(2).end(), "no arcs");
+    const auto names = graph.names();
+    std::vector<std::string_view> called(names.begin(), names.end());
+    check(called.size() == 12 && called[5] == "1.1" && names.begin()[5] == "1.1" && names.end() - names.begin() == 12, "names");
+    check(std::ranges::find(names, "2.3") == names.begin() + 11 && *--names.end() == "2.3", "a name that is looked for");
+    const auto some = graph.names(4, 3);
+    check(std::ranges::equal(some, std::vector<std::string_view>{"1.0", "1.1", "1.2"}), "the names that a run goes through");
+}
+
+static void chunks() {
+    sgb::graph graph("board(3,4,0,0,1,0,0)");
+    const auto whole = graph.rows();
+    for (std::uint32_t size : {1u, 5u, 12u, 13u, 4294967295u}) {
+        std::uint32_t next = 0;
+        for (const auto &part : graph.chunks(size)) {
+            check(part.first() == next && part.count() == std::min(size, 12 - next), "the vertices of a chunk");
+            for (std::uint32_t v = next; v < next + part.count(); v++)
+                check(std::ranges::equal(part.tips(v), whole.tips(v)), "the lists of a chunk");
+            next += part.count();
+        }
+        check(next == 12, "all chunks");
+    }
+    bool is_refused = false;
+    try {
+        graph.chunks(0);
+    } catch (const std::invalid_argument &) {
+        is_refused = true;
+    }
+    check(is_refused, "chunks of no vertices");
+    sgb::graph none("simplex(3,1,1,0,0,0,0)");
+    for (const auto &part : none.chunks(10)) check(part.count() == 99, "a graph of no vertices has a chunk");
+    check(none.n() == 0 && none.rows().starts().size() == 1 && none.names().size() == 0, "a graph of no vertices");
+}
+
+static void great() {
+    sgb::graph graph("board(1000000000,0,0,0,1,0,0)");
+    check(graph.n() == 1000000000 && graph.m() == 1999999998, "the sizes of a great board");
+    auto last = graph.rows(999999998, 2);
+    const auto moved = std::move(last);
+    check(moved.tips(999999999).size() == 1 && moved.tips(999999999)[0] == 999999998, "its last arc");
+    check(moved.lengths(999999999)[0] == 1, "the length of its last arc");
+    check(is_no_vertex([&] { moved.tips(1000000000); }), "the list of a vertex that is not there");
+    check(is_no_vertex([&] { last.tips(999999999); }) && last.count() == 0, "the lists of a run that was moved away");
+    check(std::ranges::equal(graph.names(999999998, 2), std::vector<std::string_view>{"999999998", "999999999"}), "its last names");
+    const auto chunks = graph.chunks(4);
+    auto first = chunks.begin();
+    ++first;
+    check(first->first() == 4 && first->count() == 4 && first != chunks.end(), "its second chunk");
+}
+
+template <class F> static std::string words_of(F call) {
+    try {
+        call();
+    } catch (const std::exception &why) {
+        return why.what();
+    }
+    return "";
+}
+
+static_assert(std::forward_iterator<sgb::arc_lists::iterator> && std::ranges::forward_range<sgb::arc_lists::range>);
+static_assert(std::random_access_iterator<sgb::name_list::iterator> && std::ranges::random_access_range<const sgb::name_list>);
+static_assert(std::input_iterator<sgb::chunk_list::iterator> && std::ranges::input_range<const sgb::chunk_list>);
+static_assert(!std::is_copy_constructible_v<sgb::arc_lists> && std::is_nothrow_move_constructible_v<sgb::arc_lists>);
+static_assert(!std::is_copy_constructible_v<sgb::name_list> && std::is_nothrow_move_assignable_v<sgb::name_list>);
 static_assert(!std::is_copy_constructible_v<sgb::graph> && !std::is_copy_assignable_v<sgb::graph>);
 static_assert(std::is_nothrow_move_constructible_v<sgb::graph> && std::is_nothrow_move_assignable_v<sgb::graph>);
 
@@ -84,27 +162,33 @@ int main() {
     {
         sgb::graph first("board(3,4,0,0,1,0,0)");
         const auto names = first.names();
+        const auto rows = first.rows();
         check(first.n() == 12 && first.m() == 34 && names.size() == 12 && names[5] == "1.1", "a board of 3 by 4");
+        check(first.id() == "board(3,4,0,0,1,0,0)", "its id");
         check(first.ints(3)[11] == 2 && first.ints(4)[11] == 3, "coordinates");
         check(code_of([&] { first.ints(0); }) == SGB_NO_INTEGERS, "a field that holds no integers");
         check(first.kinds() == "ZZZIIIZZZZZZZZ", "kinds");
         const auto file = first.file();
         check(file.starts_with("* GraphBase graph (util_types ZZZIIIZZZZZZZZ,12V,34A)\n"), "a file");
         sgb::graph read("stdin", file);
-        check(read.names() == names && read.file() == file, "the graph of a file");
+        check(std::ranges::equal(read.names(), names) && read.file() == file, "the graph of a file");
         read.close();
         closed = 0;
-        check(first.tips(11).size() == 2 && first.tips(0).size() == 2 && first.tips(0)[0] == 4, "the list of a vertex");
-        check(is_no_vertex([&] { first.tips(12); }), "the list of a vertex that is not there");
+        check(rows.tips(11).size() == 2 && rows.tips(0).size() == 2 && rows.tips(0)[0] == 4, "the list of a vertex");
+        check(is_no_vertex([&] { rows.tips(12); }), "the list of a vertex that is not there");
         sgb::graph second(std::move(first));
-        check(closed == 0 && second.names() == names && second.tips().size() == 34, "a graph that was moved");
+        check(closed == 0 && std::ranges::equal(second.names(), names) && second.tips().tips().size() == 34, "a graph that was moved");
         check(code_of([&] { first.names(); }) == SGB_NOT_OPEN, "a graph that was moved away");
         sgb::graph third("petersen()");
         third = std::move(second);
         check(closed == 1, "a graph in whose place another comes is closed");
-        check(third.n() == 12 && third.names() == names, "a graph that was moved over another");
+        check(third.n() == 12 && std::ranges::equal(third.names(), names), "a graph that was moved over another");
         third.close();
-        check(closed == 2 && third.tips().size() == 34, "the arrays of a graph that was closed");
+        check(closed == 2 && rows.tips().size() == 34 && third.n() == 12, "the arrays of a graph that was closed");
+        check(code_of([&] { third.rows(); }) == SGB_NOT_OPEN, "lists of a graph that was closed");
+        check(code_of([&] { third.tips(); }) == SGB_NOT_OPEN, "tips of a graph that was closed");
+        check(code_of([&] { third.m(); }) == SGB_NOT_OPEN, "the arcs of a graph that was closed");
+        check(code_of([&] { for (const auto &part : third.chunks(3)) check(part.count() == 99, ""); }) == SGB_NOT_OPEN, "chunks");
         check(code_of([&] { third.names(); }) == SGB_NOT_OPEN, "names of a graph that was closed");
         check(code_of([&] { third.ints(3); }) == SGB_NOT_OPEN, "integers of a graph that was closed");
         check(code_of([&] { third.kinds(); }) == SGB_NOT_OPEN, "kinds of a graph that was closed");
@@ -124,6 +208,11 @@ int main() {
     check(sgb::draws(-314159, 0, 1).at(0) == 119318998 && sgb::draws(0, 0, 0).empty(), "draws");
     check(sgb::uniform_draws(5, 5, 1, 3) == std::vector<std::uint32_t>(3), "uniform draws");
     check(code_of([] { sgb::uniform_draws(5, 5, 0, 3); }) == SGB_BAD_BOUND, "a bad bound");
+    check(words_of([] { sgb::graph graph("board(3,"); }) == "bad expression at byte 8", "the words of a bad expression");
+    check(words_of([] { sgb::graph graph("board(2,-251,0,0,1,0,0)"); }) == "parameters that make no sense (code 30)", "words");
+    runs();
+    iterators();
     chunks();
+    great();
     std::cout << "right\n";
 }

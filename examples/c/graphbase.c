@@ -69,24 +69,28 @@ static Graph *graph_of(const char *text, const char *input, size_t input_len) {
     sgb_graph_sizes sizes;
     panic_code = sgb_open(text, strlen(text), input, input_len, &held);
     if (panic_code) return NULL;
+    uint64_t arcs = 0, listed = 0, bytes = 0;
     sgb_sizes(&held, &sizes);
-    size_t n = sizes.vertices;
+    uint32_t n = sizes.vertices;
+    panic_code = sgb_arcs(&held, &arcs);
+    if (!panic_code) panic_code = sgb_rows_size(&held, 0, n, &listed);
+    if (!panic_code) panic_code = sgb_names_size(&held, 0, n, &bytes);
     Graph *g = room(1, sizeof *g);
     uint64_t *starts = room(n + 1, sizeof *starts);
     uint64_t *begins = room(n + 1, sizeof *begins);
-    uint32_t *tips = room(sizes.listed, sizeof *tips);
-    int64_t *numbers = room(sizes.listed > n ? sizes.listed : n, sizeof *numbers);
-    char *names = room(sizes.names, 1);
+    uint32_t *tips = room(listed, sizeof *tips);
+    int64_t *numbers = room(listed > n ? listed : n, sizeof *numbers);
+    char *names = room(bytes, 1);
     if (!panic_code) {
         g->vertices = room(n, sizeof *g->vertices);
-        g->arcs = room(sizes.listed, sizeof *g->arcs);
-        g->names = room(sizes.names + n, 1);
+        g->arcs = room(listed, sizeof *g->arcs);
+        g->names = room(bytes + n, 1);
         g->n = (long)n;
-        g->m = (long)sizes.arcs;
+        g->m = (long)arcs;
     }
     if (!panic_code) panic_code = sgb_id(&held, g->id, sizes.id);
-    if (!panic_code) panic_code = sgb_names(&held, begins, n + 1, names, sizes.names);
-    if (!panic_code) panic_code = sgb_rows(&held, starts, n + 1, tips, sizes.listed, numbers, sizes.listed);
+    if (!panic_code) panic_code = sgb_names(&held, 0, n, begins, n + 1, names, bytes);
+    if (!panic_code) panic_code = sgb_rows(&held, 0, n, starts, n + 1, tips, listed, numbers, listed);
     for (size_t v = 0; !panic_code && v < n; v++) {
         Vertex *here = &g->vertices[v];
         here->name = g->names + begins[v] + v; /* each name has a zero byte after it */
@@ -99,7 +103,7 @@ static Graph *graph_of(const char *text, const char *input, size_t input_len) {
         }
     }
     for (uint32_t field = 0; !panic_code && field < 6; field++) {
-        uint64_t answer = sgb_ints(&held, field, numbers, n);
+        uint64_t answer = sgb_ints(&held, field, 0, n, numbers, n);
         if (answer == SGB_NO_INTEGERS) continue;
         panic_code = answer;
         for (size_t v = 0; !answer && v < n; v++) field_of(&g->vertices[v], field)->I = (long)numbers[v];

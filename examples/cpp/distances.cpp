@@ -17,12 +17,13 @@ using csr = boost::compressed_sparse_row_graph<boost::directedS, boost::no_prope
                                                std::uint32_t, std::uint64_t>;
 
 // The arcs of a graph, sorted by where they begin.
-static csr boost_graph(const sgb::graph &graph) {
+static csr boost_graph(sgb::graph &graph) {
+    const auto lists = graph.tips();
     std::vector<std::pair<std::uint32_t, std::uint32_t>> arcs;
-    arcs.reserve(graph.tips().size());
-    for (std::uint64_t v = 0; v < graph.n(); v++)
-        for (std::uint32_t tip : graph.tips(v)) arcs.emplace_back(v, tip);
-    return csr(boost::edges_are_sorted, arcs.begin(), arcs.end(), static_cast<std::uint32_t>(graph.n()));
+    arcs.reserve(lists.tips().size());
+    for (std::uint32_t v = 0; v < graph.n(); v++)
+        for (std::uint32_t tip : lists.tips(v)) arcs.emplace_back(v, tip);
+    return csr(boost::edges_are_sorted, arcs.begin(), arcs.end(), graph.n());
 }
 
 int main(int count, char **words) {

@@ -22,10 +22,10 @@ int main(int count, char **words) {
         const auto names = graph.names();
         std::cout << "  The graph whose official name is\n" << graph.id() << "\n  has " << graph.n() << " vertices and "
                   << graph.m() << " arcs:\n\n";
-        for (std::uint64_t v = 0; v < graph.n(); v++) {
+        const auto rows = graph.rows();
+        for (std::uint32_t v = 0; v < graph.n(); v++) {
             std::cout << names[v] << "\n";
-            for (std::size_t k = 0; k < graph.tips(v).size(); k++)
-                std::cout << "  -> " << names[graph.tips(v)[k]] << ", length " << graph.lengths(v)[k] << "\n";
+            for (const auto &arc : rows.arcs(v)) std::cout << "  -> " << names[arc.tip] << ", length " << arc.length << "\n";
         }
     } catch (const sgb::error &why) {
         std::cerr << why.what() << "\n";

@@ -1,0 +1,169 @@
+/* The modes of c_arrays.c in which memory is refused: it takes this file in, whose functions use those of c_calls.h. */
+
+/* The calls for memory while it is counted, which of them are refused, and the blocks that are held of it. */
+static size_t asked, refused_first, refused_last, held;
+static int counting;
+
+#ifdef COUNTED
+void *__real_malloc(size_t bytes);
+void *__real_realloc(void *at, size_t bytes);
+void __real_free(void *at);
+void *__wrap_malloc(size_t bytes);
+void *__wrap_realloc(void *at, size_t bytes);
+void __wrap_free(void *at);
+
+static int is_refused(void) { return counting && ++asked >= refused_first && asked <= refused_last; }
+
+void *__wrap_malloc(size_t bytes) {
+    if (is_refused()) return NULL;
+    void *at = __real_malloc(bytes);
+    if (counting && at) held++;
+    return at;
+}
+
+void *__wrap_realloc(void *at, size_t bytes) {
+    if (is_refused()) return NULL;
+    void *now = __real_realloc(at, bytes);
+    if (counting && now && !at) held++;
+    return now;
+}
+
+void __wrap_free(void *at) {
+    if (counting && at) held--;
+    __real_free(at);
+}
+#endif
+
+static void is_closed(sgb_graph *at);
+static void is_graph(sgb_graph *at, uint64_t wanted);
+
+/* From here on calls for memory are counted, and those of these numbers are refused: the first is 1. */
+static void count_from(size_t from, size_t to) {
+    asked = held = 0;
+    refused_first = from;
+    refused_last = to;
+    counting = 1;
+}
+
+/* Opens the graph with memory refused; whether there were so many calls. */
+static int refuse_opening(size_t number, size_t last, size_t *refusals) {
+    count_from(number, last);
+    uint64_t answer = open_text(&graph);
+    counting = 0;
+    size_t calls = asked;
+    if (answer == SGB_OK) {
+        if (held == 0) fail("an open graph holds no memory");
+        counting = 1;
+        sgb_close(&graph);
+        counting = 0;
+    } else {
+        must(answer, SGB_NO_ROOM, "opening that is refused memory");
+        if (calls < number) fail("no memory was refused, but the graph was");
+        ++*refusals;
+    }
+    if (held != 0) fail("memory is held after a refusal, or after sgb_close");
+    is_closed(&graph);
+    return calls >= number;
+}
+
+/* Makes a call with memory refused, on fresh arrays; whether there were so many calls for memory. */
+static int refuse_call(int which, size_t number, size_t last, uint64_t wanted, uint64_t after, size_t *refusals) {
+    make_arrays();
+    uint64_t before = state();
+    count_from(number, last);
+    uint64_t answer = call(&graph, which);
+    counting = 0;
+    /* a call may do without room that is asked for ahead */
+    if (answer != wanted) {
+        must(answer, SGB_NO_ROOM, call_names[which]);
+        if (asked < number) fail("no memory was refused, but the call was");
+        ++*refusals;
+    }
+    if (state() != (answer == wanted ? after : before)) fail("arrays are not as they were, or as they must be");
+    if (held != 0) fail("a call on a graph takes memory and keeps it, or gives back what it did not take");
+    free_arrays();
+    return asked >= number;
+}
+
+/* Each call on the graph, with each call for memory refused. */
+static void refuse_calls(int is_built, size_t *refusals) {
+    for (int which = 0; which < CALLS; which++) {
+        make_arrays();
+        count_from(0, 0);
+        uint64_t wanted = call(&graph, which);
+        counting = 0;
+        if (which != INTS) must(wanted, SGB_OK, call_names[which]);
+        int takes_none = which == SIZES || which == INTS || which == ID || which == KINDS;
+        if (asked != 0 && (is_built || takes_none)) fail("a call takes memory that is to take none");
+        uint64_t after = state();
+        free_arrays();
+        for (size_t number = 1; refuse_call(which, number, number, wanted, after, refusals); number++)
+            refuse_call(which, number, SIZE_MAX, wanted, after, refusals);
+    }
+}
+
+/* What is told before memory is taken, with all of it refused. */
+static void refuse_all(void) {
+    static char too_large[65537];
+    const struct {
+        const char *text;
+        uint64_t answer;
+    } texts[] = {{"board(3,", 1008}, {"petersen", 1008}, {"board(2,-251,0,0,1,0,0)", 30}, {"simplex(-1,0,0,0,0,0,0)", 30},
+                 {"board(100000,100000,0,0,1,0,0)", 40}, {too_large, 100}};
+    sgb_graph none = SGB_NO_GRAPH;
+    memset(too_large, 'x', sizeof too_large);
+    make_arrays();
+    uint64_t before = state();
+    count_from(1, SIZE_MAX);
+    for (size_t k = 0; k < sizeof texts / sizeof *texts; k++) {
+        size_t len = texts[k].answer == 100 ? sizeof too_large : strlen(texts[k].text);
+        must(sgb_open(texts[k].text, len, "", 0, &none), texts[k].answer, "opening without memory");
+    }
+    must(open_text(&graph), SGB_ALREADY_OPEN, "opening again without memory");
+    for (int which = 0; which < CALLS; which++) must(call(&none, which), SGB_NOT_OPEN, call_names[which]);
+    for (int which = ROWS; which <= NAMES; which++) must(call_by(&graph, which, 0, 1), SGB_WRONG_LENGTH, call_names[which]);
+    field = 9;
+    must(call(&graph, INTS), SGB_NO_INTEGERS, "sgb_ints without memory");
+    field = 3;
+    uint32_t kept = first;
+    first = UINT32_MAX;
+    for (int which = 0; which < CALLS; which++)
+        if (is_of_run[which]) must(call(&graph, which), SGB_NO_VERTEX, call_names[which]);
+    first = kept;
+    /* random numbers, and the version, take none at all */
+    uint32_t out[3];
+    size_t so_many = asked;
+    sgb_draws(1, 60, out, 3);
+    must(sgb_uniform_draws(1, 60, 6, out, 3), SGB_OK, "sgb_uniform_draws without memory");
+    must(sgb_version(), 1000000, "sgb_version");
+    counting = 0;
+    if (asked != so_many) fail("random numbers take memory");
+    if (state() != before || held != 0) fail("what is refused writes, or holds memory");
+    free_arrays();
+}
+
+static void refuse(int is_built) {
+    size_t refusals = 0;
+    /* another graph is open meanwhile, and stays as it is */
+    sgb_graph other = SGB_NO_GRAPH;
+    must(open_text(&other), SGB_OK, "a second graph");
+    for (int which = 0; which < CALLS; which++) call(&graph, which);
+    uint64_t wanted = state();
+    free_arrays();
+    refuse_calls(is_built, &refusals);
+    refuse_all();
+    sgb_close(&graph);
+    for (size_t number = 1; refuse_opening(number, number, &refusals); number++) refuse_opening(number, SIZE_MAX, &refusals);
+    is_graph(&other, wanted);
+    sgb_close(&other);
+    if (refusals == 0) fail("no call asked for memory");
+    /* a run in the middle */
+    open_graph();
+    must(sgb_file_size(&graph, &size.file), SGB_OK, "sgb_file_size");
+    uint32_t n = vertices();
+    begin_run(n / 3, n / 2);
+    free_arrays();
+    refuse_calls(is_built, &refusals);
+    make_arrays();
+    printf("right %zu\n", refusals);
+}
