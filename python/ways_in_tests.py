@@ -105,7 +105,7 @@ class WaysIn(unittest.TestCase):
             self.assertEqual(list(again.arcs()), list(graph.arcs()))
             self.assertEqual((again.names(), again.m, again), (graph.names(), graph.m, graph))
         self.assertEqual(list(sgb.from_csr([0, 1, 1], [1]).arcs()), [(0, 1, 1)])
-        for words in ([], []), ([1], []), ([0, 2], [0]), ([0, 2, 1], [0]), ([0, 1], [0], []), ([0], [0]):
+        for words in ([], []), ([1], []), ([1, 1], [0]), ([0, 2], [0]), ([0, 2, 1], [0]), ([0, 1], [0], []), ([0], [0]):
             with self.subTest(words), self.assertRaises(ValueError):
                 sgb.from_csr(*words)
 

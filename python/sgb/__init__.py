@@ -53,7 +53,7 @@ if TYPE_CHECKING:
 __version__ = "1.0.0"
 __all__ = ["Graph", "GraphError", "Rows", "flip", "from_csr", "from_edges", "from_networkx", "from_scipy", "graph"]
 
-for _one in Graph, GraphError, Rows, from_csr, from_edges, from_networkx, from_scipy:
+for _one in Graph, GraphError, Rows, Graph.to_scipy, Graph.to_networkx, Graph.to_igraph, from_csr, from_edges, from_networkx, from_scipy:
     _one.__module__ = __name__  # where who asks for help finds them
 del _one
 

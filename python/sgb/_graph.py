@@ -10,10 +10,7 @@ from . import _library, _lookups, _others
 from ._rows import Rows
 
 if TYPE_CHECKING:
-    import igraph
-    import networkx
     import numpy
-    import scipy.sparse
     from numpy.typing import NDArray
 
 FIELDS = "uvwxyz"
@@ -394,60 +391,4 @@ class Graph:
         """
         return _others.paired(self.arcs())
 
-    def to_scipy(self) -> scipy.sparse.csr_array:
-        """The matrix of lengths.
-
-        Returns
-        -------
-        scipy.sparse.csr_array of int64, shape (n, n)
-            Row v is the list of vertex v, in its order. Parallel arcs are entries of one place, which scipy adds where
-            it makes one of them. It is scipy's own, and may be changed.
-        """
-        return _others.to_scipy(self)
-
-    def to_networkx(self, multi: bool = False, names: bool = False, undirected: bool = False) -> networkx.Graph:
-        """The graph in networkx, with the lengths as `weight` and the id as its name.
-
-        Parameters
-        ----------
-        multi : bool
-            Whether it is a multigraph, which has room for parallel arcs or edges.
-        names : bool
-            Whether the nodes are the names of the vertices; otherwise they are their numbers, 0 to n - 1.
-        undirected : bool
-            Whether it has an edge for each edge of the graph; otherwise it has each arc on the lists, two for an edge
-            and two for a loop. (What `to_undirected` of networkx makes of these has two loops for one.)
-
-        Returns
-        -------
-        networkx.DiGraph, MultiDiGraph, Graph or MultiGraph
-            Its nodes are in the order of the vertices, its arcs in that of the lists. An edge comes as it stands on the
-            list of the end that is first, and a loop as the first of its two arcs.
-
-        Raises
-        ------
-        ValueError
-            Without `multi`, where there are parallel arcs or edges. With `names`, where two vertices have one name.
-            With `undirected`, where the arcs are no edges, as in `edges`.
-        """
-        return _others.to_networkx(self, multi, names, undirected)
-
-    def to_igraph(self, undirected: bool = False) -> igraph.Graph:
-        """The graph in igraph, with the names of the vertices as `name`, the lengths as `weight`, and the id as its name.
-
-        Parameters
-        ----------
-        undirected : bool
-            Whether it has an edge for each edge of the graph; otherwise it has each arc on the lists.
-
-        Returns
-        -------
-        igraph.Graph
-            Its vertices are in order, its arcs or edges as in `to_networkx`.
-
-        Raises
-        ------
-        ValueError
-            With `undirected`, where arcs are no edges, as in `edges`.
-        """
-        return _others.to_igraph(self, undirected)
+    to_scipy, to_networkx, to_igraph = _others.to_scipy, _others.to_networkx, _others.to_igraph

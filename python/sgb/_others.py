@@ -1,4 +1,4 @@
-"""Graphs of other packages, made of ours."""
+"""Graphs of other packages, made of ours: the methods of `Graph` that make them, and how arcs are paired to edges."""
 
 from __future__ import annotations
 
@@ -7,6 +7,10 @@ import gc
 from typing import TYPE_CHECKING, Any, Iterable, Iterator, Sequence
 
 if TYPE_CHECKING:
+    import igraph
+    import networkx
+    import scipy.sparse
+
     from ._graph import Graph
 
 Arc = tuple  # (v, tip, length)
@@ -45,7 +49,15 @@ def paired(arcs: Iterable[Arc]) -> list[Arc]:
     return edges
 
 
-def to_scipy(graph: Graph) -> Any:
+def to_scipy(graph: Graph) -> scipy.sparse.csr_array:
+    """The matrix of lengths.
+
+    Returns
+    -------
+    scipy.sparse.csr_array of int64, shape (n, n)
+        Row v is the list of vertex v, in its order. Parallel arcs are entries of one place, which scipy adds where
+        it makes one of them. It is scipy's own, and may be changed.
+    """
     import scipy.sparse
 
     # the arrays are not to be changed, and the matrix may be
@@ -53,7 +65,31 @@ def to_scipy(graph: Graph) -> Any:
     return scipy.sparse.csr_array(arrays, shape=(graph.n, graph.n))
 
 
-def to_networkx(graph: Graph, multi: bool, names: bool, undirected: bool) -> Any:
+def to_networkx(graph: Graph, multi: bool = False, names: bool = False, undirected: bool = False) -> networkx.Graph:
+    """The graph in networkx, with the lengths as `weight` and the id as its name.
+
+    Parameters
+    ----------
+    multi : bool
+        Whether it is a multigraph, which has room for parallel arcs or edges.
+    names : bool
+        Whether the nodes are the names of the vertices; otherwise they are their numbers, 0 to n - 1.
+    undirected : bool
+        Whether it has an edge for each edge of the graph; otherwise it has each arc on the lists, two for an edge
+        and two for a loop. (What `to_undirected` of networkx makes of these has two loops for one.)
+
+    Returns
+    -------
+    networkx.DiGraph, MultiDiGraph, Graph or MultiGraph
+        Its nodes are in the order of the vertices, its arcs in that of the lists. An edge comes as it stands on the
+        list of the end that is first, and a loop as the first of its two arcs.
+
+    Raises
+    ------
+    ValueError
+        Without `multi`, where there are parallel arcs or edges. With `names`, where two vertices have one name.
+        With `undirected`, where the arcs are no edges, as in `edges`.
+    """
     import networkx
 
     nodes: Sequence[Any] = graph.names() if names else range(graph.n)
@@ -107,7 +143,24 @@ def _add_edges(graph: Graph, made: Any, nodes: Sequence[Any]) -> None:
             raise ValueError("the graph has parallel edges: multi=True keeps them")
 
 
-def to_igraph(graph: Graph, undirected: bool) -> Any:
+def to_igraph(graph: Graph, undirected: bool = False) -> igraph.Graph:
+    """The graph in igraph, with the names of the vertices as `name`, the lengths as `weight`, and the id as its name.
+
+    Parameters
+    ----------
+    undirected : bool
+        Whether it has an edge for each edge of the graph; otherwise it has each arc on the lists.
+
+    Returns
+    -------
+    igraph.Graph
+        Its vertices are in order, its arcs or edges as in `to_networkx`.
+
+    Raises
+    ------
+    ValueError
+        With `undirected`, where arcs are no edges, as in `edges`.
+    """
     import igraph
 
     arcs = graph.edges() if undirected else list(graph.arcs())
