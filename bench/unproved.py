@@ -67,7 +67,7 @@ REACHES = """
 fn reaches(rt: HostRuntime) {{
     let alloc = rt.alloc();
     let mut graph = GraphHandle::closed();
-    let mut sizes = Sizes {{ vertices: 0, arcs: 0, listed: 0, names: 0, id: 0 }};
+    let mut sizes = Sizes {{ vertices: 0, id: 0 }};
     {calls}
 }}
 """

@@ -1,8 +1,8 @@
 -- The integers of a field, vertex by vertex.
-use Rattle.std.proofs.Common.{◌≡◌, ℕ, Bool, true, false, take, get_or, ℤ, ◌+◌, ◌<◌, ◌≤◌, List, length, map, drop, set, refl, sym, ap, ◌∙◌, Some, arith}
-use Rattle.std.specs.Prelude.{slice_get}
-use Rattle.std.proofs.lemmas.List.{at_drop_more, drop_all, get_or-take, length-map, length-take}
-use Rattle.std.proofs.lemmas.Option.{get_or_from_slice_get, slice_get-get_or}
+use Rattle.std.proofs.Common.{◌≡◌, ℕ, Bool, true, false, take, get_or, ℤ, pos, ◌+◌, ◌<◌, ◌≤◌, List, [], ◌∷◌, length, map, drop, set, refl, sym, ap, ◌∙◌, Some, arith}
+use Rattle.std.specs.Prelude.{slice_get, slice_index}
+use Rattle.std.proofs.lemmas.List.{at_drop_more, drop_all, get_or-drop, get_or-take, length-drop, length-map, length-take, length-take-le}
+use Rattle.std.proofs.lemmas.Option.{get_or_from_slice_get, slice_get-get_or, slice_get_within}
 use Rattle.sgb_graph.specs.Graphs.{GraphData}
 use Rattle.sgb_graph.specs.declared.fields.Vertex.{Vertex}
 use Rattle.std.specs.Bool.{OnTrue, OnFalse}
@@ -29,21 +29,28 @@ kind_known b all kinds field d same below within is = by b is
     by true holds = (there ∙ ap Some (int_kind (get_or kinds field d) (sym holds)), tt)
     by false other = (tt, λ int. let at : Some (get_or kinds field d) ≡ Some I = cc there in absurd (let no : is_int_kind I ≡ false = cc in cc))
 
--- the integer of the next vertex is put
-pub int_put : (g : GraphData) (field v : ℕ) (x : Vertex) (i : ℤ) (now all : List ℤ) → v < length g.vertices → slice_get g.vertices v ≡ Some x → i ≡ int_at field x
-    → put_from v (map (int_at field) (drop v g.vertices)) now ≡ all → put_from (v + 1) (map (int_at field) (drop (v + 1) g.vertices)) (set now v i) ≡ all
-int_put g field v x i now all within at is whole =
-    let there = get_or_from_slice_get g.vertices v x x at in
-    let first = at_drop_more (λ xs. map (int_at field) xs) g.vertices v x within in
+-- of a run of a list so many are there, each at its place
+pub length-run : {X : Type 0} (xs : List X) (first count : ℕ) → first + count ≤ length xs → length (take count (drop first xs)) ≡ count
+length-run xs first count within = length-take-le count (drop first xs) (omega (arith, length-drop first xs))
+
+pub run_at : {X : Type 0} (xs : List X) (first count k : ℕ) (x : X) → k < count → first + count ≤ length xs → slice_get xs (first + k) ≡ Some x → slice_get (take count (drop first xs)) k ≡ Some x
+run_at xs first count k x below within there =
+    slice_get-get_or (take count (drop first xs)) k x (omega (arith, length-run xs first count within))
+    ∙ ap Some (get_or-take count (drop first xs) k x below ∙ get_or-drop first xs k x ∙ get_or_from_slice_get xs (first + k) x x there)
+
+-- the value of the next one is put
+pub value_put : {X : Type 0} (f : X → ℤ) (vs : List X) (k : ℕ) (x : X) (i : ℤ) (now all : List ℤ) → k < length vs → slice_get vs k ≡ Some x → i ≡ f x
+    → put_from k (map f (drop k vs)) now ≡ all → put_from (k + 1) (map f (drop (k + 1) vs)) (set now k i) ≡ all
+value_put f vs k x i now all within at is whole =
+    let there = get_or_from_slice_get vs k x x at in
+    let first = at_drop_more (λ xs. map f xs) vs k x within in
     grind (arith, set, there, first)
 
 -- none is left, so all are put
-pub ints_put : (g : GraphData) (field v : ℕ) (now old : List ℤ) → length g.vertices ≤ v → length old ≡ length g.vertices
-    → put_from v (map (int_at field) (drop v g.vertices)) now ≡ put_from 0 (ints_of g field) old → now ≡ ints_of g field
-unfolding ints_of
-ints_put g field v now old past size whole = grind (arith, drop_all, put_from-all, length-map)
+pub values_put : {X : Type 0} (f : X → ℤ) (vs : List X) (k : ℕ) (now old : List ℤ) → length vs ≤ k → length old ≡ length vs
+    → put_from k (map f (drop k vs)) now ≡ put_from 0 (map f vs) old → now ≡ map f vs
+values_put f vs k now old past size whole = grind (arith, drop_all, put_from-all, length-map)
 
 -- all of them are left
-pub ints_begun : (g : GraphData) (field : ℕ) (now : List ℤ) → put_from 0 (map (int_at field) (drop 0 g.vertices)) now ≡ put_from 0 (ints_of g field) now
-unfolding ints_of
-ints_begun g field now = refl
+pub values_begun : {X : Type 0} (f : X → ℤ) (vs : List X) (now : List ℤ) → put_from 0 (map f (drop 0 vs)) now ≡ put_from 0 (map f vs) now
+values_begun f vs now = refl

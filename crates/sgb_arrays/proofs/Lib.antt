@@ -5,6 +5,10 @@ pub mod PutValues
 pub mod PartsLeft
 -- runs, one vertex more
 pub mod RunSteps
+-- a run by its own places
+pub mod RunPlaces
+-- arrays of all lists, cut down to a run
+pub mod CutRuns
 -- arrays of a run, copied to others of their lengths
 pub mod CopiedRuns
 -- runs of a generator's graph

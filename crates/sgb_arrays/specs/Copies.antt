@@ -8,5 +8,9 @@ abbrev pub HaveLengthsOfRows : Rows → List ℕ → List ℕ → List ℤ → T
 HaveLengthsOfRows rows starts tips lengths =
     (length starts ≡ length rows.starts.items) × (length tips ≡ length rows.tips.items) × (length lengths ≡ length rows.lengths.items)
 
+-- without the lengths of the arcs
+abbrev pub HaveLengthsOfTips : Rows → List ℕ → List ℕ → Type 0
+HaveLengthsOfTips rows starts tips = (length starts ≡ length rows.starts.items) × (length tips ≡ length rows.tips.items)
+
 abbrev pub HaveLengthsOfNames : Names → List ℕ → List ℕ → Type 0
 HaveLengthsOfNames names starts bytes = (length starts ≡ length names.starts.items) × (length bytes ≡ length names.bytes.items)

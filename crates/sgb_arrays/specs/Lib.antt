@@ -7,5 +7,7 @@ pub mod Runs
 pub mod Copies
 -- utility fields of the vertices
 pub mod Fields
+-- graphs that are open, built or not
+pub mod OpenGraphs
 -- what no public contract needs
 pub mod inner

@@ -36,6 +36,15 @@ pub record AreRows (g : GraphData) (first count : ℕ) (starts tips : List ℕ) 
   pub tips_are : tips ≡ map (λ l. l.tip) (parts_of (chain_of g) first count)
   pub lengths_are : lengths ≡ map (λ l. l.len) (parts_of (chain_of g) first count)
 
+-- the same without lengths
+pub record HaveTipLengths (g : GraphData) (first count : ℕ) (starts tips : List ℕ) : Type 0 where
+  pub starts_fit : length starts ≡ count + 1
+  pub tips_fit : length tips ≡ length (parts_of (chain_of g) first count)
+
+pub record AreTips (g : GraphData) (first count : ℕ) (starts tips : List ℕ) : Type 0 where
+  pub starts_are : starts ≡ part_starts (chain_of g) first count
+  pub tips_are : tips ≡ map (λ l. l.tip) (parts_of (chain_of g) first count)
+
 -- arrays that the names of the run fit into: a start more than vertices, and as many bytes as the names have
 pub record HaveNameLengths (g : GraphData) (first count : ℕ) (starts bytes : List ℕ) : Type 0 where
   pub starts_fit : length starts ≡ count + 1
@@ -49,3 +58,17 @@ pub record AreNames (g : GraphData) (first count : ℕ) (starts bytes : List ℕ
 -- why the lists or the names of a run are not had: some of its vertices are none of the graph, or out of memory
 abbrev pub IsRunRefusal : GraphData → ℕ → ℕ → Wrong → Type 0
 IsRunRefusal g first count why = ((why ≡ wrong.Vertices) × (IsThere g first count → ⊥)) ⊎ (why ≡ wrong.NoRoom)
+
+-- why arrays of a run are not filled: some of its vertices are none of the graph; or all are, and the arrays do not fit; or, where
+-- this takes memory, out of memory
+abbrev pub IsFillRefusal : GraphData → ℕ → ℕ → (fits memory : Type 0) → Wrong → Type 0
+IsFillRefusal g first count fits memory wrong.Vertices = IsThere g first count → ⊥
+IsFillRefusal g first count fits memory wrong.Length = IsThere g first count × (fits → ⊥)
+IsFillRefusal g first count fits memory wrong.NoRoom = IsThere g first count × memory
+IsFillRefusal g first count fits memory _ = ⊥
+
+-- why the size of a run is not told
+abbrev pub IsSizeRefusal : GraphData → ℕ → ℕ → (memory : Type 0) → Wrong → Type 0
+IsSizeRefusal g first count memory wrong.Vertices = IsThere g first count → ⊥
+IsSizeRefusal g first count memory wrong.NoRoom = IsThere g first count × memory
+IsSizeRefusal g first count memory _ = ⊥

@@ -9,3 +9,5 @@ pub mod VectorNames
 pub mod Kinds
 -- how long some lists are
 pub mod Sizes
+-- arrays cut down to a run
+pub mod Cuts

@@ -1,64 +1,82 @@
-//! The names of a graph's vertices, put into arrays one after another.
-ghost use Rattle.std.specs.Prelude.{◌≡◌, ◌≤◌, ◌<◌, ◌+◌, length, OnOk, IfErr};
-ghost use Rattle.std.specs.Bool.{OnTrue, OnFalse};
-ghost use Rattle.sgb_arrays.specs.Runs.{AreNames, HaveNameLengths, name_at, parts_of};
+//! The names of a run of a graph's vertices, put into arrays one after another.
+ghost use Rattle.std.specs.Prelude.{◌≡◌, ◌≤◌, ◌<◌, ◌+◌, length, IfErr, IfOk, OnOk};
+ghost use Rattle.sgb_arrays.specs.Runs.{AreNames, HaveNameLengths, IsFillRefusal, IsThere, name_at, parts_of};
 ghost use Rattle.sgb_arrays.specs.declared.refusals.Wrong.TheVariants as wrong;
 
 use crate::puts::put_bytes;
 use crate::refusals::Wrong;
+use crate::runs::{have_places, is_there};
 use sgb_graph::Graph;
 
-/// How many bytes the names of a graph's vertices have. No memory is taken.
-pub fn names_len(graph: &Graph) -> u64
-    ensures { result ≡ length (parts_of (name_at graph.now) 0 (length graph.now.vertices)) }
+/// How many bytes the names of `count` vertices of a graph have, from vertex `first` on. No memory is taken.
+///
+/// `Vertices` where there are not so many vertices.
+pub fn names_len(graph: &Graph, first: u32, count: u32) -> Result<u64, Wrong>
+    ensures count { IfOk result (λ bytes. IsThere graph.now first count
+        × (bytes ≡ length (parts_of (name_at graph.now) first count))) }
+    ensures refused { IfErr result (λ why. (why ≡ wrong.Vertices)
+        × (IsThere graph.now first count → ⊥)) }
 {
-    let mut count = 0;
-    for v in 0..graph.n() {
-        count += graph.name(v).bytes().len() as u64;
+    if !is_there(graph.n(), first, count) {
+        return Err(Wrong::Vertices);
     }
-    count
+    Ok(count_bytes(graph, first, count))
 }
 
-/// Puts the names of a graph's vertices into an array, one after another, and where each one starts, and then where the
-/// last one ends. The name of vertex v is what stands from `starts[v]` up to `starts[v + 1]`. No memory is taken.
+// How many bytes the names of a run have that is there.
+fn count_bytes(graph: &Graph, first: u32, count: u32) -> u64
+    requires { IsThere graph.now first count }
+    ensures { result ≡ length (parts_of (name_at graph.now) first count) }
+{
+    prove!(first <= graph.n());
+    let mut bytes = 0;
+    for k in 0..count {
+        bytes += graph.name(first + k).bytes().len() as u64;
+    }
+    bytes
+}
+
+/// Puts the names of `count` vertices of a graph, from vertex `first` on, into an array, one after another, and where each one
+/// starts, and then where the last one ends. The name of vertex k of them is what stands from `starts[k]` up to
+/// `starts[k + 1]`. No memory is taken.
 ///
-/// `Length` where there are not n + 1 starts, or not as many bytes as the names have.
-pub fn fill_names(graph: &Graph, starts: &mut [u64], bytes: &mut [u8]) -> Result<(), Wrong>
-    ensures filled { OnOk result (HaveNameLengths graph.now 0 (length graph.now.vertices)
-        starts.old bytes.old
-        × AreNames graph.now 0 (length graph.now.vertices) starts.new bytes.new) }
-    ensures refused { IfErr result (λ why. (why ≡ wrong.Length)
-        × (HaveNameLengths graph.now 0 (length graph.now.vertices) starts.old bytes.old → ⊥)
+/// `Vertices` where there are not so many vertices; else `Length` where there are not count + 1 starts, or not as many bytes
+/// as the names have.
+pub fn fill_names(
+    graph: &Graph,
+    first: u32,
+    count: u32,
+    starts: &mut [u64],
+    bytes: &mut [u8],
+) -> Result<(), Wrong>
+    ensures filled { OnOk result (IsThere graph.now first count
+        × HaveNameLengths graph.now first count starts.old bytes.old
+        × AreNames graph.now first count starts.new bytes.new) }
+    ensures refused { IfErr result (λ why. IsFillRefusal graph.now first count
+        (HaveNameLengths graph.now first count starts.old bytes.old) ⊥ why
         × (starts.new ≡ starts.old) × (bytes.new ≡ bytes.old)) }
 {
-    if !have_name_lengths(graph, starts, bytes) {
+    let places = names_len(graph, first, count)?;
+    if !have_places(starts.len(), bytes.len(), count, u128::from(places)) {
         return Err(Wrong::Length);
     }
-    put_names(graph, starts, bytes);
+    put_names(graph, first, count, starts, bytes);
     Ok(())
 }
 
-// Whether these arrays have the lengths that the names of the graph must have.
-fn have_name_lengths(graph: &Graph, starts: &[u64], bytes: &[u8]) -> bool
-    ensures fits { OnTrue result (HaveNameLengths graph.now 0 (length graph.now.vertices)
-        starts.now bytes.now) }
-    ensures other { OnFalse result (HaveNameLengths graph.now 0 (length graph.now.vertices)
-        starts.now bytes.now → ⊥) }
+// Puts the names of a run into arrays of the right lengths.
+fn put_names(graph: &Graph, first: u32, count: u32, starts: &mut [u64], bytes: &mut [u8])
+    requires there { IsThere graph.now first count }
+    requires lengths { HaveNameLengths graph.now first count starts.old bytes.old }
+    ensures { AreNames graph.now first count starts.new bytes.new }
 {
-    starts.len() as u64 == u64::from(graph.n()) + 1 && bytes.len() as u64 == names_len(graph)
-}
-
-// Puts the names into arrays of the right lengths.
-fn put_names(graph: &Graph, starts: &mut [u64], bytes: &mut [u8])
-    requires { HaveNameLengths graph.now 0 (length graph.now.vertices) starts.old bytes.old }
-    ensures { AreNames graph.now 0 (length graph.now.vertices) starts.new bytes.new }
-{
+    prove!(first <= graph.n());
     let mut at = 0;
-    for v in 0..graph.n() {
-        starts[v as usize] = at as u64;
-        let name = graph.name(v).bytes();
+    for k in 0..count {
+        starts[k as usize] = at as u64;
+        let name = graph.name(first + k).bytes();
         put_bytes(bytes, at, name);
         at += name.len();
     }
-    starts[graph.n() as usize] = at as u64;
+    starts[count as usize] = at as u64;
 }

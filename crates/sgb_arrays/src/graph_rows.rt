@@ -1,25 +1,42 @@
-//! The lists of arcs of a graph, put into arrays one after another.
-ghost use Rattle.std.specs.Prelude.{◌≡◌, ◌≤◌, ◌<◌, ◌+◌, ◌^◌, length, map, OnOk, IfErr};
-ghost use Rattle.std.specs.Bool.{OnTrue, OnFalse};
+//! The lists of arcs of a run of a graph's vertices, put into arrays one after another.
+ghost use Rattle.std.specs.Prelude.{◌≡◌, ◌≤◌, ◌<◌, ◌+◌, ◌^◌, length, map, IfErr, IfOk, OnOk};
 ghost use Rattle.sgb_graph.specs.Graphs.{chain_of};
-ghost use Rattle.sgb_arrays.specs.Runs.{AreRows, HaveRowLengths, parts_of};
+ghost use Rattle.sgb_arrays.specs.Runs.{AreRows, AreTips, HaveRowLengths, HaveTipLengths, IsFillRefusal, IsThere, parts_of};
 ghost use Rattle.sgb_arrays.specs.inner.Puts.{put_from};
 ghost use Rattle.sgb_arrays.specs.inner.Sizes.{AreSizesFrom};
 ghost use Rattle.sgb_arrays.specs.declared.refusals.Wrong.TheVariants as wrong;
 
 use crate::refusals::Wrong;
+use crate::runs::{have_places, have_row_places, is_there};
 use sgb_graph::Graph;
 
-/// How many arcs are on the lists of a graph's vertices. No memory is taken.
-pub fn arcs_len(graph: &Graph) -> u128
-    ensures { result ≡ length (parts_of (chain_of graph.now) 0 (length graph.now.vertices)) }
+/// How many arcs are on the lists of `count` vertices of a graph, from vertex `first` on. No memory is taken.
+///
+/// `Vertices` where there are not so many vertices.
+pub fn arcs_len(graph: &Graph, first: u32, count: u32) -> Result<u128, Wrong>
+    ensures count { IfOk result (λ m. IsThere graph.now first count
+        × (m ≡ length (parts_of (chain_of graph.now) first count))) }
+    ensures refused { IfErr result (λ why. (why ≡ wrong.Vertices)
+        × (IsThere graph.now first count → ⊥)) }
 {
-    let mut count = 0;
-    let mut sizes = Sizes::from(graph, 0);
-    for v in 0..graph.n() {
-        count += u128::from(sizes.at(graph, v) as u64);
+    if !is_there(graph.n(), first, count) {
+        return Err(Wrong::Vertices);
     }
-    count
+    Ok(count_arcs(graph, first, count))
+}
+
+// How many arcs are on the lists of a run that is there.
+pub(crate) fn count_arcs(graph: &Graph, first: u32, count: u32) -> u128
+    requires { IsThere graph.now first count }
+    ensures { result ≡ length (parts_of (chain_of graph.now) first count) }
+{
+    prove!(first <= graph.n());
+    let mut arcs = 0;
+    let mut sizes = Sizes::from(graph, first);
+    for k in 0..count {
+        arcs += u128::from(sizes.at(graph, first + k) as u64);
+    }
+    arcs
 }
 
 // How many arcs are on the lists of a vertex and the seven after it, of which there may be fewer.
@@ -95,101 +112,117 @@ fn degree(graph: &Graph, v: u32) -> usize
     count.min(most)
 }
 
-/// Puts the lists of arcs of a graph into arrays, one list after another: where each list starts, and then where the last
-/// one ends; where each arc leads; its length. The list of vertex v is what stands from `starts[v]` up to `starts[v + 1]`.
-/// No memory is taken.
+/// Puts the lists of arcs of `count` vertices of a graph, from vertex `first` on, into arrays, one list after another: where
+/// each list starts, and then where the last one ends; where each arc leads; its length. The list of vertex k of them is what
+/// stands from `starts[k]` up to `starts[k + 1]`. No memory is taken.
 ///
-/// `Length` where there are not n + 1 starts, or not as many tips and lengths as arcs.
+/// `Vertices` where there are not so many vertices; else `Length` where there are not count + 1 starts, or not as many tips
+/// and lengths as arcs.
 pub fn fill_rows(
     graph: &Graph,
+    first: u32,
+    count: u32,
     starts: &mut [u64],
     tips: &mut [u32],
     lengths: &mut [i64],
 ) -> Result<(), Wrong>
-    ensures filled { OnOk result (HaveRowLengths graph.now 0 (length graph.now.vertices)
-        starts.old tips.old lengths.old
-        × AreRows graph.now 0 (length graph.now.vertices) starts.new tips.new lengths.new) }
-    ensures refused { IfErr result (λ why. (why ≡ wrong.Length)
-        × (HaveRowLengths graph.now 0 (length graph.now.vertices) starts.old tips.old
-        lengths.old → ⊥)
+    ensures filled { OnOk result (IsThere graph.now first count
+        × HaveRowLengths graph.now first count starts.old tips.old lengths.old
+        × AreRows graph.now first count starts.new tips.new lengths.new) }
+    ensures refused { IfErr result (λ why. IsFillRefusal graph.now first count
+        (HaveRowLengths graph.now first count starts.old tips.old lengths.old) ⊥ why
         × (starts.new ≡ starts.old) × (tips.new ≡ tips.old) × (lengths.new ≡ lengths.old)) }
 {
-    let arcs = arcs_len(graph);
-    fill_counted_rows(graph, arcs, starts, tips, lengths)
-}
-
-// Puts the lists of a graph into arrays, where so many arcs are on them.
-pub(crate) fn fill_counted_rows(
-    graph: &Graph,
-    arcs: u128,
-    starts: &mut [u64],
-    tips: &mut [u32],
-    lengths: &mut [i64],
-) -> Result<(), Wrong>
-    requires { arcs ≡ length (parts_of (chain_of graph.now) 0 (length graph.now.vertices)) }
-    ensures filled { OnOk result (HaveRowLengths graph.now 0 (length graph.now.vertices)
-        starts.old tips.old lengths.old
-        × AreRows graph.now 0 (length graph.now.vertices) starts.new tips.new lengths.new) }
-    ensures refused { IfErr result (λ why. (why ≡ wrong.Length)
-        × (HaveRowLengths graph.now 0 (length graph.now.vertices) starts.old tips.old
-        lengths.old → ⊥)
-        × (starts.new ≡ starts.old) × (tips.new ≡ tips.old) × (lengths.new ≡ lengths.old)) }
-{
-    if !have_row_lengths(graph, arcs, starts, tips, lengths) {
+    let arcs = arcs_len(graph, first, count)?;
+    if !have_row_places(starts.len(), tips.len(), lengths.len(), count, arcs) {
         return Err(Wrong::Length);
     }
-    put_rows(graph, starts, tips, lengths);
+    put_tips(graph, first, count, starts, tips);
+    put_lengths(graph, first, count, lengths);
     Ok(())
 }
 
-// Whether these arrays have the lengths that the lists of the graph must have, which have so many arcs.
-fn have_row_lengths(
+/// Puts the lists of arcs into arrays, as `fill_rows` does, without the lengths of the arcs. No memory is taken.
+///
+/// `Vertices` where there are not so many vertices; else `Length` where there are not count + 1 starts, or not as many tips
+/// as arcs.
+pub fn fill_tips(
     graph: &Graph,
-    arcs: u128,
-    starts: &[u64],
-    tips: &[u32],
-    lengths: &[i64],
-) -> bool
-    requires { arcs ≡ length (parts_of (chain_of graph.now) 0 (length graph.now.vertices)) }
-    ensures fits { OnTrue result (HaveRowLengths graph.now 0 (length graph.now.vertices)
-        starts.now tips.now lengths.now) }
-    ensures other { OnFalse result (HaveRowLengths graph.now 0 (length graph.now.vertices)
-        starts.now tips.now lengths.now → ⊥) }
-    ensures few { OnTrue result (arcs < 2 ^ 64) }
+    first: u32,
+    count: u32,
+    starts: &mut [u64],
+    tips: &mut [u32],
+) -> Result<(), Wrong>
+    ensures filled { OnOk result (IsThere graph.now first count
+        × HaveTipLengths graph.now first count starts.old tips.old
+        × AreTips graph.now first count starts.new tips.new) }
+    ensures refused { IfErr result (λ why. IsFillRefusal graph.now first count
+        (HaveTipLengths graph.now first count starts.old tips.old) ⊥ why
+        × (starts.new ≡ starts.old) × (tips.new ≡ tips.old)) }
 {
-    starts.len() as u64 == u64::from(graph.n()) + 1
-        && u128::from(tips.len() as u64) == arcs
-        && u128::from(lengths.len() as u64) == arcs
-}
-
-// Puts the lists of arcs into arrays of the right lengths.
-fn put_rows(graph: &Graph, starts: &mut [u64], tips: &mut [u32], lengths: &mut [i64])
-    requires { HaveRowLengths graph.now 0 (length graph.now.vertices) starts.old tips.old
-        lengths.old }
-    ensures { AreRows graph.now 0 (length graph.now.vertices) starts.new tips.new lengths.new }
-{
-    let mut at = 0;
-    for v in 0..graph.n() {
-        graph.read_ahead(v);
-        starts[v as usize] = at as u64;
-        at = put_row(graph, v, at, tips, lengths);
+    let arcs = arcs_len(graph, first, count)?;
+    if !have_places(starts.len(), tips.len(), count, arcs) {
+        return Err(Wrong::Length);
     }
-    starts[graph.n() as usize] = at as u64;
+    put_tips(graph, first, count, starts, tips);
+    Ok(())
 }
 
-// Puts the list of vertex v into the arrays, from a place on: the place after it.
-fn put_row(graph: &Graph, v: u32, at: usize, tips: &mut [u32], lengths: &mut [i64]) -> usize
+// Puts where the lists of a run start, and where their arcs lead, into arrays of the right lengths.
+fn put_tips(graph: &Graph, first: u32, count: u32, starts: &mut [u64], tips: &mut [u32])
+    requires there { IsThere graph.now first count }
+    requires lengths { HaveTipLengths graph.now first count starts.old tips.old }
+    ensures { AreTips graph.now first count starts.new tips.new }
+{
+    prove!(first <= graph.n());
+    let mut at = 0;
+    for k in 0..count {
+        graph.read_ahead(first + k);
+        starts[k as usize] = at as u64;
+        at = put_list_tips(graph, first + k, at, tips);
+    }
+    starts[count as usize] = at as u64;
+}
+
+// Puts where the arcs of vertex v lead into an array, from a place on: the place after them.
+fn put_list_tips(graph: &Graph, v: u32, at: usize, tips: &mut [u32]) -> usize
     requires vertex { v < length graph.now.vertices }
     requires tips { at + length (chain_of graph.now v) ≤ length tips.old }
-    requires lengths { at + length (chain_of graph.now v) ≤ length lengths.old }
     ensures end { result ≡ at + length (chain_of graph.now v) }
     ensures tips { tips.new ≡ put_from at (map (λ l. l.tip) (chain_of graph.now v)) tips.old }
+{
+    let mut place = at;
+    for link in graph.arcs(v) {
+        tips[place] = link.tip;
+        place += 1;
+    }
+    place
+}
+
+// Puts the lengths of the arcs of a run into an array of as many places.
+fn put_lengths(graph: &Graph, first: u32, count: u32, lengths: &mut [i64])
+    requires there { IsThere graph.now first count }
+    requires length { length lengths.old ≡ length (parts_of (chain_of graph.now) first count) }
+    ensures { lengths.new ≡ map (λ l. l.len) (parts_of (chain_of graph.now) first count) }
+{
+    prove!(first <= graph.n());
+    let mut at = 0;
+    for k in 0..count {
+        graph.read_ahead(first + k);
+        at = put_list_lengths(graph, first + k, at, lengths);
+    }
+}
+
+// Puts the lengths of the arcs of vertex v into an array, from a place on: the place after them.
+fn put_list_lengths(graph: &Graph, v: u32, at: usize, lengths: &mut [i64]) -> usize
+    requires vertex { v < length graph.now.vertices }
+    requires lengths { at + length (chain_of graph.now v) ≤ length lengths.old }
+    ensures end { result ≡ at + length (chain_of graph.now v) }
     ensures lengths { lengths.new
         ≡ put_from at (map (λ l. l.len) (chain_of graph.now v)) lengths.old }
 {
     let mut place = at;
     for link in graph.arcs(v) {
-        tips[place] = link.tip;
         lengths[place] = link.len;
         place += 1;
     }

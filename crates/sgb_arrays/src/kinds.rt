@@ -16,10 +16,20 @@ pub fn fill_kinds(graph: &Graph, letters: &mut [u8]) -> Result<(), Wrong>
     ensures refused { IfErr result (λ why. (why ≡ wrong.Length)
         × (length letters.old ≡ 14 → ⊥) × (letters.new ≡ letters.old)) }
 {
+    copy_letters(&graph.kinds(), letters)
+}
+
+// Puts the letters of kinds into an array, which has to have 14 places.
+pub(crate) fn copy_letters(kinds: &[Kind; 14], letters: &mut [u8]) -> Result<(), Wrong>
+    ensures filled { OnOk result ((length letters.old ≡ 14)
+        × (letters.new ≡ map letter_of kinds.now)) }
+    ensures refused { IfErr result (λ why. (why ≡ wrong.Length)
+        × (length letters.old ≡ 14 → ⊥) × (letters.new ≡ letters.old)) }
+{
     if letters.len() != 14 {
         return Err(Wrong::Length);
     }
-    put_letters(&graph.kinds(), letters);
+    put_letters(kinds, letters);
     Ok(())
 }
 

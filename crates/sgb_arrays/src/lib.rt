@@ -1,6 +1,6 @@
 //! Graphs as arrays: the lists of arcs in compressed sparse rows, the names one after another, utility fields, files and
-//! random numbers, each put into slices that the caller hands in; and the lists and the names of a run of vertices of a
-//! generator's graph, so many one after another, with no graph: so one of a thousand million vertices is gone through.
+//! random numbers, each put into slices that the caller hands in. Of all vertices, or of a run of them, so many one after
+//! another; a generator's graph need not be built for it: so one of a thousand million vertices is gone through.
 #![tactic(auto)]
 
 // Random numbers in an array.
@@ -9,9 +9,9 @@ mod draws;
 mod fields;
 // Files in arrays.
 mod files;
-// The names of a graph, put into arrays.
+// The names of a run of a graph, put into arrays.
 mod graph_names;
-// The lists of a graph, put into arrays.
+// The lists of a run of a graph, put into arrays.
 mod graph_rows;
 // The id in an array.
 mod ids;
@@ -21,6 +21,8 @@ mod kinds;
 mod laws;
 // Names as arrays.
 mod names;
+// Graphs that are open, built or not.
+mod open_graphs;
 // A graph with its lists of arcs as arrays.
 mod packed;
 // Values put from a place on.
@@ -29,22 +31,23 @@ mod puts;
 mod refusals;
 // Lists of arcs as arrays.
 mod rows;
-// The names of a run.
+// The names of a run of a generator's graph.
 mod run_names;
-// The lists of a run.
+// The lists of a run of a generator's graph.
 mod run_rows;
-// The vectors of a run.
+// Runs, and the vectors of one.
 mod runs;
 
 pub use draws::{fill_draws, fill_uniform_draws};
 pub use fields::fill_ints;
 pub use files::{file_len, fill_file};
 pub use graph_names::{fill_names, names_len};
-pub use graph_rows::{arcs_len, fill_rows};
+pub use graph_rows::{arcs_len, fill_rows, fill_tips};
 pub use ids::fill_id;
 pub use kinds::fill_kinds;
 pub use laws::{parts_law, runs_join_law};
 pub use names::Names;
+pub use open_graphs::OpenGraph;
 pub use packed::PackedGraph;
 pub use refusals::Wrong;
 pub use rows::Rows;

@@ -3,50 +3,48 @@
 //! Records lie far apart, so a walk over lists takes longer than all else that fetching does. To make the arrays makes
 //! opening longer by what it spares the first fetch, and who fetches twice walks once. In a file vertices may share
 //! records, so that a few stand on lists with any number of arcs. Then the arrays are not kept, so that a small file
-//! cannot take much memory: the arcs are counted, and each call walks the lists.
+//! cannot take much memory: each call walks the lists.
 ghost use Rattle.std.specs.Prelude.{◌≡◌, ◌++◌, ◌<◌, length, map, OnOk, IfErr, IfOk, IfSome, IsOkUnless};
 ghost use Rattle.std.specs.Bool.{OnTrue};
 ghost use Rattle.sgb_graph.specs.Graphs.{chain_of};
-ghost use Rattle.sgb_arrays.specs.Runs.{AreRows, HaveRowLengths, parts_of};
+ghost use Rattle.sgb_arrays.specs.Runs.{AreRows, AreTips, HaveRowLengths, HaveTipLengths, IsFillRefusal, IsThere, parts_of};
 ghost use Rattle.sgb_vec.specs.declared.panics.Panic.TheVariants as Panic;
 ghost use Rattle.sgb_arrays.specs.declared.refusals.Wrong.TheVariants as wrong;
 
-use crate::graph_rows::{arcs_len, fill_counted_rows};
+use crate::graph_rows::{arcs_len, fill_rows, fill_tips};
 use crate::refusals::Wrong;
 use crate::rows::Rows;
+use crate::runs::{have_places, have_row_places, is_there};
 use sgb_graph::Graph;
 use sgb_vec::Panic;
 use std::alloc::Global;
 use std::marker::Model;
 
-/// A graph with the number of arcs on the lists of its vertices, which is found once, and with these lists as arrays: so they
-/// are walked once, and then copied to whoever asks for them. Contracts see the graph.
+/// A graph with its lists of arcs as arrays: so they are walked once, and then copied to whoever asks for them. Contracts see
+/// the graph.
 #[derive(Drop)]
 pub struct PackedGraph {
     graph: Graph,
-    arcs: u128,
     // Its lists, unless vertices share records so that more arcs are on lists than there are records.
     rows: Option<Rows>,
 }
 
 impl Model for PackedGraph {
-    ghost use Rattle.std.specs.Prelude.{◌≡◌, length, IfSome};
-    ghost use Rattle.sgb_graph.specs.Graphs.{GraphData, chain_of};
-    ghost use Rattle.sgb_arrays.specs.Runs.{AreRows, parts_of};
+    ghost use Rattle.std.specs.Prelude.{length, IfSome};
+    ghost use Rattle.sgb_graph.specs.Graphs.{GraphData};
+    ghost use Rattle.sgb_arrays.specs.Runs.{AreRows};
 
     ghost Value = { GraphData };
 
     ghost view = { λ p. p.graph };
 
-    ghost invariant = { λ p.
-        (p.arcs ≡ length (parts_of (chain_of p.graph) 0 (length p.graph.vertices)))
-        × IfSome p.rows (λ rows. AreRows p.graph 0 (length p.graph.vertices) rows.starts.items
-        rows.tips.items rows.lengths.items) };
+    ghost invariant = { λ p. IfSome p.rows (λ rows. AreRows p.graph 0 (length p.graph.vertices)
+        rows.starts.items rows.tips.items rows.lengths.items) };
 }
 
 impl PackedGraph {
-    /// Counts the arcs on the lists of the graph, and puts them into arrays: twelve bytes for each arc, and eight for each
-    /// vertex. Lists that share so many records that they have more arcs than the graph has records are not put there.
+    /// Puts the lists of the graph into arrays: twelve bytes for each arc, and eight for each vertex. Lists that share so many
+    /// records that they have more arcs than the graph has records are not put there.
     ///
     /// `NoRoom` out of memory.
     pub fn new(alloc: Global, graph: Graph) -> Result<PackedGraph, Panic>
@@ -54,8 +52,7 @@ impl PackedGraph {
         ensures memory { IsOkUnless result Panic.NoRoom }
     {
         let rows = packed_rows(alloc, &graph)?;
-        let arcs = count_of(&graph, &rows);
-        Ok(PackedGraph { graph, arcs, rows })
+        Ok(PackedGraph { graph, rows })
     }
 
     /// The graph.
@@ -65,35 +62,143 @@ impl PackedGraph {
         &self.graph
     }
 
-    /// How many arcs are on the lists of its vertices, as `arcs_len` says, at once.
-    pub fn arcs_len(&self) -> u128
-        ensures { result ≡ length (parts_of (chain_of self.now) 0 (length self.now.vertices)) }
+    /// How many arcs are on the lists of `count` vertices, from vertex `first` on, as `arcs_len` says; at once, unless vertices
+    /// share records.
+    ///
+    /// `Vertices` where there are not so many vertices.
+    pub fn arcs_len(&self, first: u32, count: u32) -> Result<u128, Wrong>
+        ensures count { IfOk result (λ m. IsThere self.now first count
+            × (m ≡ length (parts_of (chain_of self.now) first count))) }
+        ensures refused { IfErr result (λ why. (why ≡ wrong.Vertices)
+            × (IsThere self.now first count → ⊥)) }
     {
-        self.arcs
+        match &self.rows {
+            Some(rows) => count_rows(&self.graph, rows, first, count),
+            None => arcs_len(&self.graph, first, count),
+        }
     }
 
-    /// Puts its lists of arcs into arrays, as `fill_rows` does. No memory is taken.
+    /// Puts the lists of arcs of a run into arrays, as `fill_rows` does. No memory is taken.
     ///
-    /// `Length` where there are not n + 1 starts, or not as many tips and lengths as arcs.
+    /// Refused as it is.
     pub fn fill_rows(
         &self,
+        first: u32,
+        count: u32,
         starts: &mut [u64],
         tips: &mut [u32],
         lengths: &mut [i64],
     ) -> Result<(), Wrong>
-        ensures filled { OnOk result (HaveRowLengths self.now 0 (length self.now.vertices)
-            starts.old tips.old lengths.old
-            × AreRows self.now 0 (length self.now.vertices) starts.new tips.new lengths.new) }
-        ensures refused { IfErr result (λ why. (why ≡ wrong.Length)
-            × (HaveRowLengths self.now 0 (length self.now.vertices) starts.old tips.old
-            lengths.old → ⊥)
+        ensures filled { OnOk result (IsThere self.now first count
+            × HaveRowLengths self.now first count starts.old tips.old lengths.old
+            × AreRows self.now first count starts.new tips.new lengths.new) }
+        ensures refused { IfErr result (λ why. IsFillRefusal self.now first count
+            (HaveRowLengths self.now first count starts.old tips.old lengths.old) ⊥ why
             × (starts.new ≡ starts.old) × (tips.new ≡ tips.old) × (lengths.new ≡ lengths.old)) }
     {
         match &self.rows {
-            Some(rows) => rows.copy_to(starts, tips, lengths),
-            None => fill_counted_rows(&self.graph, self.arcs, starts, tips, lengths),
+            Some(rows) => copy_rows(&self.graph, rows, first, count, starts, tips, lengths),
+            None => fill_rows(&self.graph, first, count, starts, tips, lengths),
         }
     }
+
+    /// The same without the lengths of the arcs, as `fill_tips` does. No memory is taken.
+    ///
+    /// Refused as it is.
+    pub fn fill_tips(
+        &self,
+        first: u32,
+        count: u32,
+        starts: &mut [u64],
+        tips: &mut [u32],
+    ) -> Result<(), Wrong>
+        ensures filled { OnOk result (IsThere self.now first count
+            × HaveTipLengths self.now first count starts.old tips.old
+            × AreTips self.now first count starts.new tips.new) }
+        ensures refused { IfErr result (λ why. IsFillRefusal self.now first count
+            (HaveTipLengths self.now first count starts.old tips.old) ⊥ why
+            × (starts.new ≡ starts.old) × (tips.new ≡ tips.old)) }
+    {
+        match &self.rows {
+            Some(rows) => copy_tips(&self.graph, rows, first, count, starts, tips),
+            None => fill_tips(&self.graph, first, count, starts, tips),
+        }
+    }
+}
+
+// How many arcs are on the lists of a run, out of those of the graph.
+fn count_rows(graph: &Graph, rows: &Rows, first: u32, count: u32) -> Result<u128, Wrong>
+    requires { AreRows graph.now 0 (length graph.now.vertices) rows.now.starts.items
+        rows.now.tips.items rows.now.lengths.items }
+    ensures count { IfOk result (λ m. IsThere graph.now first count
+        × (m ≡ length (parts_of (chain_of graph.now) first count))) }
+    ensures refused { IfErr result (λ why. (why ≡ wrong.Vertices)
+        × (IsThere graph.now first count → ⊥)) }
+{
+    if !is_there(graph.n(), first, count) {
+        return Err(Wrong::Vertices);
+    }
+    Ok(u128::from(rows.arcs_in(first, count)))
+}
+
+// Copies the lists of a run out of those of the graph into arrays of their lengths.
+fn copy_rows(
+    graph: &Graph,
+    rows: &Rows,
+    first: u32,
+    count: u32,
+    starts: &mut [u64],
+    tips: &mut [u32],
+    lengths: &mut [i64],
+) -> Result<(), Wrong>
+    requires { AreRows graph.now 0 (length graph.now.vertices) rows.now.starts.items
+        rows.now.tips.items rows.now.lengths.items }
+    ensures filled { OnOk result (IsThere graph.now first count
+        × HaveRowLengths graph.now first count starts.old tips.old lengths.old
+        × AreRows graph.now first count starts.new tips.new lengths.new) }
+    ensures refused { IfErr result (λ why. IsFillRefusal graph.now first count
+        (HaveRowLengths graph.now first count starts.old tips.old lengths.old) ⊥ why
+        × (starts.new ≡ starts.old) × (tips.new ≡ tips.old) × (lengths.new ≡ lengths.old)) }
+{
+    if !is_there(graph.n(), first, count) {
+        return Err(Wrong::Vertices);
+    }
+    let arcs = u128::from(rows.arcs_in(first, count));
+    if !have_row_places(starts.len(), tips.len(), lengths.len(), count, arcs) {
+        return Err(Wrong::Length);
+    }
+    rows.put_cut_tips(first, count, starts, tips);
+    rows.put_cut_lengths(first, count, lengths);
+    Ok(())
+}
+
+// The same without the lengths of the arcs.
+fn copy_tips(
+    graph: &Graph,
+    rows: &Rows,
+    first: u32,
+    count: u32,
+    starts: &mut [u64],
+    tips: &mut [u32],
+) -> Result<(), Wrong>
+    requires { AreRows graph.now 0 (length graph.now.vertices) rows.now.starts.items
+        rows.now.tips.items rows.now.lengths.items }
+    ensures filled { OnOk result (IsThere graph.now first count
+        × HaveTipLengths graph.now first count starts.old tips.old
+        × AreTips graph.now first count starts.new tips.new) }
+    ensures refused { IfErr result (λ why. IsFillRefusal graph.now first count
+        (HaveTipLengths graph.now first count starts.old tips.old) ⊥ why
+        × (starts.new ≡ starts.old) × (tips.new ≡ tips.old)) }
+{
+    if !is_there(graph.n(), first, count) {
+        return Err(Wrong::Vertices);
+    }
+    let arcs = u128::from(rows.arcs_in(first, count));
+    if !have_places(starts.len(), tips.len(), count, arcs) {
+        return Err(Wrong::Length);
+    }
+    rows.put_cut_tips(first, count, starts, tips);
+    Ok(())
 }
 
 // The lists of a graph, by one walk: lists are followed eight side by side, and then put while their records are at hand.
@@ -135,17 +240,5 @@ impl Rows {
             self.lengths.push(link.len)?;
         }
         Ok(true)
-    }
-}
-
-// How many arcs are on the lists of a graph: where they are kept, as many as are.
-fn count_of(graph: &Graph, rows: &Option<Rows>) -> u128
-    requires { IfSome rows.now (λ kept. AreRows graph.now 0 (length graph.now.vertices)
-        kept.starts.items kept.tips.items kept.lengths.items) }
-    ensures { result ≡ length (parts_of (chain_of graph.now) 0 (length graph.now.vertices)) }
-{
-    match rows {
-        Some(rows) => u128::from(rows.tips.len() as u64),
-        None => arcs_len(graph),
     }
 }

@@ -5,7 +5,5 @@ pub mod Named
 pub mod LooseValues
 -- the types of a box that is taken apart and made again
 pub mod BoxTypes
--- what calls that copy chunks answer
+-- what calls on a graph answer
 pub mod Answered
--- the graph of a generator's call, and chunks of it
-pub mod CallGraphs

@@ -1,16 +1,16 @@
 -- What a call answers: a number, and what it leaves in the arrays that it is handed.
-use Rattle.std.specs.Prelude.{◌≡◌, ◌⊎◌, ◌-◌, ◌^◌, ℕ, ◌+◌, min, List, length, Result, Ok, Err}
+use Rattle.std.specs.Prelude.{◌≡◌, ◌⊎◌, ℕ, ◌+◌, List, length, Result, Ok, Err}
 use Rattle.sgb_vec.specs.Codes.{code_of}
 use Rattle.sgb_vec.specs.declared.panics.Panic.{Panic}
 use Rattle.sgb_vec.specs.declared.panics.Panic.TheVariants.{NoRoom}
-use Rattle.sgb_graph.specs.Graphs.{GraphData, chain_of}
+use Rattle.sgb_graph.specs.Graphs.{GraphData}
 use Rattle.sgb_expr.specs.Expression.{Expression}
 use Rattle.sgb_expr.specs.Expressions.{IsExpression, IsExpressionRead, IsTooLarge}
 use Rattle.sgb_expr.specs.declared.expressions.Unread.{Unread}
 use Rattle.sgb_expr.specs.declared.expressions.Unread.TheVariants as unread
 use Rattle.sgb_values.specs.Values.{IsValueOn}
-use Rattle.sgb_arrays.specs.Fields.{HoldsInts}
-use Rattle.sgb_arrays.specs.Runs.{name_at, parts_of}
+use Rattle.sgb_arrays.specs.declared.refusals.Wrong.{Wrong}
+use Rattle.sgb_arrays.specs.declared.refusals.Wrong.TheVariants as wrong
 use Rattle.sgb_c.specs.declared.answers.Answer.{Answer}
 use Rattle.sgb_c.specs.declared.answers.Answer.TheVariants as answer
 use Rattle.sgb_c.specs.declared.Sizes.{Sizes}
@@ -26,7 +26,6 @@ number_of answer.Bound = 103
 number_of answer.AlreadyOpen = 104
 number_of answer.NotOpen = 105
 number_of answer.Vertices = 106
-number_of answer.NoGenerator = 107
 number_of (answer.BadExpression k) = 1000 + k
 
 -- the answer where a text is not read
@@ -52,15 +51,23 @@ IsGraphNamed text input (Err why) = IsTextRefusal text why ⊎ ((p : Panic) × (
 abbrev pub nothing_misfits : GraphData → Answer → Type 0
 nothing_misfits g why = ⊥
 
--- what does not fit: a field that holds no integers; or it does, and the array has another length than it must have
-abbrev pub IsIntsMisfit : GraphData → ℕ → ℕ → Answer → Type 0
-IsIntsMisfit g field size why =
-    ((why ≡ answer.Field) × (HoldsInts g field → ⊥)) ⊎ ((why ≡ answer.Length) × HoldsInts g field × (size ≡ length g.vertices → ⊥))
+-- the answer where an array is not filled, or a number is not told
+abbrev pub answer_of_wrong : Wrong → Answer
+answer_of_wrong wrong.Length = answer.Length
+answer_of_wrong wrong.Field = answer.Field
+answer_of_wrong wrong.Bound = answer.Bound
+answer_of_wrong wrong.Vertices = answer.Vertices
+answer_of_wrong wrong.NoRoom = answer.Panic NoRoom
 
--- the sizes of the arrays of a graph
+-- this is the answer for one of these causes
+abbrev pub IsAnswerFor : (Wrong → Type 0) → Answer → Type 0
+IsAnswerFor Cause why = (cause : Wrong) × Cause cause × (why ≡ answer_of_wrong cause)
+
+-- memory ran out, where this takes some
+abbrev pub IsOutOfMemory : (memory : Type 0) → Answer → Type 0
+IsOutOfMemory memory why = (why ≡ answer.Panic NoRoom) × memory
+
+-- the sizes of a graph
 pub record AreSizes (g : GraphData) (sizes : Sizes) : Type 0 where
   pub vertices : sizes.vertices ≡ length g.vertices
-  pub arcs : sizes.arcs ≡ g.m
-  pub listed : sizes.listed ≡ min (length (parts_of (chain_of g) 0 (length g.vertices))) (2 ^ 64 - 1)
-  pub names : sizes.names ≡ length (parts_of (name_at g) 0 (length g.vertices))
   pub id : sizes.id ≡ length g.id

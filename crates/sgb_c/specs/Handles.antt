@@ -1,7 +1,8 @@
 -- What a handle holds, and what a call on it answers.
-use Rattle.std.specs.Prelude.{◌≡◌, ◌⊎◌, ℕ, List, Option, Some, None, Ok, Err}
+use Rattle.std.specs.Prelude.{◌≡◌, ◌⊎◌, ℕ, List, Option, Some, None, IsSomeAnd, Ok, Err}
 use Rattle.std.specs.Option.{option_map}
 use Rattle.sgb_graph.specs.Graphs.{GraphData}
+use Rattle.sgb_arrays.specs.OpenGraphs.{IsListed, graph_open}
 use Rattle.sgb_c.specs.Answers.{IsGraphNamed, number_of}
 use Rattle.sgb_c.specs.declared.answers.Answer.{Answer}
 use Rattle.sgb_c.specs.declared.answers.Answer.TheVariants.{Done, AlreadyOpen, NotOpen}
@@ -9,7 +10,11 @@ use Rattle.sgb_c.specs.declared.handles.GraphHandle.{GraphHandle}
 
 -- the graph that a handle holds, if one is open
 abbrev pub graph_in : GraphHandle → Option GraphData
-graph_in handle = option_map (λ h. h.graph) handle.held.value
+graph_in handle = option_map (λ h. graph_open h.graph) handle.held.value
+
+-- it is held and not built, so a call on it may take memory
+abbrev pub IsListedIn : GraphHandle → Type 0
+IsListedIn handle = IsSomeAnd handle.held.value (λ h. IsListed h.graph)
 
 -- Opening the graph that a text names answers this number: that it is done, and the handle holds it; or why there is no graph,
 -- which includes want of memory, and the handle is as it was; or that another graph is open, which stays.

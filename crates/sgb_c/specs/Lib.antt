@@ -5,7 +5,5 @@ pub mod Answers
 pub mod Owns
 -- what a handle holds, and what a call on it answers
 pub mod Handles
--- generators' graphs that are not built
-pub mod Families
 -- what no public contract needs
 pub mod inner

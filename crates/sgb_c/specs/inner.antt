@@ -1,7 +1,5 @@
 -- What only the private contracts and the proofs of sgb_c speak of.
 -- what is answered for causes of the libraries below
 pub mod Causes
--- chunks that are not there
-pub mod ChunkRefusals
 -- a graph that a handle lends
 pub mod Lending

@@ -26,10 +26,8 @@ pub enum Answer {
     AlreadyOpen,
     /// The handle holds no graph.
     NotOpen,
-    /// Vertices of the chunk are none of the graph.
+    /// Vertices of the run are none of the graph.
     Vertices,
-    /// The text is another expression than a generator's call.
-    NoGenerator,
     /// The text is no expression; its longest prefix that begins one has this many bytes.
     BadExpression(u32),
 }
@@ -49,7 +47,6 @@ impl Answer {
             Answer::AlreadyOpen => 104,
             Answer::NotOpen => 105,
             Answer::Vertices => 106,
-            Answer::NoGenerator => 107,
             Answer::BadExpression(k) => 1000 + u64::from(k),
         }
     }
@@ -93,7 +90,7 @@ impl From<Unread> for Answer {
 
 impl From<Wrong> for Answer {
     ghost use Rattle.std.specs.Prelude.{◌≡◌};
-    ghost use Rattle.sgb_c.specs.inner.Causes.{answer_of_wrong};
+    ghost use Rattle.sgb_c.specs.Answers.{answer_of_wrong};
 
     ghost from_gives = { λ wrong a. a ≡ answer_of_wrong wrong };
 

@@ -8,15 +8,15 @@
 ghost use Rattle.std.specs.Prelude.{◌≡◌, Option, Some, None, is_some, true};
 ghost use Rattle.sgb_c.specs.declared.held.Held.{Held};
 
-use sgb_arrays::PackedGraph;
+use sgb_arrays::OpenGraph;
 use std::alloc::Global;
 use std::marker::Model;
 
 /// A graph in a block of its own.
 #[derive(Drop)]
 pub struct Held {
-    /// The graph, with its lists of arcs as arrays.
-    pub graph: PackedGraph,
+    /// The graph, built or not.
+    pub graph: OpenGraph,
 }
 
 /// The pointer to a graph that is held, or to none. Only the ghost field says which: code that needs to know keeps a flag

@@ -1,23 +1,27 @@
 //! The library for C: graphs by the official names of the Stanford GraphBase, as arrays that the caller hands in. Its
 //! exports are the calls of `include/sgb.h`; each calls a function of the libraries below, and states its clauses again. A
-//! graph is made once and held by a handle until it is closed.
+//! graph is held by a handle until it is closed. Arrays are of a run of its vertices: so many one after another.
 #![tactic(auto)]
 
-ghost use Rattle.std.specs.Prelude.{◌≡◌, ◌⊎◌, ◌≤◌, ◌-◌, ◌^◌, length, map, min, None};
+ghost use Rattle.std.specs.Prelude.{◌≡◌, ◌⊎◌, ◌≤◌, ◌+◌, ◌-◌, ◌^◌, length, map, min, None};
 ghost use Rattle.sgb_file.specs.Saving.{text_of_graph};
 ghost use Rattle.sgb_graph.specs.Graphs.{chain_of};
 ghost use Rattle.sgb_graph.specs.Draws.{modulus, plain_draws, seed_of, uniform_draws};
 ghost use Rattle.sgb_graph.specs.Kinds.{letter_of};
-ghost use Rattle.sgb_arrays.specs.Fields.{HoldsInts, ints_of};
-ghost use Rattle.sgb_arrays.specs.Runs.{AreNames, AreRows, HaveNameLengths, HaveRowLengths, IsThere, name_at, parts_of};
-ghost use Rattle.sgb_c.specs.Answers.{AreSizes, IsIntsMisfit, nothing_misfits, number_of};
-ghost use Rattle.sgb_c.specs.Families.{IsAnswerOfCall, IsMisfit};
-ghost use Rattle.sgb_c.specs.Handles.{IsAnswerOn, IsOpened, graph_in};
+ghost use Rattle.sgb_arrays.specs.Fields.{HoldsInts, IsIntsRefusal, ints_of};
+ghost use Rattle.sgb_arrays.specs.OpenGraphs.{IsFileRefusal};
+ghost use Rattle.sgb_arrays.specs.Runs.{AreNames, AreRows, AreTips, HaveNameLengths, HaveRowLengths, HaveTipLengths, IsFillRefusal, IsSizeRefusal, IsThere, name_at, parts_of};
+ghost use Rattle.sgb_vec.specs.declared.panics.Panic.{Panic};
+ghost use Rattle.sgb_vec.specs.declared.panics.Panic.TheVariants as panic;
+ghost use Rattle.sgb_gen.specs.declared.params.Generator.{Generator};
+ghost use Rattle.sgb_expr.specs.Expression.{Expression, Generated};
+ghost use Rattle.sgb_expr.specs.Expressions.{IsExpression, IsTooLarge};
+ghost use Rattle.sgb_values.specs.FirstRefusals.{IsRefusedFirst};
+ghost use Rattle.sgb_c.specs.Answers.{AreSizes, IsAnswerFor, IsOutOfMemory, nothing_misfits, number_of};
+ghost use Rattle.sgb_c.specs.Handles.{IsAnswerOn, IsListedIn, IsOpened, graph_in};
 
 // What calls answer, and the numbers of it.
 mod answers;
-// The graph of a generator's call, which is not built.
-mod families;
 // The handle of a graph.
 mod handles;
 // A graph that C holds.
@@ -26,35 +30,37 @@ mod held;
 mod texts;
 
 use answers::Answer;
-use families::{arcs_of_call, names_of_call, rows_of_call, sizes_of_chunk, vertices_of_call};
 use handles::GraphHandle;
-use sgb_arrays::{
-    PackedGraph, file_len, fill_draws, fill_file, fill_id, fill_ints, fill_kinds, fill_names,
-    fill_uniform_draws, names_len,
-};
+use sgb_arrays::{fill_draws, fill_uniform_draws};
 use std::alloc::Global;
 use texts::held_graph;
 
-/// How large the arrays of a graph are.
+// The version of the library, 1.0.0: 1000000 for each major number, 1000 for each minor one.
+const VERSION: u64 = 1_000_000;
+
+/// How large a graph is.
 #[repr(C)]
 #[derive(Drop)]
 pub struct Sizes {
     /// The number of vertices.
     pub vertices: u64,
-    /// The number of arcs that the graph counts.
-    pub arcs: u64,
-    /// The number of arcs on the lists of its vertices, or 2^64 - 1 where there are more.
-    pub listed: u64,
-    /// The number of bytes of all names.
-    pub names: u64,
     /// The number of bytes of its id.
     pub id: u64,
 }
 
-/// Opens the graph that a text names, where `input` is what its `stdin` reads.
+/// Opens the graph that a text names, where `input` is what its `stdin` reads. That of a generator's call is not built: its
+/// accepted parameters are kept.
 #[unsafe(no_mangle)]
 pub extern "C" fn sgb_open(alloc: Global, text: &[u8], input: &[u8], graph: &mut GraphHandle) -> u64
-    ensures { IsOpened text.now input.now (graph_in graph.old) (graph_in graph.new) result }
+    ensures opened { IsOpened text.now input.now (graph_in graph.old) (graph_in graph.new) result }
+    ensures built { graph_in graph.old ≡ None → IsListedIn graph.new
+        → (f : Generator) × IsExpression text.now (Generated f) }
+    ensures large { graph_in graph.old ≡ None → IsTooLarge text.now
+        → result ≡ number_of Answer.TooLarge }
+    ensures first { (e : Expression) (p : Panic) → graph_in graph.old ≡ None
+        → IsExpression text.now e → (IsTooLarge text.now → ⊥) → IsRefusedFirst input.now e p
+        → (result ≡ number_of (Answer.Panic p))
+        ⊎ (result ≡ number_of (Answer.Panic panic.NoRoom)) }
 {
     if graph.is_open() {
         return Answer::AlreadyOpen.number();
@@ -76,73 +82,214 @@ pub extern "C" fn sgb_close(alloc: Global, graph: &mut GraphHandle)
     let _closed = graph.take(alloc);
 }
 
-/// The sizes of the graph that is open.
+/// The sizes of the graph that is open. No memory is taken.
 #[unsafe(no_mangle)]
 pub extern "C" fn sgb_sizes(graph: &mut GraphHandle, sizes: &mut Sizes) -> u64
-    ensures answer { IsAnswerOn (graph_in graph.old) (λ g. AreSizes g sizes.new) nothing_misfits
+    ensures answer { IsAnswerOn (graph_in graph.old)
+        (λ g. AreSizes g sizes.new)
+        nothing_misfits
         (sizes.new ≡ sizes.old) result }
-    ensures kept { graph_in graph.new ≡ graph_in graph.old }
+    ensures kept { graph.new.held.value ≡ graph.old.held.value }
 {
     match graph.lend() {
         Some(held) => {
-            *sizes = sizes_of(&held.graph);
+            *sizes = Sizes {
+                vertices: u64::from(held.graph.n()),
+                id: held.graph.id_len() as u64,
+            };
             Answer::Done.number()
         }
         None => Answer::NotOpen.number(),
     }
 }
 
-/// The lists of the graph that is open, in compressed sparse rows.
+/// How many arcs the graph that is open counts, where an edge counts as two: 2^64 - 1 also where there are more.
+#[unsafe(no_mangle)]
+pub extern "C" fn sgb_arcs(alloc: Global, graph: &mut GraphHandle, arcs: &mut u64) -> u64
+    ensures answer { IsAnswerOn (graph_in graph.old)
+        (λ g. arcs.new ≡ min g.m (2 ^ 64 - 1))
+        (λ g. IsOutOfMemory (IsListedIn graph.old))
+        (arcs.new ≡ arcs.old) result }
+    ensures kept { graph.new.held.value ≡ graph.old.held.value }
+{
+    match graph.lend() {
+        Some(held) => match held.graph.m(alloc) {
+            Ok(m) => {
+                *arcs = m.min(u128::from(u64::MAX)) as u64;
+                Answer::Done.number()
+            }
+            Err(cause) => Answer::from(cause).number(),
+        },
+        None => Answer::NotOpen.number(),
+    }
+}
+
+/// How many arcs are on the lists of a run of the graph that is open, which are its `count` vertices from `first` on: 2^64 - 1 also
+/// where there are more.
+#[unsafe(no_mangle)]
+pub extern "C" fn sgb_rows_size(
+    alloc: Global,
+    graph: &mut GraphHandle,
+    first: u32,
+    count: u32,
+    arcs: &mut u64,
+) -> u64
+    ensures answer { IsAnswerOn (graph_in graph.old)
+        (λ g. IsThere g first count
+        × (arcs.new ≡ min (length (parts_of (chain_of g) first count)) (2 ^ 64 - 1)))
+        (λ g. IsAnswerFor (IsSizeRefusal g first count (IsListedIn graph.old)))
+        (arcs.new ≡ arcs.old) result }
+    ensures kept { graph.new.held.value ≡ graph.old.held.value }
+{
+    match graph.lend() {
+        Some(held) => match held.graph.arcs_len(alloc, first, count) {
+            Ok(listed) => {
+                *arcs = listed.min(u128::from(u64::MAX)) as u64;
+                Answer::Done.number()
+            }
+            Err(cause) => Answer::from(cause).number(),
+        },
+        None => Answer::NotOpen.number(),
+    }
+}
+
+/// How many bytes the names of a run have.
+#[unsafe(no_mangle)]
+pub extern "C" fn sgb_names_size(
+    alloc: Global,
+    graph: &mut GraphHandle,
+    first: u32,
+    count: u32,
+    bytes: &mut u64,
+) -> u64
+    ensures answer { IsAnswerOn (graph_in graph.old)
+        (λ g. IsThere g first count
+        × (bytes.new ≡ length (parts_of (name_at g) first count)))
+        (λ g. IsAnswerFor (IsSizeRefusal g first count (IsListedIn graph.old)))
+        (bytes.new ≡ bytes.old) result }
+    ensures kept { graph.new.held.value ≡ graph.old.held.value }
+{
+    match graph.lend() {
+        Some(held) => match held.graph.names_len(alloc, first, count) {
+            Ok(names) => {
+                *bytes = names;
+                Answer::Done.number()
+            }
+            Err(cause) => Answer::from(cause).number(),
+        },
+        None => Answer::NotOpen.number(),
+    }
+}
+
+/// The lists of a run of the graph that is open, in compressed sparse rows.
 #[unsafe(no_mangle)]
 pub extern "C" fn sgb_rows(
+    alloc: Global,
     graph: &mut GraphHandle,
+    first: u32,
+    count: u32,
     starts: &mut [u64],
     tips: &mut [u32],
     lengths: &mut [i64],
 ) -> u64
     ensures answer { IsAnswerOn (graph_in graph.old)
-        (λ g. HaveRowLengths g 0 (length g.vertices) starts.old tips.old lengths.old
-        × AreRows g 0 (length g.vertices) starts.new tips.new lengths.new)
-        (λ g why. (why ≡ Answer.Length)
-        × (HaveRowLengths g 0 (length g.vertices) starts.old tips.old lengths.old → ⊥))
+        (λ g. IsThere g first count
+        × HaveRowLengths g first count starts.old tips.old lengths.old
+        × AreRows g first count starts.new tips.new lengths.new)
+        (λ g. IsAnswerFor (IsFillRefusal g first count
+        (HaveRowLengths g first count starts.old tips.old lengths.old)
+        (IsListedIn graph.old × (length starts.old ≡ count + 1))))
         ((starts.new ≡ starts.old) × (tips.new ≡ tips.old) × (lengths.new ≡ lengths.old)) result }
-    ensures kept { graph_in graph.new ≡ graph_in graph.old }
+    ensures kept { graph.new.held.value ≡ graph.old.held.value }
 {
     match graph.lend() {
-        Some(held) => Answer::of_filling(held.graph.fill_rows(starts, tips, lengths)).number(),
+        Some(held) => {
+            let filling = held.graph.fill_rows(alloc, first, count, starts, tips, lengths);
+            Answer::of_filling(filling).number()
+        }
         None => Answer::NotOpen.number(),
     }
 }
 
-/// The names of the vertices of the graph that is open.
+/// The lists of a run without the lengths of the arcs.
 #[unsafe(no_mangle)]
-pub extern "C" fn sgb_names(graph: &mut GraphHandle, starts: &mut [u64], bytes: &mut [u8]) -> u64
+pub extern "C" fn sgb_tips(
+    alloc: Global,
+    graph: &mut GraphHandle,
+    first: u32,
+    count: u32,
+    starts: &mut [u64],
+    tips: &mut [u32],
+) -> u64
     ensures answer { IsAnswerOn (graph_in graph.old)
-        (λ g. HaveNameLengths g 0 (length g.vertices) starts.old bytes.old
-        × AreNames g 0 (length g.vertices) starts.new bytes.new)
-        (λ g why. (why ≡ Answer.Length)
-        × (HaveNameLengths g 0 (length g.vertices) starts.old bytes.old → ⊥))
+        (λ g. IsThere g first count
+        × HaveTipLengths g first count starts.old tips.old
+        × AreTips g first count starts.new tips.new)
+        (λ g. IsAnswerFor (IsFillRefusal g first count
+        (HaveTipLengths g first count starts.old tips.old)
+        (IsListedIn graph.old × (length starts.old ≡ count + 1))))
+        ((starts.new ≡ starts.old) × (tips.new ≡ tips.old)) result }
+    ensures kept { graph.new.held.value ≡ graph.old.held.value }
+{
+    match graph.lend() {
+        Some(held) => {
+            let filling = held.graph.fill_tips(alloc, first, count, starts, tips);
+            Answer::of_filling(filling).number()
+        }
+        None => Answer::NotOpen.number(),
+    }
+}
+
+/// The names of the vertices of a run.
+#[unsafe(no_mangle)]
+pub extern "C" fn sgb_names(
+    alloc: Global,
+    graph: &mut GraphHandle,
+    first: u32,
+    count: u32,
+    starts: &mut [u64],
+    bytes: &mut [u8],
+) -> u64
+    ensures answer { IsAnswerOn (graph_in graph.old)
+        (λ g. IsThere g first count
+        × HaveNameLengths g first count starts.old bytes.old
+        × AreNames g first count starts.new bytes.new)
+        (λ g. IsAnswerFor (IsFillRefusal g first count
+        (HaveNameLengths g first count starts.old bytes.old)
+        (IsListedIn graph.old × (length starts.old ≡ count + 1))))
         ((starts.new ≡ starts.old) × (bytes.new ≡ bytes.old)) result }
-    ensures kept { graph_in graph.new ≡ graph_in graph.old }
+    ensures kept { graph.new.held.value ≡ graph.old.held.value }
 {
     match graph.lend() {
-        Some(held) => Answer::of_filling(fill_names(held.graph.graph(), starts, bytes)).number(),
+        Some(held) => {
+            let filling = held.graph.fill_names(alloc, first, count, starts, bytes);
+            Answer::of_filling(filling).number()
+        }
         None => Answer::NotOpen.number(),
     }
 }
 
-/// The integers in a utility field of the vertices of the graph that is open: of u v w x y z, from 0.
+/// The integers in a utility field of the vertices of a run: of u v w x y z, from 0.
 #[unsafe(no_mangle)]
-pub extern "C" fn sgb_ints(graph: &mut GraphHandle, field: u32, values: &mut [i64]) -> u64
+pub extern "C" fn sgb_ints(
+    graph: &mut GraphHandle,
+    field: u32,
+    first: u32,
+    count: u32,
+    values: &mut [i64],
+) -> u64
     ensures answer { IsAnswerOn (graph_in graph.old)
-        (λ g. HoldsInts g field × (length values.old ≡ length g.vertices)
-        × (values.new ≡ ints_of g field))
-        (λ g why. IsIntsMisfit g field (length values.old) why)
+        (λ g. IsThere g first count × HoldsInts g field
+        × (length values.old ≡ count) × (values.new ≡ ints_of g field first count))
+        (λ g. IsAnswerFor (IsIntsRefusal g field first count (length values.old)))
         (values.new ≡ values.old) result }
-    ensures kept { graph_in graph.new ≡ graph_in graph.old }
+    ensures kept { graph.new.held.value ≡ graph.old.held.value }
 {
     match graph.lend() {
-        Some(held) => Answer::of_filling(fill_ints(held.graph.graph(), field, values)).number(),
+        Some(held) => {
+            let filling = held.graph.fill_ints(field, first, count, values);
+            Answer::of_filling(filling).number()
+        }
         None => Answer::NotOpen.number(),
     }
 }
@@ -154,10 +301,10 @@ pub extern "C" fn sgb_id(graph: &mut GraphHandle, bytes: &mut [u8]) -> u64
         (λ g. (length bytes.old ≡ length g.id) × (bytes.new ≡ g.id))
         (λ g why. (why ≡ Answer.Length) × (length bytes.old ≡ length g.id → ⊥))
         (bytes.new ≡ bytes.old) result }
-    ensures kept { graph_in graph.new ≡ graph_in graph.old }
+    ensures kept { graph.new.held.value ≡ graph.old.held.value }
 {
     match graph.lend() {
-        Some(held) => Answer::of_filling(fill_id(held.graph.graph(), bytes)).number(),
+        Some(held) => Answer::of_filling(held.graph.fill_id(bytes)).number(),
         None => Answer::NotOpen.number(),
     }
 }
@@ -169,150 +316,47 @@ pub extern "C" fn sgb_kinds(graph: &mut GraphHandle, letters: &mut [u8]) -> u64
         (λ g. (length letters.old ≡ 14) × (letters.new ≡ map letter_of g.kinds))
         (λ g why. (why ≡ Answer.Length) × (length letters.old ≡ 14 → ⊥))
         (letters.new ≡ letters.old) result }
-    ensures kept { graph_in graph.new ≡ graph_in graph.old }
+    ensures kept { graph.new.held.value ≡ graph.old.held.value }
 {
     match graph.lend() {
-        Some(held) => Answer::of_filling(fill_kinds(held.graph.graph(), letters)).number(),
+        Some(held) => Answer::of_filling(held.graph.fill_kinds(letters)).number(),
         None => Answer::NotOpen.number(),
     }
 }
 
 /// The size of the `.gb` file of the graph that is open, or 2^64 - 1 where it is larger.
 #[unsafe(no_mangle)]
-pub extern "C" fn sgb_file_size(graph: &mut GraphHandle, size: &mut u64) -> u64
+pub extern "C" fn sgb_file_size(alloc: Global, graph: &mut GraphHandle, size: &mut u64) -> u64
     ensures answer { IsAnswerOn (graph_in graph.old)
-        (λ g. size.new ≡ min (length (text_of_graph g)) (2 ^ 64 - 1)) nothing_misfits
+        (λ g. size.new ≡ min (length (text_of_graph g)) (2 ^ 64 - 1))
+        (λ g. IsOutOfMemory (IsListedIn graph.old))
         (size.new ≡ size.old) result }
-    ensures kept { graph_in graph.new ≡ graph_in graph.old }
+    ensures kept { graph.new.held.value ≡ graph.old.held.value }
 {
     match graph.lend() {
-        Some(held) => {
-            *size = file_len(held.graph.graph());
-            Answer::Done.number()
-        }
+        Some(held) => match held.graph.file_len(alloc) {
+            Ok(bytes) => {
+                *size = bytes;
+                Answer::Done.number()
+            }
+            Err(cause) => Answer::from(cause).number(),
+        },
         None => Answer::NotOpen.number(),
     }
 }
 
 /// The `.gb` file of the graph that is open.
 #[unsafe(no_mangle)]
-pub extern "C" fn sgb_file(graph: &mut GraphHandle, bytes: &mut [u8]) -> u64
+pub extern "C" fn sgb_file(alloc: Global, graph: &mut GraphHandle, bytes: &mut [u8]) -> u64
     ensures answer { IsAnswerOn (graph_in graph.old)
         (λ g. (length bytes.old ≡ length (text_of_graph g)) × (bytes.new ≡ text_of_graph g))
-        (λ g why. (why ≡ Answer.Length)
-        × (length bytes.old ≡ length (text_of_graph g) → ⊥))
+        (λ g. IsAnswerFor (IsFileRefusal g (length bytes.old) (IsListedIn graph.old)))
         (bytes.new ≡ bytes.old) result }
-    ensures kept { graph_in graph.new ≡ graph_in graph.old }
+    ensures kept { graph.new.held.value ≡ graph.old.held.value }
 {
     match graph.lend() {
-        Some(held) => Answer::of_filling(fill_file(held.graph.graph(), bytes)).number(),
+        Some(held) => Answer::of_filling(held.graph.fill_file(alloc, bytes)).number(),
         None => Answer::NotOpen.number(),
-    }
-}
-
-/// How many vertices the graph of a generator's call has. The graph is not built.
-#[unsafe(no_mangle)]
-pub extern "C" fn sgb_family_vertices(alloc: Global, text: &[u8], vertices: &mut u64) -> u64
-    ensures { IsAnswerOfCall text.now (λ g. vertices.new ≡ length g.vertices) nothing_misfits
-        (vertices.new ≡ vertices.old) result }
-{
-    match vertices_of_call(alloc, text) {
-        Ok(n) => {
-            *vertices = n;
-            Answer::Done.number()
-        }
-        Err(answer) => answer.number(),
-    }
-}
-
-/// How many arcs the graph of a generator's call has, where an edge counts as two: 2^64 - 1 also where there are more. The
-/// graph is not built.
-#[unsafe(no_mangle)]
-pub extern "C" fn sgb_family_arcs(alloc: Global, text: &[u8], arcs: &mut u64) -> u64
-    ensures { IsAnswerOfCall text.now (λ g. arcs.new ≡ min g.m (2 ^ 64 - 1)) nothing_misfits
-        (arcs.new ≡ arcs.old) result }
-{
-    match arcs_of_call(alloc, text) {
-        Ok(m) => {
-            *arcs = m;
-            Answer::Done.number()
-        }
-        Err(answer) => answer.number(),
-    }
-}
-
-/// How many arcs are on the lists of a chunk of a generator's graph, which are its `count` vertices from `first` on, and
-/// how many bytes their names have. The graph is not built.
-#[unsafe(no_mangle)]
-pub extern "C" fn sgb_chunk_sizes(
-    alloc: Global,
-    text: &[u8],
-    first: u32,
-    count: u32,
-    listed: &mut u64,
-    names: &mut u64,
-) -> u64
-    ensures { IsAnswerOfCall text.now
-        (λ g. IsThere g first count × (listed.new ≡ length (parts_of (chain_of g) first count))
-        × (names.new ≡ length (parts_of (name_at g) first count)))
-        (λ g why. (why ≡ Answer.Vertices) × (IsThere g first count → ⊥))
-        ((listed.new ≡ listed.old) × (names.new ≡ names.old)) result }
-{
-    match sizes_of_chunk(alloc, text, first, count) {
-        Ok((arcs, bytes)) => {
-            *listed = arcs;
-            *names = bytes;
-            Answer::Done.number()
-        }
-        Err(answer) => answer.number(),
-    }
-}
-
-/// The lists of a chunk of a generator's graph, in compressed sparse rows.
-#[unsafe(no_mangle)]
-pub extern "C" fn sgb_chunk_rows(
-    alloc: Global,
-    text: &[u8],
-    first: u32,
-    count: u32,
-    starts: &mut [u64],
-    tips: &mut [u32],
-    lengths: &mut [i64],
-) -> u64
-    ensures { IsAnswerOfCall text.now
-        (λ g. IsThere g first count
-        × HaveRowLengths g first count starts.old tips.old lengths.old
-        × AreRows g first count starts.new tips.new lengths.new)
-        (λ g why. IsMisfit (HaveRowLengths g first count starts.old tips.old lengths.old) g
-        first count why)
-        ((starts.new ≡ starts.old) × (tips.new ≡ tips.old) × (lengths.new ≡ lengths.old)) result }
-{
-    match rows_of_call(alloc, text, first, count) {
-        Ok(rows) => Answer::of_filling(rows.copy_to(starts, tips, lengths)).number(),
-        Err(answer) => answer.number(),
-    }
-}
-
-/// The names of the vertices of a chunk of a generator's graph.
-#[unsafe(no_mangle)]
-pub extern "C" fn sgb_chunk_names(
-    alloc: Global,
-    text: &[u8],
-    first: u32,
-    count: u32,
-    starts: &mut [u64],
-    bytes: &mut [u8],
-) -> u64
-    ensures { IsAnswerOfCall text.now
-        (λ g. IsThere g first count × HaveNameLengths g first count starts.old bytes.old
-        × AreNames g first count starts.new bytes.new)
-        (λ g why. IsMisfit (HaveNameLengths g first count starts.old bytes.old) g first
-        count why)
-        ((starts.new ≡ starts.old) × (bytes.new ≡ bytes.old)) result }
-{
-    match names_of_call(alloc, text, first, count) {
-        Ok(names) => Answer::of_filling(names.copy_to(starts, bytes)).number(),
-        Err(answer) => answer.number(),
     }
 }
 
@@ -337,16 +381,10 @@ pub extern "C" fn sgb_uniform_draws(start: i64, skip: u64, m: u32, out: &mut [u3
     Answer::of_filling(fill_uniform_draws(start, skip, m, out)).number()
 }
 
-// The sizes of a graph.
-fn sizes_of(packed: &PackedGraph) -> Sizes
-    ensures { AreSizes packed.now result }
+/// The version of the library: 1000000 times its major number, and 1000 times its minor one, and its patch.
+#[unsafe(no_mangle)]
+pub extern "C" fn sgb_version() -> u64
+    ensures { result ≡ 1_000_000 }
 {
-    let graph = packed.graph();
-    Sizes {
-        vertices: u64::from(graph.n()),
-        arcs: graph.m(),
-        listed: packed.arcs_len().min(u128::from(u64::MAX)) as u64,
-        names: names_len(graph),
-        id: graph.id().bytes().len() as u64,
-    }
+    VERSION
 }

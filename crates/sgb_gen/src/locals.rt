@@ -1,5 +1,6 @@
 //! The accepted parameters of a generator: what is known of its graph without the graph.
-ghost use Rattle.std.specs.Prelude.{◌≡◌, ◌≢◌, length, Err, IfErr, IfOk, IsOkUnless};
+ghost use Rattle.std.specs.Prelude.{◌≡◌, ◌≢◌, length, Err, Ok, IfErr, IfOk, IsOkUnless};
+ghost use Rattle.sgb_graph.specs.Descriptions.{IsAnswerOf};
 ghost use Rattle.sgb_gen.specs.declared.params.BoardParams.{BoardParams};
 ghost use Rattle.sgb_gen.specs.Generators.{IsGeneratorRefused, IsLocalOf, described, generator_value};
 ghost use Rattle.sgb_graph.specs.Made.{graph_described};
@@ -7,6 +8,7 @@ ghost use Rattle.sgb_graph.specs.Made.{graph_described};
 use crate::accepted::{Board, Simplex, Subsets};
 use crate::links::Links;
 use crate::params::Generator;
+use sgb_graph::{Graph, Id, Kind};
 use sgb_vec::{Family, Panic};
 use std::alloc::Global;
 
@@ -66,6 +68,43 @@ impl Local {
             Local::Board(board) => board.arcs_count(),
             Local::Simplex(simplex) => simplex.arcs_count(&Links::new(alloc)),
             Local::Subsets(subsets) => Ok(subsets.arcs_count()),
+        }
+    }
+
+    /// The id of the graph. No memory is taken.
+    pub fn id(&self) -> Id
+        ensures { result ≡ (graph_described (described self.now)).id }
+    {
+        match self {
+            Local::Board(board) => board.id(),
+            Local::Simplex(simplex) => simplex.id(),
+            Local::Subsets(subsets) => subsets.id(),
+        }
+    }
+
+    /// What the utility fields of the graph hold (GB_GRAPH, util_types): those of its vertices x, y and z integers, if there is
+    /// a vertex. No memory is taken.
+    pub fn kinds(&self) -> [Kind; 14]
+        ensures { result ≡ (graph_described (described self.now)).kinds }
+    {
+        let coordinate = if self.size() == 0 { Kind::Z } else { Kind::I };
+        let mut kinds = [Kind::Z; 14];
+        kinds[3] = coordinate;
+        kinds[4] = coordinate;
+        kinds[5] = coordinate;
+        kinds
+    }
+
+    /// The graph, with its arcs (GB_BASIC).
+    ///
+    /// `NoRoom` when out of memory, and nothing else.
+    pub fn graph(&self, alloc: Global) -> Result<Graph, Panic>
+        ensures { IsAnswerOf (Ok (described self.now)) result }
+    {
+        match self {
+            Local::Board(board) => board.graph(alloc),
+            Local::Simplex(simplex) => simplex.graph(alloc),
+            Local::Subsets(subsets) => subsets.graph(alloc),
         }
     }
 }

@@ -21,8 +21,8 @@ fn is_triangle(graph: &Graph) -> bool {
 // Whether the lists are those of a triangle, where the arcs have the lengths 2 and 1.
 fn has_triangle_rows(graph: &Graph) -> bool {
     let (mut starts, mut tips, mut lengths) = ([0; 4], [0; 6], [0; 6]);
-    arcs_len(graph) == 6
-        && fill_rows(graph, &mut starts, &mut tips, &mut lengths) == Ok(())
+    arcs_len(graph, 0, 3) == Ok(6)
+        && fill_rows(graph, 0, 3, &mut starts, &mut tips, &mut lengths) == Ok(())
         && starts == [0, 2, 4, 6]
         && lengths == [2, 1, 1, 1, 1, 2]
 }
@@ -30,8 +30,8 @@ fn has_triangle_rows(graph: &Graph) -> bool {
 // Whether the names are 0, 1 and 2, and the id is that of a triangle.
 fn has_triangle_names(graph: &Graph) -> bool {
     let (mut starts, mut bytes, mut id) = ([0; 4], [0; 3], [0; 21]);
-    names_len(graph) == 3
-        && fill_names(graph, &mut starts, &mut bytes) == Ok(())
+    names_len(graph, 0, 3) == Ok(3)
+        && fill_names(graph, 0, 3, &mut starts, &mut bytes) == Ok(())
         && starts == [0, 1, 2, 3]
         && bytes == *b"012"
         && fill_id(graph, &mut id) == Ok(())
@@ -41,9 +41,9 @@ fn has_triangle_names(graph: &Graph) -> bool {
 // Whether field x holds the places 0, 1 and 2, and field u no integers.
 fn has_triangle_fields(graph: &Graph) -> bool {
     let mut values = [0; 3];
-    fill_ints(graph, 3, &mut values) == Ok(())
+    fill_ints(graph, 3, 0, 3, &mut values) == Ok(())
         && values == [0, 1, 2]
-        && fill_ints(graph, 0, &mut values) == Err(Wrong::Field)
+        && fill_ints(graph, 0, 0, 3, &mut values) == Err(Wrong::Field)
 }
 
 // eight lists side by side, and one after them
@@ -57,8 +57,8 @@ fn rows_of_nine_vertices(rt: HostRuntime) -> Result<(), Fail> {
 // Whether the lists are those of nine vertices with eight arcs each, as they are put one after another.
 fn has_nine_rows(packed: &PackedGraph) -> bool {
     let (mut starts, mut tips, mut lengths) = ([0; 10], [0; 72], [0; 72]);
-    packed.arcs_len() == 72
-        && packed.fill_rows(&mut starts, &mut tips, &mut lengths) == Ok(())
+    packed.arcs_len(0, 9) == Ok(72)
+        && packed.fill_rows(0, 9, &mut starts, &mut tips, &mut lengths) == Ok(())
         && starts == [0, 8, 16, 24, 32, 40, 48, 56, 64, 72]
         && are_rows_of(packed.graph(), &starts, &tips, &lengths)
 }
@@ -66,7 +66,7 @@ fn has_nine_rows(packed: &PackedGraph) -> bool {
 // Whether these are the rows of the graph, put one list after another.
 fn are_rows_of(graph: &Graph, starts: &[u64; 10], tips: &[u32; 72], lengths: &[i64; 72]) -> bool {
     let (mut begins, mut leads, mut weights) = ([0; 10], [0; 72], [0; 72]);
-    fill_rows(graph, &mut begins, &mut leads, &mut weights) == Ok(())
+    fill_rows(graph, 0, 9, &mut begins, &mut leads, &mut weights) == Ok(())
         && begins == *starts
         && leads == *tips
         && weights == *lengths

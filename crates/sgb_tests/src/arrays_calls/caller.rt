@@ -11,7 +11,7 @@ pub fn tips_of_a_triangle(graph: &Graph) -> Result<[u32; 6], Wrong> {
     let mut starts = [0; 4];
     let mut tips = [0; 6];
     let mut lengths = [0; 6];
-    fill_rows(graph, &mut starts, &mut tips, &mut lengths)?;
+    fill_rows(graph, 0, 3, &mut starts, &mut tips, &mut lengths)?;
     Ok(tips)
 }
 

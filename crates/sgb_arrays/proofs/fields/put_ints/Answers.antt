@@ -1,23 +1,32 @@
-use Rattle.std.proofs.Common.{w64, to_z, of_z, ◌≤◌, ◌<◌, ◌∙◌, length, refl, arith, rules}
+use Rattle.std.proofs.Common.{w64, to_z, of_z, ◌≡◌, ◌≤◌, ◌<◌, ◌∙◌, drop, length, refl, take, arith, rules}
 use Rattle.std.proofs.lemmas.Int.{to_z-of_z}
-use Rattle.sgb_arrays.proofs.FieldValues.{int_put, ints_begun, ints_put}
+use Rattle.sgb_arrays.specs.Fields.{int_at, ints_of}
+use Rattle.sgb_arrays.proofs.FieldValues.{length-run, run_at, value_put, values_begun, values_put}
 use Rattle.sgb_arrays.proofs.fields.put_ints.Goals as goal
 
-pub loop-v-init : goal.loop-v-init
-loop-v-init c = record { ints = ints_begun c.args.graph.now c.args.field c.args.values.now; places = refl }
+pub loop-k-init : goal.loop-k-init
+loop-k-init c = record { ints = values_begun (int_at c.args.field) (take c.args.count (drop c.args.first c.args.graph.now.vertices)) c.args.values.now; places = refl }
 
-pub loop-v-preserved : goal.loop-v-preserved
-loop-v-preserved c =
-    let g = c.args.graph.now in
-    let v = c.loop-v.v in
-    let within : v < length g.vertices = omega (arith, c.n-v-end.ensures.count) in
+pub loop-k-preserved : goal.loop-k-preserved
+loop-k-preserved c =
+    let xs = c.args.graph.now.vertices in
+    let first = c.args.first in
+    let count = c.args.count in
+    let k = c.loop-k.k in
+    let below : k < count = omega arith in
+    let size = length-run xs first count c.requires.there in
+    let there = run_at xs first count k _ below c.requires.there c.vertex.ensures in
     record {
-      ints = int_put g c.args.field v _ (to_z w64 (of_z w64 c.int_at.result)) c.loop-v.values _ within c.vertex.ensures (to_z-of_z w64 c.int_at.result (search rules) ∙ c.int_at.ensures) c.loop-v.invariant.ints;
+      ints = value_put (int_at c.args.field) (take count (drop first xs)) k _ (to_z w64 (of_z w64 c.int_at.result)) c.loop-k.values _ (omega (arith, size, below)) there (to_z-of_z w64 c.int_at.result (search rules) ∙ c.int_at.ensures) c.loop-k.invariant.ints;
       places = search rules;
     }
 
 pub returns : goal.returns
+unfolding ints_of
 returns c =
-    let g = c.args.graph.now in
-    let past : length g.vertices ≤ c.loop-v.v = omega (arith, c.n-v-end.ensures.count) in
-    ints_put g c.args.field c.loop-v.v c.loop-v.values c.args.values.now past c.requires.size c.loop-v.invariant.ints
+    let xs = c.args.graph.now.vertices in
+    let first = c.args.first in
+    let count = c.args.count in
+    let size = length-run xs first count c.requires.there in
+    let past : length (take count (drop first xs)) ≤ c.loop-k.k = omega (arith, size) in
+    values_put (int_at c.args.field) (take count (drop first xs)) c.loop-k.k c.loop-k.values c.args.values.now past (omega (arith, size, c.requires.size)) c.loop-k.invariant.ints

@@ -4,14 +4,12 @@ use Rattle.sgb_arrays.specs.inner.PartsLeft.{parts_left, starts_left}
 use Rattle.sgb_arrays.specs.inner.Puts.{put_from}
 use Rattle.sgb_arrays.proofs.graph_names.put_names.Given as goal
 
--- the names of the vertices from this one on are still to be put
-abbrev pub invariant-loop-v : goal.invariant-loop-v
-invariant-loop-v l =
-    let n = length l.graph.vertices in
-    record {
-      starts : put_from l.v (starts_left (name_at l.graph) n l.v l.at) l.starts ≡ put_from 0 (part_starts (name_at l.graph) 0 n) l.fn.starts;
-      bytes : put_from l.at (parts_left (name_at l.graph) n l.v) l.bytes ≡ put_from 0 (parts_of (name_at l.graph) 0 n) l.fn.bytes;
-      end : l.at + length (parts_left (name_at l.graph) n l.v) ≡ length (parts_of (name_at l.graph) 0 n);
-      start_places : length l.starts ≡ length l.fn.starts;
-      byte_places : length l.bytes ≡ length l.fn.bytes;
-    }
+-- the names of the vertices from this place of the run on are still to be put
+abbrev pub invariant-loop-k : goal.invariant-loop-k
+invariant-loop-k l = record {
+  starts : put_from l.k (starts_left (λ k. name_at l.graph (l.first + k)) l.count l.k l.at) l.starts ≡ put_from 0 (part_starts (λ k. name_at l.graph (l.first + k)) 0 l.count) l.fn.starts;
+  bytes : put_from l.at (parts_left (λ k. name_at l.graph (l.first + k)) l.count l.k) l.bytes ≡ put_from 0 (parts_of (λ k. name_at l.graph (l.first + k)) 0 l.count) l.fn.bytes;
+  end : l.at + length (parts_left (λ k. name_at l.graph (l.first + k)) l.count l.k) ≡ length (parts_of (λ k. name_at l.graph (l.first + k)) 0 l.count);
+  start_places : length l.starts ≡ length l.fn.starts;
+  byte_places : length l.bytes ≡ length l.fn.bytes;
+}

@@ -1,0 +1,26 @@
+-- A graph that is open, built or not.
+use Rattle.std.specs.Prelude.{◌≡◌, ℕ, length}
+use Rattle.sgb_file.specs.Saving.{text_of_graph}
+use Rattle.sgb_graph.specs.Graphs.{GraphData}
+use Rattle.sgb_graph.specs.Made.{graph_described}
+use Rattle.sgb_gen.specs.Generators.{described}
+use Rattle.sgb_arrays.specs.declared.open_graphs.OpenGraph.{OpenGraph}
+use Rattle.sgb_arrays.specs.declared.open_graphs.OpenGraph.TheVariants.{Built, Listed}
+use Rattle.sgb_arrays.specs.declared.refusals.Wrong.{Wrong}
+use Rattle.sgb_arrays.specs.declared.refusals.Wrong.TheVariants as wrong
+
+-- the graph
+abbrev pub graph_open : OpenGraph → GraphData
+graph_open (Built g) = g
+graph_open (Listed l) = graph_described (described l)
+
+-- it is not built: a call on it may take memory
+abbrev pub IsListed : OpenGraph → Type 0
+IsListed (Built g) = ⊥
+IsListed (Listed l) = Unit {0}
+
+-- why its file is not put into an array of so many places, where this takes memory
+abbrev pub IsFileRefusal : GraphData → ℕ → (memory : Type 0) → Wrong → Type 0
+IsFileRefusal g places memory wrong.Length = places ≡ length (text_of_graph g) → ⊥
+IsFileRefusal g places memory wrong.NoRoom = memory
+IsFileRefusal g places memory _ = ⊥
