@@ -51,7 +51,7 @@ demo: sgb
 examples: sgb
 	python3 examples/convert_test.py ./sgb
 	python3 examples/sgb_graph_test.py
-	examples/to_gb_test.py ./sgb
+	examples/tests/to_gb_test.py ./sgb
 	examples/cookbook_test.py ./sgb
 	examples/shards_test.sh
 	examples/callers_test.py ./sgb ./sgb_levels

@@ -2,6 +2,7 @@
 
 import collections
 import contextlib
+import glob
 import os
 import subprocess
 import sys
@@ -10,7 +11,8 @@ import unittest.mock
 
 HERE = os.path.dirname(os.path.abspath(__file__))
 PROGRAM = os.path.abspath(sys.argv.pop(1)) if len(sys.argv) > 1 else os.path.join(os.path.dirname(HERE), "sgb")
-sys.path[:0] = [HERE, os.path.join(os.path.dirname(HERE), "examples")]
+READERS = glob.glob(os.path.join(os.path.dirname(HERE), "examples/**/sgb_graph.py"), recursive=True)
+sys.path[:0] = [HERE, *map(os.path.dirname, READERS)]
 if os.environ.get("SGB_WITHOUT_NUMPY") == "1":
     sys.modules["numpy"] = None
 

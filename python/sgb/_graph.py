@@ -89,7 +89,9 @@ class Graph:
             return False
 
     def __eq__(self, other: object) -> bool:
-        return self.id == other.id if isinstance(other, Graph) else NotImplemented
+        if not isinstance(other, Graph):
+            return NotImplemented
+        return self.id == other.id
 
     def __hash__(self) -> int:
         return hash(self.id)

@@ -145,6 +145,7 @@ class Array:
         self.code, self.count = code, count
         if count >= 2**56:
             raise MemoryError(f"out of memory: an array of {count} numbers")
+        self.kept: Any
         # one place more than is handed over, so that there is always an address
         if numpy is None:
             self.kept = (_TYPES[code] * (count + 1))()
@@ -157,7 +158,7 @@ class Array:
     def seen(self) -> Any:
         """The numbers: a numpy array, or a memory view."""
         if numpy is None:
-            return memoryview(self.kept).cast("B").cast(self.code)[: self.count].toreadonly()  # type: ignore[arg-type]
+            return memoryview(self.kept).cast("B").cast(self.code)[: self.count].toreadonly()
         self.kept.flags.writeable = False
         return self.kept[: self.count]
 
@@ -168,7 +169,7 @@ class Array:
 
 def array_of(code: str, data: bytes) -> Any:
     """The numbers that these bytes hold, as `Array.seen` shows them."""
-    return memoryview(data).cast(code) if numpy is None else numpy.frombuffer(data, dtype=code)  # type: ignore[call-overload]
+    return memoryview(data).cast(code) if numpy is None else numpy.frombuffer(data, dtype=code)
 
 
 class Held:

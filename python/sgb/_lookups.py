@@ -40,7 +40,7 @@ def _bisected(graph: Graph, name: str) -> Optional[int]:
         wanted = _vector(name)
     except ValueError:
         return None
-    place = bisect.bisect_left(_Vectors(graph), wanted)  # type: ignore[type-var, arg-type]
+    place = bisect.bisect_left(_Vectors(graph), wanted)  # type: ignore[arg-type]
     return place if place < graph.n and graph.name(place) == name else None
 
 

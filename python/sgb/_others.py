@@ -4,7 +4,7 @@ from __future__ import annotations
 
 import contextlib
 import gc
-from typing import TYPE_CHECKING, Any, Iterable, Iterator, Sequence
+from typing import TYPE_CHECKING, Any, Iterable, Iterator, Sequence, Tuple
 
 if TYPE_CHECKING:
     import igraph
@@ -13,7 +13,8 @@ if TYPE_CHECKING:
 
     from ._graph import Graph
 
-Arc = tuple  # (v, tip, length)
+# (v, tip, length)
+Arc = Tuple[int, int, int]
 
 
 @contextlib.contextmanager
@@ -136,7 +137,8 @@ def _add_edges(graph: Graph, made: Any, nodes: Sequence[Any]) -> None:
         v, tip = nodes[v], nodes[tip]
         ends = near[v]
         if tip not in ends:
-            ends[tip] = near[tip][v] = {0: {"weight": length}} if multi else {"weight": length}
+            data: Any = {"weight": length}
+            ends[tip] = near[tip][v] = {0: data} if multi else data
         elif multi:
             ends[tip][len(ends[tip])] = {"weight": length}
         else:

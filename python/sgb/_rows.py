@@ -117,7 +117,8 @@ class Rows:
         return self._names
 
     def __reduce__(self) -> Any:
-        arrays = [None if part is None else part.tobytes() for part in (self.starts, self.tips, self.lengths)]
+        parts: tuple[Any, ...] = self.starts, self.tips, self.lengths
+        arrays = [None if part is None else part.tobytes() for part in parts]
         return _made_again, (self.text, self.first, *arrays, self._names)
 
 

@@ -1,9 +1,9 @@
 #!/usr/bin/env python3
 """Writes the .gb file of a graph that comes in another form, for the expression `stdin`.
 
-    examples/to_gb.py edges < graph.txt | sgb list stdin
-    examples/to_gb.py dimacs graph.col | sgb list "lines(stdin,0)"
-    examples/to_gb.py graph6 petersen.g6 > petersen.gb
+    examples/files/to_gb.py edges < graph.txt | sgb list stdin
+    examples/files/to_gb.py dimacs graph.col | sgb list "lines(stdin,0)"
+    examples/files/to_gb.py graph6 petersen.g6 > petersen.gb
 
 The forms:
 
@@ -25,9 +25,9 @@ import argparse
 import os
 import sys
 
-HERE = os.path.dirname(os.path.abspath(__file__))
+TOP = os.path.dirname(os.path.dirname(os.path.dirname(os.path.abspath(__file__))))
 # the package itself wants the library, and the writer of files does not
-sys.path.append(os.path.join(os.path.dirname(HERE), "python/sgb"))
+sys.path.append(os.path.join(TOP, "python/sgb"))
 
 import _files  # noqa: E402  (the folder is put on the path above)
 

@@ -1,5 +1,5 @@
 #!/usr/bin/env python3
-"""Tries to_gb.py: examples/to_gb_test.py [PROGRAM]. Each file that it writes is read back by the program.
+"""Tries to_gb.py: examples/tests/to_gb_test.py [PROGRAM]. Each file that it writes is read back by the program.
 
 Graphs of the program go through convert.awk into a form and through to_gb.py back, and have to be what they were. Others
 are written here, with values from the descriptions of the forms, and by networkx where it is installed. What is no graph
@@ -7,13 +7,15 @@ of its form, and what GraphBase cannot have, has to be refused with one line.
 """
 
 import collections
+import glob
 import os
 import subprocess
 import sys
 
-HERE = os.path.dirname(os.path.abspath(__file__))
-PROGRAM = os.path.abspath(sys.argv[1]) if len(sys.argv) > 1 else os.path.join(os.path.dirname(HERE), "sgb")
-sys.path.insert(0, HERE)
+EXAMPLES = os.path.dirname(os.path.dirname(os.path.abspath(__file__)))
+PROGRAM = os.path.abspath(sys.argv[1]) if len(sys.argv) > 1 else os.path.join(os.path.dirname(EXAMPLES), "sgb")
+LISTINGS = os.path.dirname(glob.glob(os.path.join(EXAMPLES, "**/sgb_graph.py"), recursive=True)[0])
+sys.path.insert(0, LISTINGS)
 sys.dont_write_bytecode = True
 import sgb_graph  # noqa: E402
 
@@ -71,7 +73,7 @@ def ran(*words, given=b""):
 
 
 def written(form, text, *more):
-    return ran(sys.executable, os.path.join(HERE, "to_gb.py"), form, *more, given=text.encode())
+    return ran(sys.executable, os.path.join(EXAMPLES, "files/to_gb.py"), form, *more, given=text.encode())
 
 
 def graph_of(expression, given=b""):
@@ -83,7 +85,7 @@ def graph_of(expression, given=b""):
 
 
 def there_and_back():
-    awk = ["awk", "-f", os.path.join(HERE, "convert.awk")]
+    awk = ["awk", "-f", os.path.join(LISTINGS, "convert.awk")]
     left_out = 0
     for expression, directed in GRAPHS:
         status, listing, _ = ran(PROGRAM, "list", expression)
