@@ -61,8 +61,9 @@ class Handles(unittest.TestCase):
         graph = sgb.graph(BOARD)
         tips = graph.tips
         wanted = list(tips)
+        self.assertEqual((len(graph.lengths), len(graph.names()), list(graph[0])), (len(tips), graph.n, wanted[:2]))
         del graph
-        gc.collect()
+        # at once, and not when the garbage is collected
         self.assertEqual(self.closed, 1)
         self.assertEqual(list(tips), wanted)
 
@@ -182,7 +183,7 @@ class Python(unittest.TestCase):
         """Names that are too many for a dictionary are looked for as well."""
         with unittest.mock.patch.object(_graph, "NAMED", 3), unittest.mock.patch.object(_lookups, "MANY", 2):
             self.test_names()
-            self.assertEqual(sgb.graph("wheel(5,1,0)").vertex("5"), 5)
+            self.assertEqual(sgb.graph("complement(board(3,3,0,0,1,0,0),0,0,0)").vertex("2.1"), 7)
 
     def test_equal(self):
         first, second = sgb.graph("petersen()"), sgb.graph("subsets(2,1,-4,0,0,0,1,0)")

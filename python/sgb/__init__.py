@@ -38,6 +38,7 @@ Until version 1.0 generators' graphs had functions of their own: for `sgb.vertic
 from __future__ import annotations
 
 import operator
+import types
 from typing import TYPE_CHECKING, Any, SupportsIndex
 
 from . import _library
@@ -53,9 +54,16 @@ if TYPE_CHECKING:
 __version__ = "1.0.0"
 __all__ = ["Graph", "GraphError", "Rows", "flip", "from_csr", "from_edges", "from_networkx", "from_scipy", "graph"]
 
-for _one in Graph, GraphError, Rows, Graph.to_scipy, Graph.to_networkx, Graph.to_igraph, from_csr, from_edges, from_networkx, from_scipy:
-    _one.__module__ = __name__  # where who asks for help finds them
-del _one
+
+def _show(*ones: Any) -> None:
+    """Who asks for help finds these here, and not in the files that have them."""
+    for one in ones:
+        for part in (one, *(vars(one).values() if isinstance(one, type) else ())):
+            if isinstance(part, (type, types.FunctionType)):
+                part.__module__ = __name__
+
+
+_show(Graph, GraphError, Rows, from_csr, from_edges, from_networkx, from_scipy)
 
 
 def graph(text: str, input: Any = None) -> Graph:  # noqa: A002 (the expression `stdin` is this input)

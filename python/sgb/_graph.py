@@ -151,13 +151,13 @@ class Graph:
     def _fetch_lengths(self) -> Any:
         starts, tips, lengths = self._lists(0, self.n, True)
         # where the lists are there, they stay what they are
-        self._kept.setdefault("lists", Rows(self.text, 0, starts, tips, None, self))
+        self._kept.setdefault("lists", Rows(self.text, 0, starts, tips, None))
         return lengths
 
     @property
     def _whole(self) -> Rows:
-        """All lists, without their lengths."""
-        return self._fetched("lists", lambda: Rows(self.text, 0, *self._lists(0, self.n, False), self))
+        """All lists, without their lengths. They do not lead back here: else the graph would not end with its last use."""
+        return self._fetched("lists", lambda: Rows(self.text, 0, *self._lists(0, self.n, False)))
 
     # runs of vertices
 
@@ -244,7 +244,7 @@ class Graph:
         if not 0 <= place < self.n:
             raise IndexError(f"no vertex {place}: there are {self.n}")
         if ("lengths" if lengths else "lists") in self._kept or self._fetched("size", self._is_small):
-            return Rows(self.text, 0, self.starts, self.tips, self.lengths, self) if lengths else self._whole
+            return Rows(self.text, 0, self.starts, self.tips, self.lengths) if lengths else self._whole
         return self.rows(place, 1, lengths)
 
     def _is_small(self) -> bool:
@@ -372,7 +372,7 @@ class Graph:
     def arcs(self) -> Iterator[tuple[int, int, int]]:
         """The arcs (v, tip, length), int each, in the order of the lists. A great graph's come chunk by chunk."""
         if "lengths" in self._kept or self._fetched("size", self._is_small):
-            return Rows(self.text, 0, self.starts, self.tips, self.lengths, self).arcs()
+            return Rows(self.text, 0, self.starts, self.tips, self.lengths).arcs()
         return (arc for rows in self._pieces() for arc in rows.arcs())
 
     def _pieces(self) -> Iterator[Rows]:
