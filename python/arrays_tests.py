@@ -141,7 +141,7 @@ class Runs(unittest.TestCase):
         for text in (BOARD, "lines(complete(4),0)", "stdin"):
             graph = sgb.graph(text, LOOPS * (text == "stdin"))
             n = graph.n
-            for first, count in ((0, n), (min(5, n), n - min(5, n)), (n // 4, n // 2), (n // 2, None), (n, None), (n, 0), (n // 2, 0)):
+            for first, count in ((0, n), (min(5, n), n - min(5, n)), (n // 4, n // 2 + 1), (n // 2, None), (n, None), (n, 0), (n // 2, 0)):
                 self.is_part(graph, first, count)
 
     def is_part(self, graph, first, count):

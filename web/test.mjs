@@ -168,7 +168,7 @@ const tests = {
         return arc ? { ...found, arcs: [...found.arcs, [found.v, v, arc[2]].join()] } : { ...found, v };
       }, { v: null, arcs: [] }).arcs, "the arcs of a board");
     same([board.vertex("1.2"), board.vertex("2.2"), board.name(4), board.degree(4)], [5, null, "1.1", 3], "a vertex");
-    same(sgb.version.split(".")[0], 1, "the version of the calls");
+    check(/^1\.\d+\.\d+$/.test(sgb.version), `the version of the calls: gave ${sgb.version}`);
     same(board.closed, false, "whether a graph is closed");
     // what was fetched stays, and the arrays do
     board.names();
@@ -292,9 +292,18 @@ const tests = {
     const most = 12 << 20;
     const sgb = await load(undefined, { limit: most });
     const before = sgb.memory;
-    const great = thrown(() => sgb.graph("complete(2000)"));
+    const great = thrown(() => sgb.graph("complement(empty(2000),0,0,0)"));
     check(great instanceof MemoryError && great.code === 1, `a graph that is too large: threw ${great}`);
     same(sgb.memory.taken, 0, "taken after a graph that is too large");
+    // that of a generator's call is not built: its arrays are too large
+    const complete = sgb.graph("complete(2000)");
+    for (const call of [() => complete.tips, () => complete.rows(), () => complete.save()]) {
+      const error = thrown(call);
+      check(error instanceof MemoryError, `what is too large of a graph: threw ${error}`);
+    }
+    same(complete.rows(1999, 1).tips.length, 1999, "the last list of a graph that is too large");
+    complete.close();
+    same(sgb.memory.taken, 0, "taken after a graph whose arrays are too large");
     check(sgb.memory.size <= before.size + most + 65536, "more memory than the limit");
     same(sgb.graph("petersen()").m, 30, "a graph after one that is too large");
     // the limit is somewhere in each of the calls that a graph takes: all is given back, and the next one is whole
