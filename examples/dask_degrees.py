@@ -4,10 +4,10 @@
     examples/dask_degrees.py "board(1000,1000,0,0,1,0,0)"
     examples/dask_degrees.py "simplex(44000,-2,0,0,0,0,0)" --scheduler tcp://anna:8786
 
-A generator's graph is not built, so it may have 10^9 vertices; another is built for each task. Its vertices are cut into
-parts, and each is a task: a worker goes through it in chunks by the package sgb, and hands back counts alone. The first
-line has the numbers of vertices and arcs; each further one a degree, which is how many arcs stand on a vertex's list, and
-how many vertices have it.
+A generator's graph is not built, so it may have 10^9 vertices; another is built for each task. Its vertices are cut
+into parts, and each is a task: a worker goes through it in chunks by the package sgb, and hands back counts alone.
+The first line has the numbers of vertices and arcs; each further one a degree, which is how many arcs stand on a
+vertex's list, and how many vertices have it.
 
 Without --scheduler there are --workers processes on this machine, two if it is not said. With it the tasks go to the
 scheduler at that address; the package sgb (a wheel, or PYTHONPATH) has to be on each of its workers as it is here, and

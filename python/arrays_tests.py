@@ -103,7 +103,9 @@ class Arrays(unittest.TestCase):
                 self.assertEqual(str(why.exception), str(sgb.GraphError(code)))
 
     def test_flip(self):
-        for start, skip, count, m in ((-314159, 0, 3, 0), (-314159, 2, 3, 0), (-314159, 2, 3, 1000), (7, 133, 5, 2**31), (5, 5, 0, 6)):
+        for start, skip, count, m in (
+            (-314159, 0, 3, 0), (-314159, 2, 3, 0), (-314159, 2, 3, 1000), (7, 133, 5, 2**31), (5, 5, 0, 6),
+        ):
             wanted = [int(line) for line in said("flip", f"flip({start},{skip},{count},{m})").split()]
             self.assertEqual(list(sgb.flip(start, skip, count, m)), wanted)
         for words in ((0, 0, -1, 0), (0, -1, 1, 0), (2**63, 0, 1, 0), (0, 0, 1, 2**32)):
@@ -141,7 +143,8 @@ class Runs(unittest.TestCase):
         for text in (BOARD, "lines(complete(4),0)", "stdin"):
             graph = sgb.graph(text, LOOPS * (text == "stdin"))
             n = graph.n
-            for first, count in ((0, n), (min(5, n), n - min(5, n)), (n // 4, n // 2 + 1), (n // 2, None), (n, None), (n, 0), (n // 2, 0)):
+            runs = [(0, n), (min(5, n), n - min(5, n)), (n // 4, n // 2 + 1), (n // 2, None), (n, None), (n, 0), (n // 2, 0)]
+            for first, count in runs:
                 self.is_part(graph, first, count)
 
     def is_part(self, graph, first, count):
@@ -268,9 +271,11 @@ class Runs(unittest.TestCase):
         n = 10**9
         with multiprocessing.Pool(1) as pool:
             rows = pool.map_async(last_rows, [f"board({n},0,0,0,1,0,0)"]).get(SECONDS)[0]
-        for seen in (rows, *(pickle.loads(pickle.dumps(rows, k)) for k in range(pickle.HIGHEST_PROTOCOL + 1)), copy.copy(rows)):
+        again = [pickle.loads(pickle.dumps(rows, k)) for k in range(pickle.HIGHEST_PROTOCOL + 1)]
+        arcs = [(n - 2, n - 1, 1), (n - 2, n - 3, 1), (n - 1, n - 2, 1)]
+        for seen in (rows, *again, copy.copy(rows)):
             self.assertEqual((seen.first, seen.n, seen.names()), (n - 2, 2, [str(n - 2), str(n - 1)]))
-            self.assertEqual((list(seen.arcs()), list(seen[n - 1])), ([(n - 2, n - 1, 1), (n - 2, n - 3, 1), (n - 1, n - 2, 1)], [n - 2]))
+            self.assertEqual((list(seen.arcs()), list(seen[n - 1])), (arcs, [n - 2]))
             for array, other in ((seen.starts, rows.starts), (seen.tips, rows.tips), (seen.lengths, rows.lengths)):
                 self.assertIs(type(array), type(other))
                 self.assertEqual(array.itemsize, other.itemsize)

@@ -148,7 +148,8 @@ class Python(unittest.TestCase):
                 graph = sgb.graph(text, given)
                 found = list(graph.arcs())
                 self.assertEqual(collections.Counter(found), arcs(graph))
-                self.assertEqual([(tip, length) for _, tip, length in found], list(zip(graph.tips.tolist(), graph.lengths.tolist())))
+                ends = [(tip, length) for _, tip, length in found]
+                self.assertEqual(ends, list(zip(graph.tips.tolist(), graph.lengths.tolist())))
                 self.assertEqual([v for v, _, _ in found], sorted(v for v, _, _ in found))
                 self.assertEqual(list(graph.rows().arcs()), found)
                 self.assertTrue(all(type(part) is int for arc in found for part in arc))
@@ -267,7 +268,7 @@ class Python(unittest.TestCase):
             self.assertIn(name, text)
             self.assertGreater(len(one.__doc__), 40)
             self.assertEqual(one.__module__, "sgb")
-        for name in ("class Graph", "class Rows", "tips", "uint32 array of shape (starts[n],)", "int64 array of shape (count,)"):
+        for name in ("class Graph", "class Rows", "uint32 array of shape (starts[n],)", "int64 array of shape (count,)"):
             self.assertIn(name, text)
         self.assertNotIn("sgb._", text)
         for kind in (sgb.Graph, sgb.Rows):

@@ -1,9 +1,8 @@
 #!/usr/bin/env python3
 """Tests of the package sgb: python/tests.py [PROGRAM], where PROGRAM is the program sgb, ./sgb if none is named.
 
-Its graphs are compared with what the program writes, also as sgb_graph.py of the examples reads it; with scipy's, networkx's
-and igraph's where these are installed. With SGB_WITHOUT_NUMPY=1 the package does without numpy.
-"""
+Its graphs are compared with what the program writes, also as sgb_graph.py of the examples reads it; with scipy's,
+networkx's and igraph's where these are installed. With SGB_WITHOUT_NUMPY=1 the package does without numpy. """
 
 import unittest
 

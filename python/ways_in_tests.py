@@ -63,7 +63,8 @@ class WaysIn(unittest.TestCase):
             ([(0, 1)], {"names": ["a", "\n"]}, "printable ASCII"), ([(0, 1)], {"names": ["a", "\u00e9"]}, "printable ASCII"),
             ([(0, 1)], {"names": ["a", "b" * 4096]}, "at most 4095 bytes"), ([(0, 1)], {"names": ["a", 5]}, None),
             ([(0, 1)], {"names": ["a"]}, "there are 1 vertices"), ([(0, 1)], {"names": "abc", "n": 2}, "3 names, and 2 vertices"),
-            ([("a", "b")], {"names": ["a", "a"]}, "two vertices have one name"), ([("a", "b")], {"names": ["a"]}, "no vertex has"),
+            ([("a", "b")], {"names": ["a", "a"]}, "two vertices have one name"),
+            ([("a", "b")], {"names": ["a"]}, "no vertex has"),
             ([(0, 1)], {"id": "x" * 161}, "at most 160 bytes"), ([(0, 1)], {"id": 'a"'}, "quotation mark"),
             ([], {"n": 10**9 + 1}, "at most 1000000000 vertices"), ([], {"n": -1}, "vertices"),
         ]:
@@ -77,8 +78,8 @@ class WaysIn(unittest.TestCase):
     def test_ids(self):
         """Graphs of one id are the same, unless the caller says it."""
         graphs = [
-            sgb.from_edges([(0, 1)]), sgb.from_edges([(0, 1)], n=3), sgb.from_edges([(0, 1, 2)]), sgb.from_edges([(0, 1)], names="ab"),
-            sgb.from_edges([(0, 1)], directed=True), sgb.from_edges([(0, 1), (1, 2)]), sgb.from_edges([(1, 2), (0, 1)]),
+            sgb.from_edges([(0, 1)]), sgb.from_edges([(0, 1)], n=3), sgb.from_edges([(0, 1, 2)]),
+            sgb.from_edges([(0, 1)], names="ab"), sgb.from_edges([(0, 1)], directed=True), sgb.from_edges([(0, 1), (1, 2)]), sgb.from_edges([(1, 2), (0, 1)]),
         ]
         self.assertEqual(len(set(graphs)), len(graphs))
         self.assertEqual(graphs[0], sgb.from_edges([[0, 1, 1]]))
@@ -86,7 +87,7 @@ class WaysIn(unittest.TestCase):
         self.assertTrue(all(len(graph.id) < 160 for graph in graphs))
 
     def test_long_records(self):
-        """Names of all lengths, and of all bytes: lines are broken as the reader of the published programs wants them."""
+        """Names of all lengths and bytes: lines are broken as the reader of the published programs wants them."""
         rng = random.Random(5)
         bytes_of_names = [chr(byte) for byte in range(32, 127) if chr(byte) not in '"\\']
         for size in [*range(60, 100), 150, 157, 158, 159, 160, 4095]:

@@ -7,16 +7,17 @@
 
 The forms:
 
-    edges       A line for each edge: two names and perhaps a length, with tabs between them, or blanks where there is no
+    edges       A line for each edge: two names and perhaps a length, with tabs between them, or blanks where there is
+    no
                 tab. A name alone is a vertex. Lines without a tab that begin with # are not looked at. Vertices are in
                 the order in which they are met.
     dimacs      "p edge N M" and lines "e 1 2", which are edges, or "p sp N M" and lines "a 1 2 7", which are arcs.
     graph6, sparse6   Of nauty, one graph.
     mtx         Matrix Market, coordinates: symmetric entries are edges, general ones arcs from row to column.
 
---directed takes the lines of edges for arcs. --id TEXT is the official name; if it is not said, it has a sum of all that
-the graph is. The list of a vertex has its arcs in the order in which they are given. What GraphBase cannot have, as a
-length of 1.5, is refused with a line, and the status is 1.
+--directed takes the lines of edges for arcs. --id TEXT is the official name; if it is not said, it has a sum of all
+that the graph is. The list of a vertex has its arcs in the order in which they are given. What GraphBase cannot have,
+as a length of 1.5, is refused with a line, and the status is 1.
 
 It needs Python alone. What the package sgb has in memory goes in by its calls from_edges and from_networkx.
 """

@@ -1,10 +1,9 @@
 #!/usr/bin/env python3
 """Tries to_gb.py: examples/tests/to_gb_test.py [PROGRAM]. Each file that it writes is read back by the program.
 
-Graphs of the program go through convert.awk into a form and through to_gb.py back, and have to be what they were. Others
-are written here, with values from the descriptions of the forms, and by networkx where it is installed. What is no graph
-of its form, and what GraphBase cannot have, has to be refused with one line.
-"""
+Graphs of the program go through convert.awk into a form and through to_gb.py back, and have to be what they were.
+Others are written here, with values from the descriptions of the forms, and by networkx where it is installed. What
+is no graph of its form, and what GraphBase cannot have, has to be refused with one line. """
 
 import collections
 import glob
@@ -34,7 +33,8 @@ TEXTS = [
     ("graph6", "DQc\n", [], "01234", [(0, 2, 1), (0, 4, 1), (1, 3, 1), (2, 0, 1), (3, 1, 1), (3, 4, 1), (4, 0, 1), (4, 3, 1)]),
     ("graph6", ">>graph6<<A_", [], "01", [(0, 1, 1), (1, 0, 1)]), ("graph6", "?\n", [], "", []), ("graph6", "@", [], "0", []),
     ("graph6", "A_", ["--directed"], "01", [(0, 1, 1)]),
-    ("sparse6", ":Fa@x^\n", [], "0123456", [(u, v, 1) for a, b in [(0, 1), (0, 2), (1, 2), (5, 6)] for u, v in [(a, b), (b, a)]]),
+    ("sparse6", ":Fa@x^\n", [], "0123456",
+     [(u, v, 1) for a, b in [(0, 1), (0, 2), (1, 2), (5, 6)] for u, v in [(a, b), (b, a)]]),
     ("sparse6", ">>sparse6<<:An", [], "01", [(0, 1, 1), (1, 0, 1)]),
     ("edges", "# of two\na b\nb a -7\nc\n", [], "abc", [(0, 1, 1), (0, 1, -7), (1, 0, 1), (1, 0, -7)]),
     ("edges", "a\tb\t5\n#\ta\n\n", ["--directed"], "ab#", [(0, 1, 5), (2, 0, 1)]), ("edges", "", [], "", []),
@@ -51,8 +51,9 @@ REFUSED = [
     ("edges", "a b " + "9" * 30, "64 bits"), ("edges", "a \u00e9\n", "ASCII"), ("edges", f"a {'b' * 5000}\n", "at most 4095"),
     ("dimacs", "e 1 2\n", "head"), ("dimacs", "p edge 2 1\ne 1 3\n", "there are 2 vertices"), ("dimacs", "", "no line p"),
     ("dimacs", "p edge 2 1\ne 0 1\n", "there are 2 vertices"), ("dimacs", "p edge 2 1\nx 1 2\n", "no line of DIMACS"),
-    ("graph6", "D\n", "letters"), ("graph6", "", "is no graph6"), ("graph6", ":An\n", "is no graph6"), ("graph6", "A_\nA_\n", "more than one"),
-    ("sparse6", "A_\n", "is no sparse6"), ("mtx", "1 1 0\n", "first line"), ("mtx", "%%MatrixMarket matrix array real general\n", "first line"),
+    ("graph6", "D\n", "letters"), ("graph6", "", "is no graph6"), ("graph6", ":An\n", "is no graph6"),
+    ("graph6", "A_\nA_\n", "more than one"), ("sparse6", "A_\n", "is no sparse6"),
+    ("mtx", "1 1 0\n", "first line"), ("mtx", "%%MatrixMarket matrix array real general\n", "first line"),
     ("mtx", "%%MatrixMarket matrix coordinate real general\n2 3 0\n", "2 rows, 3 columns"),
     ("mtx", "%%MatrixMarket matrix coordinate real general\n2 2 2\n1 1 1\n", "2 entries"),
     ("mtx", "%%MatrixMarket matrix coordinate real general\n2 2 1\n1 1 0.5\n", "is no integer"),

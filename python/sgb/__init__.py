@@ -22,13 +22,13 @@ expression `stdin` stands for:
     sgb.graph("lines(stdin,0)", "own.gb")
     sgb.graph("lines(stdin,0)", sgb.from_edges([(0, 1), (1, 2), (2, 0)]))
 
-It calls the library for C, libsgb.so, which `make lib` leaves: the file that the variable SGB_LIBRARY names, else the one
-beside this file, else the one in the repository that this file stands in, else the one that the system finds. It needs
-Python's own library alone; where numpy is installed, arrays are numpy's, else memory views. Both look at memory that C has
-filled, nothing is copied, and cannot be changed.
+It calls the library for C, libsgb.so, which `make lib` leaves: the file that the variable SGB_LIBRARY names, else the
+one beside this file, else the one in the repository that this file stands in, else the one that the system finds. It
+needs Python's own library alone; where numpy is installed, arrays are numpy's, else memory views. Both look at memory
+that C has filled, nothing is copied, and cannot be changed.
 
-A refusal is a GraphError, which is a ValueError, want of memory a MemoryError; a vertex that is not there is an IndexError,
-and what is no text, vertex or input at all a TypeError.
+A refusal is a GraphError, which is a ValueError, want of memory a MemoryError; a vertex that is not there is an
+IndexError, and what is no text, vertex or input at all a TypeError.
 
 Until version 1.0 generators' graphs had functions of their own: for `sgb.vertices(text)`, `sgb.arcs(text)`,
 `sgb.chunks(text, ..)` and `sgb.Chunk(text, first, n)` one now has `n`, `m`, `chunks(..)` and `rows(first, n)` of
@@ -90,7 +90,8 @@ def graph(text: str, input: Any = None) -> Graph:  # noqa: A002 (the expression 
     return Graph(text, input)
 
 
-def flip(start: SupportsIndex, skip: SupportsIndex = 0, count: SupportsIndex = 1, m: SupportsIndex = 0) -> NDArray[numpy.uint32]:
+def flip(start: SupportsIndex, skip: SupportsIndex = 0, count: SupportsIndex = 1,
+         m: SupportsIndex = 0) -> NDArray[numpy.uint32]:
     """Random numbers of GB_FLIP.
 
     Parameters

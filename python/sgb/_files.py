@@ -1,8 +1,8 @@
 """The .gb file of a graph that is given by its arcs (GB_SAVE). It needs nothing but Python.
 
-The list of a vertex has its arcs in the order in which they are given. An edge is two arcs there and back, whose records
-follow each other, that on the list of the smaller end first; so is a loop, whose two arcs follow each other on one list.
-"""
+The list of a vertex has its arcs in the order in which they are given. An edge is two arcs there and back, whose
+records follow each other, that on the list of the smaller end first; so is a loop, whose two arcs follow each other
+on one list. """
 
 from __future__ import annotations
 

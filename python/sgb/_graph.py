@@ -26,16 +26,16 @@ class Graph:
     A generator's graph (board, simplex, subsets, and the short names of such, as complete(5)) is not built: it may have
     10^9 vertices, and what is asked for is made alone. All others are built, and held as they are.
 
-    It is gone through as graphs of networkx are: `for v in g` goes over its vertices, the numbers 0 to n - 1, `len(g)` of
-    them; `g[v]` is where the arcs of vertex v lead. Its arrays have the lists of arcs one after another: the list of
-    vertex v is what stands from starts[v] up to starts[v + 1] in `tips` and `lengths`. They are made when they are first
-    asked for, and cannot be changed. `rows` and `chunks` give the lists of some vertices.
+    It is gone through as graphs of networkx are: `for v in g` goes over its vertices, the numbers 0 to n - 1,
+    `len(g)` of them; `g[v]` is where the arcs of vertex v lead. Its arrays have the lists of arcs one after another:
+    the list of vertex v is what stands from starts[v] up to starts[v + 1] in `tips` and `lengths`. They are made when
+    they are first asked for, and cannot be changed. `rows` and `chunks` give the lists of some vertices.
 
     Two graphs are equal where they have one official name.
 
-    The library holds the graph until `close`, the end of a `with`, or the end of this object. What was asked for before
-    stays; what was not is then a ValueError. A vertex is any integer, numpy's too: where there is no such vertex, it is an
-    IndexError. Want of memory is a MemoryError.
+    The library holds the graph until `close`, the end of a `with`, or the end of this object. What was asked for
+    before stays; what was not is then a ValueError. A vertex is any integer, numpy's too: where there is no such
+    vertex, it is an IndexError. Want of memory is a MemoryError.
 
     Attributes
     ----------
@@ -156,7 +156,7 @@ class Graph:
 
     @property
     def _whole(self) -> Rows:
-        """All lists, without their lengths. They do not lead back here: else the graph would not end with its last use."""
+        """All lists, without their lengths. They do not lead back here, so that the graph ends with its last use."""
         return self._fetched("lists", lambda: Rows(self.text, 0, *self._lists(0, self.n, False)))
 
     # runs of vertices
@@ -265,8 +265,8 @@ class Graph:
         return self._with(v, True).lengths_of(v)
 
     def degree(self, v: SupportsIndex) -> int:
-        """How many arcs are on the list of vertex v, an int. An edge stands on the lists of both its ends, a loop twice on
-        one."""
+        """How many arcs are on the list of vertex v, an int. An edge stands on the lists of both its ends, a loop
+        twice on one."""
         return self._with(v).degree(v)
 
     def name(self, v: SupportsIndex) -> str:
@@ -388,9 +388,8 @@ class Graph:
     def edges(self) -> list[tuple[int, int, int]]:
         """The edges (v, tip, length), int each: of each edge the arc that comes first, and of a loop one of its two.
 
-        ValueError where the arcs are no edges: an edge is two arcs of one length, there and back, and so is a loop. (Arcs
-        that by chance come so are taken for edges.)
-        """
+        ValueError where the arcs are no edges: an edge is two arcs of one length, there and back, and so is a loop.
+        (Arcs that by chance come so are taken for edges.) """
         return _others.paired(self.arcs())
 
     to_scipy, to_networkx, to_igraph = _others.to_scipy, _others.to_networkx, _others.to_igraph

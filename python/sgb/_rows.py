@@ -18,8 +18,8 @@ class Rows:
     """The lists of arcs of a run of vertices of a graph: `n` of them, one after another from vertex `first` on.
 
     `Graph.rows` and `Graph.chunks` make them. The list of vertex first + k is what stands from starts[k] up to
-    starts[k + 1] in `tips` and `lengths`. Vertices are numbers of the whole graph everywhere: `rows[v]` is where the arcs
-    of vertex v lead, and `for v in rows` goes over the vertices of the run, `len(rows)` of them.
+    starts[k + 1] in `tips` and `lengths`. Vertices are numbers of the whole graph everywhere: `rows[v]` is where the
+    arcs of vertex v lead, and `for v in rows` goes over the vertices of the run, `len(rows)` of them.
 
     They can be pickled. Names that were not asked for before are then not there.
 
@@ -99,7 +99,10 @@ class Rows:
         return place.stop - place.start
 
     def arcs(self) -> Iterator[tuple[int, int, int]]:
-        """The arcs (v, tip, length), int each, in the order of the lists. ValueError where lengths were not asked for."""
+        """The arcs (v, tip, length), int each, in the order of the lists.
+
+        ValueError where lengths were not asked for.
+        """
         lengths = self._lengths().tolist()
         starts = self.starts.tolist()
         tails = (v for v, a, b in zip(self, starts, starts[1:]) for _ in range(a, b))

@@ -23,13 +23,13 @@ def from_edges(edges: Iterable[Sequence[Any]], n: Optional[int] = None, names: O
     Parameters
     ----------
     edges : iterable of (v, tip) or (v, tip, length)
-        The ends are vertices, 0 to n - 1, or their names, if all are str. A length is an integer; it is 1 where there is
-        none. Parallel edges and loops are what they are.
+        The ends are vertices, 0 to n - 1, or their names, if all are str. A length is an integer; it is 1 where there
+        is none. Parallel edges and loops are what they are.
     n : int
         How many vertices there are. If it is not said: as many as there are names, else one more than the greatest end.
     names : sequence of str
-        The names of the vertices. If there are none: the ends, in the order in which they are met, where they are names;
-        else the numbers of the vertices.
+        The names of the vertices. If there are none: the ends, in the order in which they are met, where they are
+        names; else the numbers of the vertices.
     directed : bool
         Whether they are arcs; otherwise each edge is two arcs there and back, and a loop two of its vertex.
     id : str
@@ -39,14 +39,14 @@ def from_edges(edges: Iterable[Sequence[Any]], n: Optional[int] = None, names: O
     Returns
     -------
     Graph
-        Its expression is `stdin`; `save()` is its .gb file. The list of a vertex has its arcs in the order in which they
-        are given. (Graphs that GraphBase makes arc by arc have them the other way round.)
+        Its expression is `stdin`; `save()` is its .gb file. The list of a vertex has its arcs in the order in which
+        they are given. (Graphs that GraphBase makes arc by arc have them the other way round.)
 
     Raises
     ------
     ValueError
-        Where GraphBase has no such graph: an end that is no vertex, a length that is no integer of 64 bits, a name or an id
-        that is too long or not printable ASCII without quotation mark and backslash, more than 10^9 vertices.
+        Where GraphBase has no such graph: an end that is no vertex, a length that is no integer of 64 bits, a name or
+        an id that is too long or not printable ASCII without quotation mark and backslash, more than 10^9 vertices.
     TypeError
         Where ends are neither numbers nor all names.
 
@@ -60,7 +60,8 @@ def from_edges(edges: Iterable[Sequence[Any]], n: Optional[int] = None, names: O
     if any(isinstance(end, str) for edge in given for end in edge[:2]):
         given, names = _numbered(given, names)
     if n is None:
-        n = len(names) if names is not None else 1 + max((operator.index(end) for edge in given for end in edge[:2]), default=-1)
+        ends = (operator.index(end) for edge in given for end in edge[:2])
+        n = len(names) if names is not None else 1 + max(ends, default=-1)
     arcs = _files.Arcs(operator.index(n))
     add = arcs.arc if directed else arcs.edge
     for edge in given:
@@ -158,7 +159,8 @@ def from_networkx(graph: networkx.Graph, weight: str = "weight", id: Optional[st
     return from_edges(edges, len(place), [str(node) for node in place], graph.is_directed(), id)
 
 
-def from_scipy(matrix: Any, names: Optional[Sequence[str]] = None, directed: bool = True, id: Optional[str] = None) -> Graph:  # noqa: A002
+def from_scipy(matrix: Any, names: Optional[Sequence[str]] = None, directed: bool = True,
+               id: Optional[str] = None) -> Graph:  # noqa: A002
     """The graph of a matrix of lengths.
 
     Parameters

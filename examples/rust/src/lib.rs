@@ -15,8 +15,8 @@
 //! # Ok::<(), sgb::Error>(())
 //! ```
 //!
-//! A slice is what these calls ask for: a pointer that is not null, and a length. A handle is closed when it is dropped, and
-//! belongs to one thread, since it is neither `Send` nor `Sync`; what was fetched is for any.
+//! A slice is what these calls ask for: a pointer that is not null, and a length. A handle is closed when it is
+//! dropped, and belongs to one thread, since it is neither `Send` nor `Sync`; what was fetched is for any.
 #![warn(missing_docs)]
 
 mod calls;
@@ -43,8 +43,8 @@ pub enum Field {
     Z,
 }
 
-/// A graph that is open. What its vertices have is asked for a run at a time: so many vertices, one after another from a first one
-/// on. Where these are not all there, the answer is `Error::Code(106)`.
+/// A graph that is open. What its vertices have is asked for a run at a time: so many vertices, one after another
+/// from a first one on. Where these are not all there, the answer is `Error::Code(106)`.
 ///
 /// Two graphs are equal where they have one official name.
 #[derive(Debug)]
@@ -56,8 +56,8 @@ pub struct Graph {
 }
 
 impl Graph {
-    /// The graph that an expression names, where `input` are the bytes that `stdin` in it stands for. A generator's graph is not
-    /// built; all others are.
+    /// The graph that an expression names, where `input` are the bytes that `stdin` in it stands for. A generator's
+    /// graph is not built; all others are.
     pub fn new(text: &str, input: &[u8]) -> Result<Graph, Error> {
         let held = Held::open(text, input)?;
         let sizes = held.sizes()?;
@@ -85,7 +85,8 @@ impl Graph {
         self.held.arcs()
     }
 
-    /// What the utility fields hold, a letter each: of vertices u v w x y z, of arcs a b, of the graph uu vv ww xx yy zz.
+    /// What the utility fields hold, a letter each: of vertices u v w x y z, of arcs a b, of the graph uu vv ww xx yy
+    /// zz.
     pub fn kinds(&self) -> Result<String, Error> {
         self.held.kinds()
     }
@@ -185,8 +186,8 @@ impl Graph {
         Ok(None)
     }
 
-    /// The integers in a utility field of `count` vertices from vertex `first` on; those of a board are the coordinates. It is
-    /// `Error::Code(102)` where the field does not hold integers.
+    /// The integers in a utility field of `count` vertices from vertex `first` on; those of a board are the
+    /// coordinates. It is `Error::Code(102)` where the field does not hold integers.
     pub fn ints(&self, field: Field, first: usize, count: usize) -> Result<Vec<i64>, Error> {
         self.held.ints(field as u32, Self::run(first, count)?)
     }

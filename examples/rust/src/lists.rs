@@ -15,8 +15,8 @@ pub struct Arc {
     pub length: i64,
 }
 
-/// Where the arcs of a run of vertices lead: their lists, one after another. Vertices are numbers of the whole graph, here and in
-/// `Rows`; a method panics where its vertex is not in the run.
+/// Where the arcs of a run of vertices lead: their lists, one after another. Vertices are numbers of the whole graph,
+/// here and in `Rows`; a method panics where its vertex is not in the run.
 #[derive(Clone, Debug, PartialEq, Eq)]
 pub struct Lists {
     first: u32,
@@ -151,8 +151,9 @@ impl Rows {
         self.vertices().flat_map(|v| self.arcs_of(v))
     }
 
-    /// The edges: of each the arc that comes first, and of a loop one of its two. An edge is two arcs of one length, there and
-    /// back, and so is a loop; an arc without one back is an error. These have to be the lists of all vertices.
+    /// The edges: of each the arc that comes first, and of a loop one of its two. An edge is two arcs of one length,
+    /// there and back, and so is a loop; an arc without one back is an error. These have to be the lists of all
+    /// vertices.
     pub fn edges(&self) -> Result<Vec<Arc>, Error> {
         // the arcs that were met without one back so far, and how often each
         let (mut edges, mut waiting) = (Vec::new(), HashMap::<Arc, u64>::new());

@@ -1,7 +1,8 @@
 //! The names of a run of vertices.
 use std::ops::{Index, Range};
 
-/// The names of a run of vertices. `names[v]` is that of vertex `v` of the whole graph; it panics where that is not in the run.
+/// The names of a run of vertices. `names[v]` is that of vertex `v` of the whole graph; it panics where that is not
+/// in the run.
 #[derive(Clone, Debug, PartialEq, Eq)]
 pub struct Names {
     first: usize,
