@@ -7,23 +7,39 @@
  *
  * Link with libsgb.a or libsgb.so. The library calls malloc, realloc and free of the program, with memcpy, memmove and
  * memset, and nothing else; it has no state of its own, and writes nothing. What it holds is in the handles that are open:
- * sgb_close gives it back, and a call that answers out of memory holds nothing more than before. A call without a handle
- * holds nothing when it has answered.
+ * sgb_close gives it back.
  *
  * A graph is named by an expression, as `sgb` takes it: "board(8,8,0,0,-1,0,0)", "petersen()", "lines(stdin,0)". The
  * expression `stdin` is the graph of the `.gb` file whose bytes are handed in as `input`; else these are not looked at. A
  * text has no zero byte at its end that would count: its length is handed in.
  *
- * Arrays belong to the caller, who hands in each with its length. A call fills all of its arrays, or leaves all of them as
- * they were: an array of another length than it must have is never written to (SGB_WRONG_LENGTH). sgb_sizes says which
- * lengths these are, sgb_file_size that of a file, sgb_chunk_sizes those of a chunk.
+ * The graph of a generator's call is not built when it is opened: board, simplex or subsets with its parameters, or a name for
+ * one, as complete(5), circuit(5) or petersen(). So a board of 10^9 vertices is open at once, and its arrays are had in runs.
+ * All other graphs are built. No call asks which of both a graph is.
  *
- * A graph that is too great to be built is gone through in chunks, which need no handle: see sgb_chunk_sizes.
+ * A run is `count` vertices of the graph, one after another from vertex `first` on: 0 and n for all. All of them have to be
+ * there, or the answer is SGB_NO_VERTEX. No vertices from n on are a run too.
  *
- * What a caller owes: each pointer leads to as many values as its length says, which are no other argument's, and is not
- * NULL, also where the length is 0 (any address that fits the type does then). A handle begins as SGB_NO_GRAPH, is changed
- * by these calls alone, and is not copied while it is open. It is used by one call at a time (that
- * it may go to another thread, under a lock, is not proved); several handles may be open at once.
+ * Arrays belong to the caller, who hands in each with its length; what is in them before does not matter. A call fills all of
+ * its arrays, or leaves all of them as they were: an array of another length than it must have is never written to
+ * (SGB_WRONG_LENGTH). sgb_sizes, sgb_rows_size, sgb_names_size and sgb_file_size say which lengths these are.
+ *
+ * Memory. sgb_open takes what it holds. The other calls on an open graph hold nothing more when they have answered. On a graph
+ * that is built they take none; on a generator's sgb_arcs and the calls on rows, tips and names may take some while they run, and
+ * sgb_file and sgb_file_size build the graph for that time. All other calls never take any. Where memory is refused the answer
+ * is SGB_NO_ROOM, and all is as it was before the call. A handle that is not open, a run that is not there and `starts` of a
+ * wrong length are told before memory is taken, and so are a handle that is open already and a text that is too large.
+ *
+ * Stack. A generator's call is opened with at most 64 KB of stack, any other expression with at most 96 KB and 36 KB more for
+ * each pair of parentheses in one another, of which there may be 64. sgb_arcs takes at most 160 KB, all other calls 64 KB.
+ *
+ * Threads. A handle is used by one call at a time; several handles may be open, and used by many threads at once. That a
+ * handle may go to another thread, under a lock, is not proved: the library keeps nothing of a thread's.
+ *
+ * What a caller owes: each pointer leads to as many values as its length says, and is not NULL, also where the length is 0
+ * (any address that fits the type does then). What a call writes overlaps nothing else that it is handed; what it reads may be
+ * the same bytes, as one literal for `text` and `input`. A handle begins as SGB_NO_GRAPH, is changed by these calls alone, and
+ * is not copied while it is open.
  *
  * What is proved of each call stands in crates/sgb_c/src/lib.rt: that the arrays hold what the definitions say of the
  * expression's graph, and when each answer comes.
@@ -35,13 +51,20 @@
 #include <stddef.h>
 #include <stdint.h>
 
+#if SIZE_MAX != UINT64_MAX
+#error "sgb.h: the library is for machines whose size_t has 64 bits"
+#endif
+
 #ifdef __cplusplus
 extern "C" {
 #endif
 
+/* The version of these calls: a program may compare it with sgb_version(). */
+#define SGB_VERSION "1.0.0"
+
 /* Answers. */
 #define SGB_OK 0                  /* the arrays are filled */
-#define SGB_NO_ROOM 1             /* out of memory: nothing is held */
+#define SGB_NO_ROOM 1             /* out of memory: all is as it was before the call */
 #define SGB_EARLY_DATA_FAULT 10   /* the head of a `.gb` file is wrong */
 #define SGB_LATE_DATA_FAULT 11    /* its end is wrong */
 #define SGB_SYNTAX_ERROR 20       /* a record of it is wrong */
@@ -54,17 +77,36 @@ extern "C" {
 #define SGB_BAD_BOUND 103         /* a uniform draw has a bound from 1 to 2^31 */
 #define SGB_ALREADY_OPEN 104      /* the handle holds a graph, which stays: close it first */
 #define SGB_NOT_OPEN 105          /* the handle holds no graph */
-#define SGB_NO_VERTEX 106         /* some of the chunk's vertices are none of the graph */
-#define SGB_NO_GENERATOR 107      /* the expression is no call of a generator: it has to be opened */
+#define SGB_NO_VERTEX 106         /* some of the run's vertices are none of the graph */
 #define SGB_BAD_EXPRESSION 1000   /* this and more: the text is no expression; what is above 1000 is the length of the
                                      longest prefix of it that begins one */
+
+/* The words of an answer, in which every language says it. Of a bad expression they are followed by " at byte " and the length
+ * that the answer is above 1000. */
+static inline const char *sgb_words(uint64_t answer) {
+    switch (answer) {
+    case SGB_OK: return "done";
+    case SGB_NO_ROOM: return "out of memory";
+    case SGB_EARLY_DATA_FAULT: return "the head of the .gb file is wrong";
+    case SGB_LATE_DATA_FAULT: return "the end of the .gb file is wrong";
+    case SGB_SYNTAX_ERROR: return "a record of the .gb file is wrong";
+    case SGB_BAD_SPECS: return "parameters that make no sense";
+    case SGB_VERY_BAD_SPECS: return "parameters that ask for too much";
+    case SGB_INVALID_OPERAND: return "a graph that the operation cannot take";
+    case SGB_TEXT_TOO_LARGE: return "the expression is too large";
+    case SGB_WRONG_LENGTH: return "an array has another length than it must have";
+    case SGB_NO_INTEGERS: return "there is no such field, or it holds no integers";
+    case SGB_BAD_BOUND: return "a uniform draw has a bound from 1 to 2^31";
+    case SGB_ALREADY_OPEN: return "a graph is open";
+    case SGB_NOT_OPEN: return "no graph is open";
+    case SGB_NO_VERTEX: return "there are not so many vertices";
+    }
+    return answer >= SGB_BAD_EXPRESSION ? "bad expression" : "something went wrong";
+}
 
 /* How large a graph is. */
 typedef struct {
     uint64_t vertices; /* its vertices, n */
-    uint64_t arcs;     /* the arcs that it counts, m; an edge counts as two */
-    uint64_t listed;   /* the arcs on the lists of its vertices: m, but for some graphs of files; 2^64 - 1 also where more */
-    uint64_t names;    /* the bytes of the names of its vertices, all together */
     uint64_t id;       /* the bytes of its id, at most 160 */
 } sgb_graph_sizes;
 
@@ -77,33 +119,51 @@ typedef struct {
 /* What a handle is before it is opened, and after it is closed. */
 #define SGB_NO_GRAPH { 0, false }
 
-/* Makes the graph that the text names, and holds it. */
+/* Opens the graph that the text names, and holds it. */
 uint64_t sgb_open(const char *text, size_t text_len, const char *input, size_t input_len, sgb_graph *graph);
 
 /* Gives the graph back, if one is open. */
 void sgb_close(sgb_graph *graph);
 
-/* The sizes of the graph that is open. No memory is taken, by this call and the others on a graph that is open. */
+/* The sizes of the graph, at once. */
 uint64_t sgb_sizes(sgb_graph *graph, sgb_graph_sizes *sizes);
 
-/* The lists of arcs of all vertices, one after another, each in its order. The list of vertex v is what stands in `tips` and
- * `lengths` from starts[v] up to starts[v + 1]: where each arc leads, and its length.
- * `starts` has n + 1 places, `tips` and `lengths` have `listed` ones. */
-uint64_t sgb_rows(sgb_graph *graph, uint64_t *starts, size_t starts_len, uint32_t *tips, size_t tips_len,
-                  int64_t *lengths, size_t lengths_len);
+/* The arcs that the graph counts, m, where an edge counts as two; 2^64 - 1 also where there are more. Of a generator's graph they
+ * are counted without their lists: of a board by its displacements, of a simplex at once; subsets of a sum of 20 or more are
+ * walked over, which takes long where there are many. */
+uint64_t sgb_arcs(sgb_graph *graph, uint64_t *arcs);
 
-/* The names of all vertices, one after another, with nothing between them. The name of vertex v is what stands in `bytes`
- * from starts[v] up to starts[v + 1].
- * `starts` has n + 1 places, `bytes` has `names` ones. */
-uint64_t sgb_names(sgb_graph *graph, uint64_t *starts, size_t starts_len, char *bytes, size_t bytes_len);
+/* The arcs on the lists of a run; 2^64 - 1 also where there are more. Of all vertices these are as many as sgb_arcs says, but for
+ * some graphs of files, in which vertices share a list. */
+uint64_t sgb_rows_size(sgb_graph *graph, uint32_t first, uint32_t count, uint64_t *arcs);
 
-/* The integers in a utility field of the vertices: u, v, w, x, y, z are the fields 0 to 5. In 3, 4, 5 the vertices of board,
- * simplex and subsets have the first three coordinates.
- * `values` has n places. */
-uint64_t sgb_ints(sgb_graph *graph, uint32_t field, int64_t *values, size_t values_len);
+/* The bytes of the names of a run, all together. */
+uint64_t sgb_names_size(sgb_graph *graph, uint32_t first, uint32_t count, uint64_t *bytes);
+
+/* The lists of arcs of a run, one after another, each in its order. The list of vertex first + k is what stands in `tips` and
+ * `lengths` from starts[k] up to starts[k + 1], where each arc leads, and its length; starts[0] is 0. A tip is a vertex of the
+ * whole graph.
+ * `starts` has count + 1 places, `tips` and `lengths` as many as sgb_rows_size says. */
+uint64_t sgb_rows(sgb_graph *graph, uint32_t first, uint32_t count, uint64_t *starts, size_t starts_len, uint32_t *tips,
+                  size_t tips_len, int64_t *lengths, size_t lengths_len);
+
+/* The same without lengths. */
+uint64_t sgb_tips(sgb_graph *graph, uint32_t first, uint32_t count, uint64_t *starts, size_t starts_len, uint32_t *tips,
+                  size_t tips_len);
+
+/* The names of a run, one after another, with nothing between them. The name of vertex first + k is what stands in `bytes` from
+ * starts[k] up to starts[k + 1]; starts[0] is 0.
+ * `starts` has count + 1 places, `bytes` as many as sgb_names_size says. */
+uint64_t sgb_names(sgb_graph *graph, uint32_t first, uint32_t count, uint64_t *starts, size_t starts_len, char *bytes,
+                   size_t bytes_len);
+
+/* The integers of a run in a utility field of the vertices: u, v, w, x, y, z are the fields 0 to 5. In 3, 4, 5 the vertices of
+ * board, simplex and subsets have the first three coordinates.
+ * `values` has count places. */
+uint64_t sgb_ints(sgb_graph *graph, uint32_t field, uint32_t first, uint32_t count, int64_t *values, size_t values_len);
 
 /* The id: the graph's official name. No zero byte comes after it.
- * `bytes` has `id` places. */
+ * `bytes` has as many places as the `id` of sgb_sizes says. */
 uint64_t sgb_id(sgb_graph *graph, char *bytes, size_t bytes_len);
 
 /* What the utility fields hold, a letter each of Z I V S A (GB_GRAPH, util_types): of vertices u v w x y z, of arcs a b, of
@@ -119,48 +179,16 @@ uint64_t sgb_file_size(sgb_graph *graph, uint64_t *size);
  * `bytes` has as many places as sgb_file_size says. */
 uint64_t sgb_file(sgb_graph *graph, char *bytes, size_t bytes_len);
 
-/* Graphs that are not built: those of generators' calls. Such a call is board, simplex or subsets with its parameters, or a
- * name for one, as complete(5), circuit(5) or petersen(). Other expressions have to be opened, and are answered with
- * SGB_NO_GENERATOR here: operations, bi_complete and wheel among them, and `stdin`.
- *
- * These calls have no handle. Each reads the text anew, takes memory while it runs (a chunk's arrays once more), and holds
- * none afterwards. Where it answers another number than 0, out of memory too, all arrays and numbers are as they were. */
-
-/* The number of vertices, n. This is at once. */
-uint64_t sgb_family_vertices(const char *text, size_t text_len, uint64_t *vertices);
-
-/* The number of arcs, m; 2^64 - 1 also where there are more. An edge counts as two. They are counted without their lists: of a
- * board by its displacements, of a simplex at once; subsets of a sum of 20 or more are walked over, which takes long where
- * there are many. */
-uint64_t sgb_family_arcs(const char *text, size_t text_len, uint64_t *arcs);
-
-/* A chunk is `count` vertices of the graph, one after another from vertex `first` on; all of them have to be there, or the
- * answer is SGB_NO_VERTEX. These are the arcs on its lists, and the bytes of its names: so long are the arrays of the next two
- * calls.
- *
- * Each of the three takes as long as its chunk, and for a board as its displacements once more; this one as long as the other
- * two. Chunks of some ten thousand vertices are right, of fewer where lists are long. */
-uint64_t sgb_chunk_sizes(const char *text, size_t text_len, uint32_t first, uint32_t count, uint64_t *listed,
-                         uint64_t *names);
-
-/* The lists of arcs of a chunk, one after another, each in its order. The list of vertex first + k is what stands in `tips` and
- * `lengths` from starts[k] up to starts[k + 1]; starts[0] is 0. A tip is a vertex of the whole graph.
- * `starts` has count + 1 places, `tips` and `lengths` have `listed` ones. */
-uint64_t sgb_chunk_rows(const char *text, size_t text_len, uint32_t first, uint32_t count, uint64_t *starts,
-                        size_t starts_len, uint32_t *tips, size_t tips_len, int64_t *lengths, size_t lengths_len);
-
-/* The names of a chunk, one after another, with nothing between them. The name of vertex first + k is what stands in `bytes`
- * from starts[k] up to starts[k + 1]; starts[0] is 0.
- * `starts` has count + 1 places, `bytes` has `names` ones. */
-uint64_t sgb_chunk_names(const char *text, size_t text_len, uint32_t first, uint32_t count, uint64_t *starts,
-                         size_t starts_len, char *bytes, size_t bytes_len);
-
 /* Random numbers of GB_FLIP: a generator is started from `start`, its first `skip` draws are left out, and the next ones fill
- * `out`. No memory is taken. */
+ * `out`. */
 void sgb_draws(int64_t start, uint64_t skip, uint32_t *out, size_t out_len);
 
-/* The same with uniform draws below m, which is from 1 to 2^31; else the answer is SGB_BAD_BOUND. No memory is taken. */
+/* The same with uniform draws below m, which is from 1 to 2^31; else the answer is SGB_BAD_BOUND. */
 uint64_t sgb_uniform_draws(int64_t start, uint64_t skip, uint32_t m, uint32_t *out, size_t out_len);
+
+/* The version of the library that runs: 1000000 for its first number, 1000 for its second, 1 for its third, so that 1.0.0 is
+ * 1000000. */
+uint64_t sgb_version(void);
 
 #ifdef __cplusplus
 }
