@@ -1,4 +1,5 @@
-/* The proved library of the Stanford GraphBase, for C: graphs by their official names, as arrays that the caller hands in.
+/* The proved library of the Stanford GraphBase, for C: graphs by their official names, as arrays that the caller hands
+ * in.
  *
  *     sgb_graph graph = SGB_NO_GRAPH;
  *     sgb_graph_sizes sizes;
@@ -6,40 +7,42 @@
  *     sgb_close(&graph);
  *
  * Link with libsgb.a or libsgb.so. The library calls malloc, realloc and free of the program, with memcpy, memmove and
- * memset, and nothing else; it has no state of its own, and writes nothing. What it holds is in the handles that are open:
- * sgb_close gives it back.
+ * memset, and nothing else; it has no state of its own, and writes nothing. What it holds is in the handles that are
+ * open: sgb_close gives it back.
  *
  * A graph is named by an expression, as `sgb` takes it: "board(8,8,0,0,-1,0,0)", "petersen()", "lines(stdin,0)". The
- * expression `stdin` is the graph of the `.gb` file whose bytes are handed in as `input`; else these are not looked at. A
- * text has no zero byte at its end that would count: its length is handed in.
+ * expression `stdin` is the graph of the `.gb` file whose bytes are handed in as `input`; else these are not looked at.
+ * A text has no zero byte at its end that would count: its length is handed in.
  *
- * The graph of a generator's call is not built when it is opened: board, simplex or subsets with its parameters, or a name for
- * one, as complete(5), circuit(5) or petersen(). So a board of 10^9 vertices is open at once, and its arrays are had in runs.
- * All other graphs are built. No call asks which of both a graph is.
+ * The graph of a generator's call is not built when it is opened: board, simplex or subsets with its parameters, or a
+ * name for one, as complete(5), circuit(5) or petersen(). So a board of 10^9 vertices is open at once, and its arrays
+ * are had in runs. All other graphs are built. No call asks which of both a graph is.
  *
- * A run is `count` vertices of the graph, one after another from vertex `first` on: 0 and n for all. All of them have to be
- * there, or the answer is SGB_NO_VERTEX. No vertices from n on are a run too.
+ * A run is `count` vertices of the graph, one after another from vertex `first` on: 0 and n for all. All of them have
+ * to be there, or the answer is SGB_NO_VERTEX. No vertices from n on are a run too.
  *
- * Arrays belong to the caller, who hands in each with its length; what is in them before does not matter. A call fills all of
- * its arrays, or leaves all of them as they were: an array of another length than it must have is never written to
- * (SGB_WRONG_LENGTH). sgb_sizes, sgb_rows_size, sgb_names_size and sgb_file_size say which lengths these are.
+ * Arrays belong to the caller, who hands in each with its length; what is in them before does not matter. A call fills
+ * all of its arrays, or leaves all of them as they were: an array of another length than it must have is never written
+ * to (SGB_WRONG_LENGTH). sgb_sizes, sgb_rows_size, sgb_names_size and sgb_file_size say which lengths these are.
  *
- * Memory. sgb_open takes what it holds. The other calls on an open graph hold nothing more when they have answered. On a graph
- * that is built they take none; on a generator's sgb_arcs and the calls on rows, tips and names may take some while they run, and
- * sgb_file and sgb_file_size build the graph for that time. All other calls never take any. Where memory is refused the answer
- * is SGB_NO_ROOM, and all is as it was before the call. A handle that is not open, a run that is not there and `starts` of a
- * wrong length are told before memory is taken, and so are a handle that is open already and a text that is too large.
+ * Memory. sgb_open takes what it holds. The other calls on an open graph hold nothing more when they have answered. On
+ * a graph that is built they take none; on a generator's sgb_arcs and the calls on rows, tips and names may take some
+ * while they run, and sgb_file and sgb_file_size build the graph for that time. All other calls never take any. Where
+ * memory is refused the answer is SGB_NO_ROOM, and all is as it was before the call. A handle that is not open, a run
+ * that is not there and `starts` of a wrong length are told before memory is taken, and so are a handle that is open
+ * already and a text that is too large.
  *
- * Stack. A generator's call is opened with at most 64 KB of stack, any other expression with at most 96 KB and 36 KB more for
- * each pair of parentheses in one another, of which there may be 64. sgb_arcs takes at most 160 KB, all other calls 64 KB.
+ * Stack. A generator's call is opened with at most 64 KB of stack, any other expression with at most 96 KB and 36 KB
+ * more for each pair of parentheses in one another, of which there may be 64. sgb_arcs takes at most 160 KB, all other
+ * calls 64 KB.
  *
- * Threads. A handle is used by one call at a time; several handles may be open, and used by many threads at once. That a
- * handle may go to another thread, under a lock, is not proved: the library keeps nothing of a thread's.
+ * Threads. A handle is used by one call at a time; several handles may be open, and used by many threads at once. That
+ * a handle may go to another thread, under a lock, is not proved: the library keeps nothing of a thread's.
  *
- * What a caller owes: each pointer leads to as many values as its length says, and is not NULL, also where the length is 0
- * (any address that fits the type does then). What a call writes overlaps nothing else that it is handed; what it reads may be
- * the same bytes, as one literal for `text` and `input`. A handle begins as SGB_NO_GRAPH, is changed by these calls alone, and
- * is not copied while it is open.
+ * What a caller owes: each pointer leads to as many values as its length says, and is not NULL, also where the length
+ * is 0 (any address that fits the type does then). What a call writes overlaps nothing else that it is handed; what it
+ * reads may be the same bytes, as one literal for `text` and `input`. A handle begins as SGB_NO_GRAPH, is changed by
+ * these calls alone, and is not copied while it is open.
  *
  * What is proved of each call stands in crates/sgb_c/src/lib.rt: that the arrays hold what the definitions say of the
  * expression's graph, and when each answer comes.
@@ -81,8 +84,8 @@ extern "C" {
 #define SGB_BAD_EXPRESSION 1000   /* this and more: the text is no expression; what is above 1000 is the length of the
                                      longest prefix of it that begins one */
 
-/* The words of an answer, in which every language says it. Of a bad expression they are followed by " at byte " and the length
- * that the answer is above 1000. */
+/* The words of an answer, in which every language says it. Of a bad expression they are followed by " at byte " and the
+ * length that the answer is above 1000. */
 static inline const char *sgb_words(uint64_t answer) {
     switch (answer) {
     case SGB_OK: return "done";
@@ -128,21 +131,21 @@ void sgb_close(sgb_graph *graph);
 /* The sizes of the graph, at once. */
 uint64_t sgb_sizes(sgb_graph *graph, sgb_graph_sizes *sizes);
 
-/* The arcs that the graph counts, m, where an edge counts as two; 2^64 - 1 also where there are more. Of a generator's graph they
- * are counted without their lists: of a board by its displacements, of a simplex at once; subsets of a sum of 20 or more are
- * walked over, which takes long where there are many. */
+/* The arcs that the graph counts, m, where an edge counts as two; 2^64 - 1 also where there are more. Of a generator's
+ * graph they are counted without their lists: of a board by its displacements, of a simplex at once; subsets of a sum
+ * of 20 or more are walked over, which takes long where there are many. */
 uint64_t sgb_arcs(sgb_graph *graph, uint64_t *arcs);
 
-/* The arcs on the lists of a run; 2^64 - 1 also where there are more. Of all vertices these are as many as sgb_arcs says, but for
- * some graphs of files, in which vertices share a list. */
+/* The arcs on the lists of a run; 2^64 - 1 also where there are more. Of all vertices these are as many as sgb_arcs
+ * says, but for some graphs of files, in which vertices share a list. */
 uint64_t sgb_rows_size(sgb_graph *graph, uint32_t first, uint32_t count, uint64_t *arcs);
 
 /* The bytes of the names of a run, all together. */
 uint64_t sgb_names_size(sgb_graph *graph, uint32_t first, uint32_t count, uint64_t *bytes);
 
-/* The lists of arcs of a run, one after another, each in its order. The list of vertex first + k is what stands in `tips` and
- * `lengths` from starts[k] up to starts[k + 1], where each arc leads, and its length; starts[0] is 0. A tip is a vertex of the
- * whole graph.
+/* The lists of arcs of a run, one after another, each in its order. The list of vertex first + k is what stands in
+ * `tips` and `lengths` from starts[k] up to starts[k + 1], where each arc leads, and its length; starts[0] is 0. A tip
+ * is a vertex of the whole graph.
  * `starts` has count + 1 places, `tips` and `lengths` as many as sgb_rows_size says. */
 uint64_t sgb_rows(sgb_graph *graph, uint32_t first, uint32_t count, uint64_t *starts, size_t starts_len, uint32_t *tips,
                   size_t tips_len, int64_t *lengths, size_t lengths_len);
@@ -151,14 +154,14 @@ uint64_t sgb_rows(sgb_graph *graph, uint32_t first, uint32_t count, uint64_t *st
 uint64_t sgb_tips(sgb_graph *graph, uint32_t first, uint32_t count, uint64_t *starts, size_t starts_len, uint32_t *tips,
                   size_t tips_len);
 
-/* The names of a run, one after another, with nothing between them. The name of vertex first + k is what stands in `bytes` from
- * starts[k] up to starts[k + 1]; starts[0] is 0.
+/* The names of a run, one after another, with nothing between them. The name of vertex first + k is what stands in
+ * `bytes` from starts[k] up to starts[k + 1]; starts[0] is 0.
  * `starts` has count + 1 places, `bytes` as many as sgb_names_size says. */
 uint64_t sgb_names(sgb_graph *graph, uint32_t first, uint32_t count, uint64_t *starts, size_t starts_len, char *bytes,
                    size_t bytes_len);
 
-/* The integers of a run in a utility field of the vertices: u, v, w, x, y, z are the fields 0 to 5. In 3, 4, 5 the vertices of
- * board, simplex and subsets have the first three coordinates.
+/* The integers of a run in a utility field of the vertices: u, v, w, x, y, z are the fields 0 to 5. In 3, 4, 5 the
+ * vertices of board, simplex and subsets have the first three coordinates.
  * `values` has count places. */
 uint64_t sgb_ints(sgb_graph *graph, uint32_t field, uint32_t first, uint32_t count, int64_t *values, size_t values_len);
 
@@ -166,28 +169,28 @@ uint64_t sgb_ints(sgb_graph *graph, uint32_t field, uint32_t first, uint32_t cou
  * `bytes` has as many places as the `id` of sgb_sizes says. */
 uint64_t sgb_id(sgb_graph *graph, char *bytes, size_t bytes_len);
 
-/* What the utility fields hold, a letter each of Z I V S A (GB_GRAPH, util_types): of vertices u v w x y z, of arcs a b, of
- * the graph uu vv ww xx yy zz. Z is a field that is not used, I an integer; V a vertex, S a string, A an arc.
+/* What the utility fields hold, a letter each of Z I V S A (GB_GRAPH, util_types): of vertices u v w x y z, of arcs a
+ * b, of the graph uu vv ww xx yy zz. Z is a field that is not used, I an integer; V a vertex, S a string, A an arc.
  * `letters` has 14 places, and no zero byte comes after them. */
 uint64_t sgb_kinds(sgb_graph *graph, char *letters, size_t letters_len);
 
-/* The bytes that the graph's `.gb` file has; 2^64 - 1 also where it has more. It is made, and not kept: this takes as long as
- * sgb_file. */
+/* The bytes that the graph's `.gb` file has; 2^64 - 1 also where it has more. It is made, and not kept: this takes as
+ * long as sgb_file. */
 uint64_t sgb_file_size(sgb_graph *graph, uint64_t *size);
 
 /* The graph's `.gb` file (GB_SAVE, save_graph), as `sgb save` writes it.
  * `bytes` has as many places as sgb_file_size says. */
 uint64_t sgb_file(sgb_graph *graph, char *bytes, size_t bytes_len);
 
-/* Random numbers of GB_FLIP: a generator is started from `start`, its first `skip` draws are left out, and the next ones fill
- * `out`. */
+/* Random numbers of GB_FLIP: a generator is started from `start`, its first `skip` draws are left out, and the next
+ * ones fill `out`. */
 void sgb_draws(int64_t start, uint64_t skip, uint32_t *out, size_t out_len);
 
 /* The same with uniform draws below m, which is from 1 to 2^31; else the answer is SGB_BAD_BOUND. */
 uint64_t sgb_uniform_draws(int64_t start, uint64_t skip, uint32_t m, uint32_t *out, size_t out_len);
 
-/* The version of the library that runs: 1000000 for its first number, 1000 for its second, 1 for its third, so that 1.0.0 is
- * 1000000. */
+/* The version of the library that runs: 1000000 for its first number, 1000 for its second, 1 for its third, so that
+ * 1.0.0 is 1000000. */
 uint64_t sgb_version(void);
 
 #ifdef __cplusplus
