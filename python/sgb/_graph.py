@@ -171,8 +171,14 @@ class Graph:
             raise IndexError(f"no {many} vertices from vertex {begin} on: there are {self.n}")
         return begin, many
 
+    def _size(self, first: int, count: int) -> int:
+        """How many arcs are on the lists of a run. Of all of a generator's they are those that are counted, at once."""
+        if count == self.n and _lookups.is_generated(self):
+            return self.m
+        return self._held.number("lists", "sgb_rows_size", first, count)
+
     def _lists(self, first: int, count: int, lengths: bool) -> tuple[Any, Any, Any]:
-        size = self._held.number("lists", "sgb_rows_size", first, count)
+        size = self._size(first, count)
         starts, tips = _library.Array("Q", count + 1), _library.Array("I", size)
         if not lengths:
             self._held.call("lists", "sgb_tips", first, count, *starts.words, *tips.words)
@@ -248,7 +254,7 @@ class Graph:
         return self.rows(place, 1, lengths)
 
     def _is_small(self) -> bool:
-        return self.n <= FEW[0] and self._held.number("lists", "sgb_rows_size", 0, self.n) <= FEW[1]
+        return self.n <= FEW[0] and self._size(0, self.n) <= FEW[1]
 
     def __getitem__(self, v: SupportsIndex) -> NDArray[numpy.uint32]:
         return self.neighbors(v)
@@ -380,7 +386,7 @@ class Graph:
         first = 0
         while first < self.n:
             count = min(FEW[0], self.n - first)
-            while count > 1 and self._held.number("lists", "sgb_rows_size", first, count) > FEW[1]:
+            while count > 1 and self._size(first, count) > FEW[1]:
                 count //= 2
             yield self.rows(first, count)
             first += count

@@ -1,4 +1,4 @@
-"""Which vertex has a name."""
+"""Which vertex has a name, and which graphs are generators'."""
 
 from __future__ import annotations
 
@@ -16,6 +16,11 @@ GENERATORS = (
 MANY = 65_536
 
 
+def is_generated(graph: Graph) -> bool:
+    """Whether the graph is that of a generator's call."""
+    return graph.text.split("(")[0] in GENERATORS
+
+
 def places(names: Sequence[str]) -> dict[str, int]:
     """The vertex of each name, the first one where several have it."""
     found: dict[str, int] = {}
@@ -26,7 +31,7 @@ def places(names: Sequence[str]) -> dict[str, int]:
 
 def searched(graph: Graph, name: str) -> Optional[int]:
     """The first vertex that has this name, of a graph whose names are too many for a dictionary."""
-    if graph.text.split("(")[0] in GENERATORS:
+    if is_generated(graph):
         return _bisected(graph, name)
     for first in range(0, graph.n, MANY):
         names = graph.names(first, min(MANY, graph.n - first))
