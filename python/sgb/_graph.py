@@ -102,8 +102,6 @@ class Graph:
     def __reduce__(self) -> Any:
         raise TypeError("a graph is not copied: make it again from its text")
 
-    # what is asked for, and kept
-
     def _fetched(self, what: str, fetch: Callable[[], Any]) -> Any:
         with self._lock:
             if what not in self._kept:
@@ -271,8 +269,7 @@ class Graph:
         return self._with(v, True).lengths_of(v)
 
     def degree(self, v: SupportsIndex) -> int:
-        """How many arcs are on the list of vertex v, an int. An edge stands on the lists of both its ends, a loop
-        twice on one."""
+        """How many arcs are on the list of vertex v, an int. An edge is on those of both its ends, a loop twice on one."""
         return self._with(v).degree(v)
 
     def name(self, v: SupportsIndex) -> str:
