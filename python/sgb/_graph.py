@@ -269,7 +269,7 @@ class Graph:
         return self._with(v, True).lengths_of(v)
 
     def degree(self, v: SupportsIndex) -> int:
-        """How many arcs are on the list of vertex v, an int. An edge is on those of both its ends, a loop twice on one."""
+        """How many arcs are on the list of vertex v, an int. An edge is on those of both ends, a loop twice on one."""
         return self._with(v).degree(v)
 
     def name(self, v: SupportsIndex) -> str:
