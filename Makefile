@@ -1,8 +1,8 @@
 # make try        a quick look: a request from the sources, nothing proved, about a minute: make try WORDS='list "petersen()"'
 # make            proves every crate, builds the programs, leaves them as ./sgb and ./sgb_levels
 # make demo       that, and three small graphs
-# make examples   tries the examples: forms of listings, by the readers installed, Python, parts of a listing, the cookbook,
-#                 and callers of the library for C where make lib has left it, among them Dask's where it is installed
+# make examples   tries the examples: forms of listings, by the readers installed, and back, Python, parts of a listing, the
+#                 cookbook, and callers of the library for C where make lib has left it, among them Dask's where it is installed
 # make outside    checks the built program from outside: refused memory, failing devices, broken files, tour, examples
 # make conformance  holds the program against a table of graphs and refusals
 # make graphbase GRAPHBASE=FOLDER  holds it against the published library in FOLDER: gb_graph.h .. and libgb.a
@@ -52,6 +52,7 @@ demo: sgb
 examples: sgb
 	python3 examples/tests/convert_test.py ./sgb
 	python3 examples/tests/sgb_graph_test.py
+	examples/tests/to_gb_test.py ./sgb
 	examples/tests/cookbook_test.py ./sgb
 	examples/tests/course_test.py ./sgb
 	examples/tests/shards_test.sh

@@ -133,7 +133,7 @@ def left_by_make(path):
 
 
 def library(machine, room):
-    """The library for C, as names and paths: the archive and the shared one."""
+    """The library for C, as names and paths: the archive and the shared one. Programs keep the name `soname` of that."""
     if machine.target is None:
         return {name: left_by_make(name) for name in ("libsgb.a", "libsgb.so")}
     archive, shared = os.path.join(room, "libsgb.a"), os.path.join(room, "libsgb.so")
@@ -143,9 +143,22 @@ def library(machine, room):
     exports = os.path.join(room, "sgb.map")
     with open(exports, "w", encoding="utf-8") as file:
         file.write("{ global: sgb_*; local: *; };\n")
-    ran([machine.cc, "-shared", "-o", shared, "-Wl,-soname,libsgb.so", "-Wl,--version-script=" + exports, "-Wl,--whole-archive",
+    name = "libsgb.so." + calls_version().partition(".")[0]
+    ran([machine.cc, "-shared", "-o", shared, "-Wl,-soname," + name, "-Wl,--version-script=" + exports, "-Wl,--whole-archive",
          archive, "-Wl,--no-whole-archive"])
     return {"libsgb.a": archive, "libsgb.so": shared}
+
+
+def calls_version():
+    """The version of the library's calls, which lib.mk has."""
+    with open(os.path.join(TOP, "lib.mk"), encoding="utf-8") as lines:
+        line = next(line for line in lines if line.startswith("LIB_VERSION = "))
+    return line.split()[-1]
+
+
+def soname(shared):
+    """The name that programs keep of a shared library."""
+    return re.search(r"\(SONAME\).*\[(.*)\]", ran(["readelf", "-dW", shared]))[1]
 
 
 def glibc(shared):

@@ -40,18 +40,22 @@ static void save(sgb_graph *graph) {
 /* The names, and in a listing the arcs of each vertex below its name. */
 static void tell(sgb_graph *graph, bool with_arcs) {
     sgb_graph_sizes sizes;
+    uint64_t arcs, m, bytes;
     must(sgb_sizes(graph, &sizes));
-    size_t n = sizes.vertices, m = sizes.listed;
+    size_t n = sizes.vertices;
+    must(sgb_arcs(graph, &arcs));
+    must(sgb_rows_size(graph, 0, n, &m));
+    must(sgb_names_size(graph, 0, n, &bytes));
     uint64_t *starts = room(n + 1, sizeof *starts), *begins = room(n + 1, sizeof *begins);
     uint32_t *tips = room(m, sizeof *tips);
     int64_t *lengths = room(m, sizeof *lengths);
-    char *names = room(sizes.names, 1), *id = room(sizes.id, 1);
-    must(sgb_rows(graph, starts, n + 1, tips, m, lengths, m));
-    must(sgb_names(graph, begins, n + 1, names, sizes.names));
+    char *names = room(bytes, 1), *id = room(sizes.id, 1);
+    must(sgb_rows(graph, 0, n, starts, n + 1, tips, m, lengths, m));
+    must(sgb_names(graph, 0, n, begins, n + 1, names, bytes));
     must(sgb_id(graph, id, sizes.id));
     if (with_arcs) {
         printf("  The graph whose official name is\n%s\n", id);
-        printf("  has %lu vertices and %lu arcs:\n\n", (unsigned long)n, (unsigned long)sizes.arcs);
+        printf("  has %lu vertices and %lu arcs:\n\n", (unsigned long)n, (unsigned long)arcs);
     }
     for (size_t v = 0; v < n; v++) {
         printf("%.*s\n", (int)(begins[v + 1] - begins[v]), names + begins[v]);

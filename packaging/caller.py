@@ -7,11 +7,12 @@ import sgb
 
 def listing(graph):
     yield f"  The graph whose official name is\n{graph.id}\n  has {graph.n} vertices and {graph.m} arcs:\n\n"
-    names, starts = graph.names, graph.starts.tolist()
-    for name, a, b in zip(names, starts, starts[1:]):
-        yield name + "\n"
-        for tip, length in zip(graph.tips[a:b].tolist(), graph.lengths[a:b].tolist()):
-            yield f"  -> {names[tip]}, length {length}\n"
+    names = graph.names()
+    for rows in graph.chunks():
+        for v in rows:
+            yield names[v] + "\n"
+            for tip, length in zip(rows[v].tolist(), rows.lengths_of(v).tolist()):
+                yield f"  -> {names[tip]}, length {length}\n"
 
 
 def main():
@@ -25,9 +26,9 @@ def main():
         sys.stderr.write("sgb: expression too large\n" if error.byte is None else f"sgb: {error}\n")
         sys.exit(2)
     if command == "save":
-        sys.stdout.buffer.write(bytes(graph.save()))
+        sys.stdout.buffer.write(graph.save())
     elif command == "names":
-        sys.stdout.writelines(name + "\n" for name in graph.names)
+        sys.stdout.writelines(name + "\n" for name in graph.names())
     else:
         sys.stdout.writelines(listing(graph))
 

@@ -128,7 +128,7 @@ def make(machine, when):
     tarball, deb, wheel = names(machine)
     tree = packed.prefix_tree(programs, library)
     under = ", under " + machine.runner if machine.runner else ""
-    about = packed.filled("README", MACHINE=machine.name, CALLS=packed.calls_version(), UNDER=under, **values)
+    about = packed.filled("README", MACHINE=machine.name, CALLS=built.calls_version(), UNDER=under, **values)
     tree["share/doc/sgb/README.md"] = about, 0o644
     if not no_deb():
         packed.write_deb(deb, packed.debian_tree(tree), {"ARCHITECTURE": machine.debian, **values}, when, room)

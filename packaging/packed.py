@@ -14,7 +14,7 @@ import tarfile
 import time
 import zipfile
 
-from built import HERE, TOP, ran
+from built import HERE, TOP, calls_version, ran, soname
 
 LEFT_OUT = re.compile(r"examples/tests/|.*\.gitignore$")  # of the examples: what tries them in the repository
 
@@ -30,12 +30,6 @@ def filled(name, **values):
     for key, value in values.items():
         text = text.replace(f"@{key}@", str(value))
     return text.encode()
-
-
-def calls_version():
-    """The version of the library's calls, which lib.mk has."""
-    line = next(line for line in read(TOP, "lib.mk").decode().splitlines() if line.startswith("LIB_VERSION = "))
-    return line.split()[-1]
 
 
 def pkg_config(prefix):
@@ -54,6 +48,11 @@ def tracked(folder):
 
 def add_file(tree, path, source):
     tree[path] = read(TOP, source), 0o755 if os.access(os.path.join(TOP, source), os.X_OK) else 0o644
+
+
+def package_files():
+    """The files of the Python package."""
+    return [os.path.basename(path) for path in tracked("python/sgb")]
 
 
 def shared_part():
@@ -77,9 +76,13 @@ def prefix_tree(programs, library):
     for name, path in programs.items():
         tree["bin/" + name] = read(path), 0o755
     tree["lib/libsgb.a"] = read(library["libsgb.a"]), 0o644
-    tree["lib/libsgb.so"] = read(library["libsgb.so"]), 0o755
+    name = soname(library["libsgb.so"])
+    tree["lib/" + name] = read(library["libsgb.so"]), 0o755
+    if name != "libsgb.so":
+        tree["lib/libsgb.so"] = name  # where a linker looks
     tree["lib/pkgconfig/sgb.pc"] = pkg_config("${pcfiledir}/../.."), 0o644
-    add_file(tree, "share/sgb/python/sgb/__init__.py", "python/sgb/__init__.py")
+    for name in package_files():
+        add_file(tree, "share/sgb/python/sgb/" + name, "python/sgb/" + name)
     tree["share/sgb/python/sgb/libsgb.so"] = "../../../../lib/libsgb.so"
     return tree
 
@@ -88,7 +91,8 @@ def debian_tree(tree):
     """The same for a Debian package."""
     moved = {"usr/" + path: there for path, there in tree.items() if not path.startswith("share/sgb/python/")}
     moved["usr/lib/pkgconfig/sgb.pc"] = pkg_config("/usr"), 0o644
-    moved["usr/lib/python3/dist-packages/sgb/__init__.py"] = tree["share/sgb/python/sgb/__init__.py"]
+    for name in package_files():
+        moved["usr/lib/python3/dist-packages/sgb/" + name] = tree["share/sgb/python/sgb/" + name]
     return moved
 
 
@@ -118,25 +122,30 @@ def write_tar(path, top, tree, moment):
 
 
 def lay(tree, folder, moment):
-    """Writes a tree of plain files below a new folder."""
+    """Writes a tree of files and links below a new folder."""
     shutil.rmtree(folder, ignore_errors=True)
-    for path, (data, mode) in tree.items():
+    for path, what in tree.items():
         there = os.path.join(folder, path)
         os.makedirs(os.path.dirname(there), exist_ok=True)
+        if isinstance(what, str):
+            os.symlink(what, there)
+            continue
+        data, mode = what
         with open(there, "wb") as file:
             file.write(data)
         os.chmod(there, mode)
     for here, _, names in os.walk(folder, topdown=False):
         for name in names:
-            os.utime(os.path.join(here, name), (moment, moment))
+            os.utime(os.path.join(here, name), (moment, moment), follow_symlinks=False)
         os.chmod(here, 0o755)
         os.utime(here, (moment, moment))
 
 
 def write_deb(path, tree, values, moment, room):
     """A Debian package of a tree."""
-    size = sum(len(data) for data, _ in tree.values())
-    sums = [f"{hashlib.md5(data).hexdigest()}  {name}\n" for name, (data, _) in sorted(tree.items())]
+    files = {name: what[0] for name, what in sorted(tree.items()) if not isinstance(what, str)}
+    size = sum(map(len, files.values()))
+    sums = [f"{hashlib.md5(data).hexdigest()}  {name}\n" for name, data in files.items()]
     control = {
         "DEBIAN/control": (filled("control", KILOBYTES=-(-size // 1024), **values), 0o644),
         "DEBIAN/md5sums": ("".join(sums).encode(), 0o644),
@@ -152,7 +161,7 @@ def write_wheel(path, library, version, tag, moment):
     """A wheel, which is a zip file: the package, the library beside it, and what pip reads."""
     about = f"sgb-{version}.dist-info"
     files = {
-        "sgb/__init__.py": read(TOP, "python/sgb/__init__.py"),
+        **{"sgb/" + name: read(TOP, "python/sgb", name) for name in package_files()},
         "sgb/libsgb.so": read(library["libsgb.so"]),
         about + "/METADATA": filled("METADATA", VERSION=version),
         about + "/WHEEL": f"Wheel-Version: 1.0\nGenerator: sgb dist\nRoot-Is-Purelib: false\nTag: {tag}\n".encode(),

@@ -17,7 +17,7 @@ from built import HERE, TOP, Failed, ran
 COMPARE = os.path.join(TOP, "conformance/compare.py")
 PETERSEN = """import sgb
 graph = sgb.graph("petersen()")
-print(graph.n, graph.m, list(graph.neighbors(0)), graph.names[0])
+print(graph.n, graph.m, list(graph[0]), graph.name(0))
 """
 WANTED = "10 30 [9, 8, 5] 0.0.0.1.1\n"
 

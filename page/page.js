@@ -104,7 +104,7 @@ async function make() {
     at("id").textContent = head.id;
     at("counts").textContent = `${head.n} vertices and ${head.m} arcs`;
     for (const id of ["take-list", "take-file"]) {
-      at(id).disabled = !head.isBuilt;
+      at(id).disabled = !head.isWhole;
     }
     at("answer").hidden = false;
     await draw();
@@ -141,7 +141,7 @@ function made(name, attributes, text) {
 async function draw() {
   picture = null;
   chosen = null;
-  const isDrawn = head.isBuilt && head.n > 0 && head.n <= DRAWN.vertices && Number(head.m) <= DRAWN.arcs;
+  const isDrawn = head.isWhole && head.n > 0 && head.n <= DRAWN.vertices && Number(head.m) <= DRAWN.arcs;
   at("drawing").toggleAttribute("hidden", !isDrawn);
   at("zoom").hidden = !isDrawn;
   at("take-svg").disabled = !isDrawn;

@@ -1,58 +1,36 @@
 // The graph of the page, in a worker: it is made here, and asked for in parts.
-import { GraphError, load } from "./sgb.js";
+import { load } from "./sgb.js";
 
-// A generator's graph with more vertices is not built.
-const BUILT = 100_000;
+// The lists and names of a graph with more vertices or arcs are asked for one by one.
+const WHOLE = { vertices: 100_000, arcs: 4_000_000 };
 // What is shown of a list of arcs.
 const ARCS = 60;
 
 const loaded = load();
 let shown = null;
 
-// A graph that is built.
-function built(graph) {
-  const names = graph.names();
+// A graph that is shown: what of a vertex is said, whether from arrays of all vertices or asked for alone.
+function showing(graph) {
+  const isWhole = graph.n <= WHOLE.vertices && graph.m <= WHOLE.arcs;
+  const [names, all] = isWhole ? [graph.names(), graph.rows()] : [null, null];
+  const nameOf = (v) => names?.[v] ?? graph.name(v);
   return {
-    head: { id: graph.id, n: graph.n, m: String(graph.m), isBuilt: true },
+    head: { id: graph.id, n: graph.n, m: String(graph.m), isWhole },
     block: (v) => {
-      const [from, to] = [graph.starts[v], graph.starts[v + 1]];
-      return { name: names[v], from, to, rows: graph, nameOf: (tip) => names[tip] };
+      const rows = all ?? graph.rows(v, 1);
+      return { name: nameOf(v), tips: rows.neighbors(v), lengths: rows.lengthsOf(v), nameOf };
     },
     graph,
+    all,
   };
 }
 
-// A graph that is not: each vertex is a chunk of its own.
-function chunked(sgb, text, n) {
-  const nameOf = (v) => sgb.chunk(text, v, 1).names()[0];
-  return {
-    head: { id: text, n, m: String(sgb.arcs(text)), isBuilt: false },
-    block: (v) => {
-      const rows = sgb.chunk(text, v, 1);
-      return { name: rows.names()[0], from: 0, to: rows.tips.length, rows, nameOf };
-    },
-    graph: null,
-  };
-}
-
-// How many vertices a generator's graph has, or null where it is another expression.
-function verticesOf(sgb, text) {
-  try {
-    return sgb.vertices(text);
-  } catch (error) {
-    if (error instanceof GraphError && error.code === 107) {
-      return null;
-    }
-    throw error;
-  }
-}
-
-function linesOf({ name, from, to, rows, nameOf }) {
+function linesOf({ name, tips, lengths, nameOf }) {
   const lines = [name];
-  for (let k = from; k < Math.min(to, from + ARCS); k++) {
-    lines.push(`  -> ${nameOf(rows.tips[k])}, length ${rows.lengths[k]}`);
+  for (let k = 0; k < Math.min(tips.length, ARCS); k++) {
+    lines.push(`  -> ${nameOf(tips[k])}, length ${lengths[k]}`);
   }
-  return to - from > ARCS ? [...lines, `  .. and ${to - from - ARCS} more`] : lines;
+  return tips.length > ARCS ? [...lines, `  .. and ${tips.length - ARCS} more`] : lines;
 }
 
 // The coordinates in the fields x, y, z, as far as they hold integers.
@@ -64,16 +42,21 @@ function coordinatesOf(graph) {
 const answers = {
   async open({ text, input }) {
     const sgb = await loaded;
-    shown?.graph?.close();
+    shown?.graph.close();
     shown = null;
-    const n = verticesOf(sgb, text);
-    shown = n !== null && n > BUILT ? chunked(sgb, text, n) : built(sgb.graph(text, input));
+    const graph = sgb.graph(text, input);
+    try {
+      shown = showing(graph);
+    } catch (error) {
+      graph.close();
+      throw error;
+    }
     return shown.head;
   },
   lists: ({ first, count }) => Array.from({ length: count }, (_, k) => linesOf(shown.block(first + k))),
   drawing: () => {
-    const { graph } = shown;
-    return { starts: graph.starts, tips: graph.tips, names: graph.names(), coordinates: coordinatesOf(graph) };
+    const { graph, all } = shown;
+    return { starts: all.starts, tips: all.tips, names: graph.names(), coordinates: coordinatesOf(graph) };
   },
   list: () => new Blob([...shown.graph.blocks()], { type: "text/plain" }),
   save: () => new Blob([shown.graph.save()]),

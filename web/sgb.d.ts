@@ -19,25 +19,49 @@ export class MemoryError extends Error {
 /** A utility field of the vertices. */
 export type Field = "u" | "v" | "w" | "x" | "y" | "z";
 
-/** Lists of arcs one after another, in the order of their vertices. The arrays belong to the caller. */
-export interface Rows {
-  /** Where the lists begin, and where the last one ends: n + 1 places. */
-  readonly starts: Uint32Array;
-  /** Where the arcs lead: numbers of vertices of the whole graph. */
-  readonly tips: Uint32Array;
-  /** The lengths of the arcs. */
-  readonly lengths: BigInt64Array;
-  /** The names of the vertices, made when they are first asked for. */
-  names(): string[];
-  /** Where the arcs of vertex v lead, in the order of its list, a part of `tips`. RangeError where v is not there. */
-  neighbors(v: number): Uint32Array;
+/** An arc of a graph. */
+export interface Arc {
+  /** The vertex on whose list it is. */
+  readonly v: number;
+  /** The vertex that it leads to. */
+  readonly tip: number;
+  readonly length: bigint;
 }
 
-/** A graph. The list of vertex v is what stands from starts[v] up to starts[v + 1] in `tips` and `lengths`.
+/** The lists of arcs of a run of vertices: `n` of them, from vertex `first` on. The list of vertex first + k is what
+ * stands from starts[k] up to starts[k + 1]. The arrays belong to the caller, and the module holds nothing of them.
+ * Vertices are numbers of the whole graph; one that is not in the run gives a RangeError. */
+export class Rows {
+  private constructor();
+  /** The expression. */
+  readonly text: string;
+  readonly first: number;
+  readonly n: number;
+  /** Where the lists begin, and where the last one ends: n + 1 places. */
+  readonly starts: Uint32Array;
+  /** Where the arcs lead. */
+  readonly tips: Uint32Array;
+  /** The lengths of the arcs; null where they were not asked for. */
+  readonly lengths: BigInt64Array | null;
+  /** Where the arcs of vertex v lead, in the order of its list, a part of `tips`. */
+  neighbors(v: number): Uint32Array;
+  /** The lengths of the arcs of vertex v, a part of `lengths`. An Error where these were not asked for. */
+  lengthsOf(v: number): BigInt64Array;
+  /** How many arcs are on the list of vertex v. */
+  degree(v: number): number;
+  /** The arcs in the order of the lists. */
+  arcs(): Generator<Arc, void, undefined>;
+  /** The names of the vertices, fetched when they are first asked for. */
+  names(): string[];
+}
+
+/** A graph that is open. A generator's graph is not built, and may have 10^9 vertices: what is asked for is made alone.
+ * All others are built, and held as they are.
  *
- * The module holds the graph until `close`, or until nothing leads to this object any more. What was fetched stays;
- * what was not gives an Error once the graph is closed. Want of memory gives a MemoryError. */
-export class Graph implements Rows {
+ * The module holds the graph until `close`, or until nothing leads to this object any more. What was asked for of all
+ * vertices stays; what was not gives an Error once the graph is closed. Vertices that are not there give a RangeError,
+ * want of memory a MemoryError. */
+export class Graph {
   private constructor();
   /** The expression. */
   readonly text: string;
@@ -45,20 +69,42 @@ export class Graph implements Rows {
   readonly id: string;
   /** How many vertices it has. */
   readonly n: number;
-  /** How many arcs it counts; an edge is two arcs. A bigint only where a .gb file says more than 2^53 - 1. */
+  /** How many arcs it counts, found when it is first asked for; an edge is two arcs. 2^64 - 1 also where there are
+   * more. A bigint where that is above 2^53 - 1. */
   readonly m: number | bigint;
-  readonly starts: Uint32Array;
-  readonly tips: Uint32Array;
-  readonly lengths: BigInt64Array;
   /** What the utility fields hold, 14 letters of Z I V S A: of vertices u v w x y z, of arcs a b, of the graph uu vv ww
    * xx yy zz. I is an integer, and Z a field that is not used. */
   readonly kinds: string;
-  names(): string[];
-  /** The integers in a utility field of the vertices; those of a board are the coordinates. GraphError 102 where the
-   * field holds none. */
-  ints(field: Field): BigInt64Array;
+  /** Whether it is closed. */
+  readonly closed: boolean;
+  /** The lists of arcs of all vertices, made when they are first asked for: that of vertex v is what stands from
+   * starts[v] up to starts[v + 1] in `tips` and `lengths`. */
+  readonly starts: Uint32Array;
+  readonly tips: Uint32Array;
+  readonly lengths: BigInt64Array;
+  /** The lists of `count` vertices from vertex `first` on; without `count`, of all from there on. Without lengths they
+   * take less time. */
+  rows(first?: number, count?: number, choice?: { lengths?: boolean }): Rows;
+  /** The vertices in chunks of `size`, 65,536 if it is not said; each is made when its turn comes. */
+  chunks(range?: { size?: number; first?: number; count?: number; lengths?: boolean }): Generator<Rows, void, undefined>;
+  /** Where the arcs of vertex v lead, in the order of its list. No other list is made. */
   neighbors(v: number): Uint32Array;
-  /** The bytes of the graph's .gb file. */
+  /** The lengths of the arcs of vertex v. */
+  lengthsOf(v: number): BigInt64Array;
+  /** How many arcs are on the list of vertex v. */
+  degree(v: number): number;
+  /** The arcs in the order of the lists. */
+  arcs(): Generator<Arc, void, undefined>;
+  /** The names of `count` vertices from vertex `first` on; without `count`, of all from there on. */
+  names(first?: number, count?: number): string[];
+  /** The name of vertex v. */
+  name(v: number): string;
+  /** The first vertex that has this name, or null. */
+  vertex(name: string): number | null;
+  /** The integers in a utility field of some vertices; those of a board are the coordinates. GraphError 102 where the
+   * field holds none. */
+  ints(field: Field, first?: number, count?: number): BigInt64Array;
+  /** The bytes of the graph's .gb file. A generator's graph is built for it. */
   save(): Uint8Array;
   /** The listing, as `sgb list` writes it. */
   list(): string;
@@ -68,33 +114,13 @@ export class Graph implements Rows {
   close(): void;
 }
 
-/** Some vertices of a graph that is not built: `n` of them, from vertex `first` on. The list of vertex first + k is
- * what stands from starts[k] up to starts[k + 1]. The module holds nothing of it. */
-export class Chunk implements Rows {
-  private constructor();
-  readonly text: string;
-  readonly first: number;
-  readonly n: number;
-  readonly starts: Uint32Array;
-  readonly tips: Uint32Array;
-  readonly lengths: BigInt64Array;
-  names(): string[];
-  neighbors(v: number): Uint32Array;
-}
-
 /** The calls of one module, with a memory of its own. A call runs to its end: a page makes great graphs in a worker. */
 export class Sgb {
   private constructor();
   /** The graph that an expression names. `input` is the bytes of a .gb file, for the expression `stdin`. */
   graph(text: string, input?: ArrayBuffer | ArrayBufferView): Graph;
-  /** `count` vertices of a generator's graph, which is not built, from vertex `first` on. */
-  chunk(text: string, first: number, count: number): Chunk;
-  /** The vertices of such a graph in chunks of `size`, 65,536 if it is not said; each is made when its turn comes. */
-  chunks(text: string, range?: { size?: number; first?: number; count?: number }): Generator<Chunk, void, undefined>;
-  /** How many vertices such a graph has. */
-  vertices(text: string): number;
-  /** How many arcs it has, 2^64 - 1 also where there are more. A bigint where that is above 2^53 - 1. */
-  arcs(text: string): number | bigint;
+  /** The version of the calls, as "1.0.0". */
+  readonly version: string;
   /** Random numbers of GB_FLIP: started from `start`, `skip` draws left out, then `count` of them, 1 if it is not said.
    * With a bound m from 1 to 2^31 they are uniform draws below m. */
   flip(start: number | bigint, skip?: number | bigint, count?: number, m?: number): Uint32Array;

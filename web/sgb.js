@@ -4,9 +4,9 @@
  *
  *     const sgb = await load();
  *     const graph = sgb.graph("petersen()");
- *     graph.n, graph.m;                                    // 10, 30
- *     graph.tips.subarray(graph.starts[0], graph.starts[1]);  // where the arcs of vertex 0 lead
- *     graph.names()[0];                                    // "0.0.0.1.1"
+ *     graph.n, graph.m;        // 10, 30
+ *     graph.neighbors(0);      // where the arcs of vertex 0 lead
+ *     graph.names()[0];        // "0.0.0.1.1"
  *     graph.close();
  *
  * The graphs are made by sgb.wasm, the library for C (sgb.h) in another form. This file has no dependency. Its types,
@@ -17,6 +17,7 @@ const FIELDS = "uvwxyz";
 const BAD_EXPRESSION = 1000;
 // what the library's answers mean
 const WORDS = {
+  1: "out of memory",
   10: "the head of the .gb file is wrong",
   11: "the end of the .gb file is wrong",
   20: "a record of the .gb file is wrong",
@@ -30,7 +31,6 @@ const WORDS = {
   104: "a graph is open",
   105: "no graph is open",
   106: "there are not so many vertices",
-  107: "no call of a generator: graph() makes it",
 };
 
 /** Why there is no graph. */
@@ -49,10 +49,10 @@ export class GraphError extends Error {
 /** Memory was refused: what stood before stands after. */
 export class MemoryError extends Error {
   constructor() {
-    super("out of memory (code 1)");
+    super(`${WORDS[1]} (code 1)`);
     this.name = "MemoryError";
     this.code = 1;
-    this.words = "out of memory";
+    this.words = WORDS[1];
   }
 }
 
@@ -259,31 +259,74 @@ function namesOf(starts, bytes) {
   });
 }
 
-/** A graph as arrays: its lists of arcs one after another, in the order of its vertices. */
+/** The lists of arcs of a run of vertices, one after another. The module holds nothing of them. */
+export class Rows {
+  #graph;
+  #names = null;
+
+  constructor(graph, first, starts, tips, lengths) {
+    this.#graph = graph;
+    this.text = graph.text;
+    this.first = first;
+    this.n = starts.length - 1;
+    this.starts = starts;
+    this.tips = tips;
+    this.lengths = lengths;
+  }
+
+  #place(v) {
+    const k = v - this.first;
+    if (!(k in this.starts) || k === this.n) {
+      throw new RangeError(`no vertex ${v}: there are ${this.n} from vertex ${this.first} on`);
+    }
+    return [this.starts[k], this.starts[k + 1]];
+  }
+
+  neighbors(v) {
+    return this.tips.subarray(...this.#place(v));
+  }
+
+  lengthsOf(v) {
+    if (this.lengths === null) {
+      throw new Error("the lengths were not asked for");
+    }
+    return this.lengths.subarray(...this.#place(v));
+  }
+
+  degree(v) {
+    const [begin, end] = this.#place(v);
+    return end - begin;
+  }
+
+  *arcs() {
+    for (let v = this.first; v < this.first + this.n; v++) {
+      const [tips, lengths] = [this.neighbors(v), this.lengthsOf(v)];
+      for (let k = 0; k < tips.length; k++) {
+        yield { v, tip: tips[k], length: lengths[k] };
+      }
+    }
+  }
+
+  names() {
+    this.#names ??= this.#graph.names(this.first, this.n);
+    return this.#names;
+  }
+}
+
+/** A graph that is open: its lists of arcs as arrays, in the order of its vertices. */
 export class Graph {
   #library;
   #handle;
-  #named;
   #kept = new Map();
 
   constructor(library, text, input) {
     const handle = library.open(textOf(text), inputOf(input));
     try {
-      const sizes = library.numbers(5, (place) => library.must("sgb_sizes", handle, place));
-      const [n, m, listed, named, idLength] = sizes;
-      const [starts, tips, lengths] = library.fill(
-        [[BigUint64Array, n + 1n], [Uint32Array, listed], [BigInt64Array, listed]],
-        (...words) => library.must("sgb_rows", handle, ...words),
-      );
+      const [n, idLength] = library.numbers(2, (place) => library.must("sgb_sizes", handle, place));
       const [id] = library.fill([[Uint8Array, idLength]], (...words) => library.must("sgb_id", handle, ...words));
       this.text = text;
       this.id = new TextDecoder().decode(id);
       this.n = Number(n);
-      this.m = exact(m);
-      this.starts = placesOf(starts);
-      this.tips = tips;
-      this.lengths = lengths;
-      this.#named = named;
     } catch (error) {
       library.close(handle);
       throw error;
@@ -293,54 +336,173 @@ export class Graph {
     forgotten.register(this, { library, handle }, this);
   }
 
-  // What the module says of the graph, which is asked once: it stays when the graph is closed.
-  #fetched(what, arrays, ...call) {
+  // What is asked once: it stays when the graph is closed.
+  #fetched(what, fetch) {
     if (!this.#kept.has(what)) {
-      this.#kept.set(what, this.#asked(arrays, ...call));
+      this.#kept.set(what, fetch());
     }
     return this.#kept.get(what);
   }
 
-  #asked(arrays, name, ...words) {
+  // A call on the graph.
+  #must(name, ...words) {
     if (this.#handle === null) {
       throw new Error("the graph is closed");
     }
-    return this.#library.fill(arrays, (...places) => this.#library.must(name, this.#handle, ...words, ...places));
+    this.#library.must(name, this.#handle, ...words);
   }
 
-  names() {
-    if (!this.#kept.has("names")) {
-      const [starts, bytes] = this.#asked([[BigUint64Array, this.n + 1], [Uint8Array, this.#named]], "sgb_names");
-      this.#kept.set("names", namesOf(placesOf(starts), bytes));
+  #number(name, ...words) {
+    return this.#library.numbers(1, (place) => this.#must(name, ...words, place))[0];
+  }
+
+  #filled(arrays, name, ...words) {
+    return this.#library.fill(arrays, (...places) => this.#must(name, ...words, ...places));
+  }
+
+  // A first vertex and a number of vertices that are there.
+  #run(first, many) {
+    const length = many === undefined ? this.n - first : many;
+    if (![first, length].every(Number.isSafeInteger) || first < 0 || length < 0 || first + length > this.n) {
+      throw new RangeError(`no ${length} vertices from vertex ${first} on: there are ${this.n}`);
     }
-    return this.#kept.get("names");
+    return [first, length];
   }
 
-  ints(field) {
+  get closed() {
+    return this.#handle === null;
+  }
+
+  get m() {
+    return this.#fetched("m", () => exact(this.#number("sgb_arcs")));
+  }
+
+  get kinds() {
+    const fetch = () => new TextDecoder().decode(this.#filled([[Uint8Array, 14]], "sgb_kinds")[0]);
+    return this.#fetched("kinds", fetch);
+  }
+
+  rows(first = 0, many = undefined, { lengths = true } = {}) {
+    const run = this.#run(first, many);
+    const size = this.#number("sgb_rows_size", ...run);
+    const arrays = [[BigUint64Array, run[1] + 1], [Uint32Array, size]];
+    const found = lengths
+      ? this.#filled([...arrays, [BigInt64Array, size]], "sgb_rows", ...run)
+      : this.#filled(arrays, "sgb_tips", ...run);
+    return new Rows(this, first, placesOf(found[0]), found[1], found[2] ?? null);
+  }
+
+  chunks({ size = 65536, first = 0, count: many, lengths = true } = {}) {
+    const [begin, length] = this.#run(first, many);
+    if (!Number.isSafeInteger(size) || size < 1) {
+      throw new RangeError(`no chunks of ${size} vertices`);
+    }
+    return this.#each(size, begin, begin + length, lengths);
+  }
+
+  *#each(size, first, end, lengths) {
+    for (let begin = first; begin < end; begin += size) {
+      yield this.rows(begin, Math.min(size, end - begin), { lengths });
+    }
+  }
+
+  // All lists.
+  get #whole() {
+    return this.#fetched("rows", () => this.rows());
+  }
+
+  get starts() {
+    return this.#whole.starts;
+  }
+
+  get tips() {
+    return this.#whole.tips;
+  }
+
+  get lengths() {
+    return this.#whole.lengths;
+  }
+
+  // Lists among which that of vertex v is: all, where these are there, else it alone.
+  #with(v, lengths) {
+    this.#vertex(v);
+    return this.#kept.get("rows") ?? this.rows(v, 1, { lengths });
+  }
+
+  #vertex(v) {
+    if (!Number.isSafeInteger(v) || v < 0 || v >= this.n) {
+      throw new RangeError(`no vertex ${v}: there are ${this.n}`);
+    }
+  }
+
+  neighbors(v) {
+    return this.#with(v, false).neighbors(v);
+  }
+
+  lengthsOf(v) {
+    return this.#with(v, true).lengthsOf(v);
+  }
+
+  degree(v) {
+    this.#vertex(v);
+    return Number(this.#kept.get("rows")?.degree(v) ?? this.#number("sgb_rows_size", v, 1));
+  }
+
+  *arcs() {
+    for (const rows of this.#kept.has("rows") ? [this.#whole] : this.chunks({ size: 4096 })) {
+      yield* rows.arcs();
+    }
+  }
+
+  names(first = 0, many = undefined) {
+    const [begin, length] = this.#run(first, many);
+    if (this.#kept.has("names") || length === this.n) {
+      const all = this.#fetched("names", () => this.#namesOf(0, this.n));
+      return length === this.n ? all : all.slice(begin, begin + length);
+    }
+    return this.#namesOf(begin, length);
+  }
+
+  #namesOf(first, many) {
+    const size = this.#number("sgb_names_size", first, many);
+    const arrays = [[BigUint64Array, many + 1], [Uint8Array, size]];
+    const [starts, bytes] = this.#filled(arrays, "sgb_names", first, many);
+    return namesOf(placesOf(starts), bytes);
+  }
+
+  name(v) {
+    this.#vertex(v);
+    return this.names(v, 1)[0];
+  }
+
+  vertex(name) {
+    for (let first = 0; first < this.n; first += 65536) {
+      const k = this.names(first, Math.min(65536, this.n - first)).indexOf(name);
+      if (k >= 0) {
+        return first + k;
+      }
+    }
+    return null;
+  }
+
+  ints(field, first = 0, many = undefined) {
     const place = typeof field === "string" && field.length === 1 ? FIELDS.indexOf(field) : -1;
     if (place < 0) {
       throw new RangeError(`no field ${field}: one of u v w x y z`);
     }
-    return this.#fetched(`ints ${field}`, [[BigInt64Array, this.n]], "sgb_ints", place)[0];
-  }
-
-  get kinds() {
-    return new TextDecoder().decode(this.#fetched("kinds", [[Uint8Array, 14]], "sgb_kinds")[0]);
-  }
-
-  neighbors(v) {
-    if (!(v in this.starts) || v === this.n) {
-      throw new RangeError(`no vertex ${v}`);
+    const [begin, length] = this.#run(first, many);
+    const fetch = (from, count) => this.#filled([[BigInt64Array, count]], "sgb_ints", place, from, count)[0];
+    if (this.#kept.has(`ints ${field}`) || length === this.n) {
+      return this.#fetched(`ints ${field}`, () => fetch(0, this.n)).subarray(begin, begin + length);
     }
-    return this.tips.subarray(this.starts[v], this.starts[v + 1]);
+    return fetch(begin, length);
   }
 
   save() {
     if (this.#handle === null) {
       throw new Error("the graph is closed, and cannot be saved");
     }
-    const [size] = this.#library.numbers(1, (place) => this.#library.must("sgb_file_size", this.#handle, place));
-    return this.#asked([[Uint8Array, size]], "sgb_file")[0];
+    return this.#filled([[Uint8Array, this.#number("sgb_file_size")]], "sgb_file")[0];
   }
 
   *blocks() {
@@ -370,50 +532,6 @@ export class Graph {
   }
 }
 
-/** Some vertices of a graph that is not built. The module holds nothing of it. */
-export class Chunk {
-  #library;
-  #asked;
-  #named;
-  #names = null;
-
-  constructor(library, text, first, n) {
-    this.text = text;
-    this.first = count(first, "the first vertex");
-    this.n = count(n, "a number of vertices");
-    this.#library = library;
-    this.#asked = textOf(text);
-    const [listed, named] = library.numbers(2, (...places) => this.#must("sgb_chunk_sizes", ...places));
-    const arrays = [[BigUint64Array, this.n + 1], [Uint32Array, listed], [BigInt64Array, listed]];
-    const [starts, tips, lengths] = library.fill(arrays, (...places) => this.#must("sgb_chunk_rows", ...places));
-    this.starts = placesOf(starts);
-    this.tips = tips;
-    this.lengths = lengths;
-    this.#named = named;
-  }
-
-  #must(name, ...places) {
-    this.#library.hand(this.#asked, (...words) => this.#library.must(name, ...words, this.first, this.n, ...places));
-  }
-
-  names() {
-    if (this.#names === null) {
-      const arrays = [[BigUint64Array, this.n + 1], [Uint8Array, this.#named]];
-      const [starts, bytes] = this.#library.fill(arrays, (...places) => this.#must("sgb_chunk_names", ...places));
-      this.#names = namesOf(placesOf(starts), bytes);
-    }
-    return this.#names;
-  }
-
-  neighbors(v) {
-    const k = v - this.first;
-    if (!(k in this.starts) || k === this.n) {
-      throw new RangeError(`no vertex ${v} in the chunk`);
-    }
-    return this.tips.subarray(this.starts[k], this.starts[k + 1]);
-  }
-}
-
 /** What `load` gives: the calls of one module, with a memory of its own. */
 export class Sgb {
   #library;
@@ -426,37 +544,9 @@ export class Sgb {
     return new Graph(this.#library, text, input);
   }
 
-  chunk(text, first, count) {
-    return new Chunk(this.#library, text, first, count);
-  }
-
-  chunks(text, { size = 65536, first = 0, count } = {}) {
-    const n = this.vertices(text);
-    const end = count === undefined ? n : first + count;
-    if (![size, first, end].every(Number.isSafeInteger) || size < 1 || first < 0 || end < first || end > n) {
-      throw new RangeError(`no chunks of ${size} vertices from vertex ${first} up to ${end}: there are ${n}`);
-    }
-    return this.#each(text, size, first, end);
-  }
-
-  *#each(text, size, first, end) {
-    for (let begin = first; begin < end; begin += size) {
-      yield this.chunk(text, begin, Math.min(size, end - begin));
-    }
-  }
-
-  vertices(text) {
-    return Number(this.#counted("sgb_family_vertices", text));
-  }
-
-  arcs(text) {
-    return exact(this.#counted("sgb_family_arcs", text));
-  }
-
-  #counted(name, text) {
-    const library = this.#library;
-    const call = (place) => library.hand(textOf(text), (...words) => library.must(name, ...words, place));
-    return library.numbers(1, call)[0];
+  get version() {
+    const number = Number(this.#library.call("sgb_version"));
+    return [Math.floor(number / 1e6), Math.floor(number / 1e3) % 1e3, number % 1e3].join(".");
   }
 
   flip(start, skip = 0, many = 1, m = 0) {

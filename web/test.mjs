@@ -10,7 +10,7 @@ import { runInNewContext } from "node:vm";
 
 const here = new URL(".", import.meta.url);
 const folder = process.argv[2] ? pathToFileURL(`${resolve(process.argv[2])}/`) : here;
-const { Chunk, Graph, GraphError, MemoryError, load } = await import(new URL("sgb.js", folder));
+const { Graph, GraphError, MemoryError, Rows, load } = await import(new URL("sgb.js", folder));
 
 const FILE = `* GraphBase graph (util_types ZZZZZZZZZZZZZZ,2V,2A)
 "two",2,2
@@ -159,57 +159,88 @@ const tests = {
     const types = [starts, tips, lengths].map((array) => array.constructor.name);
     same(types, ["Uint32Array", "Uint32Array", "BigInt64Array"], "the types of the arrays");
     check(board instanceof Graph, "the type of a graph");
+    same(board.ints("y", 1, 3), [1n, 2n, 0n], "integers of some vertices");
+    same(board.lengthsOf(0), [1n, 1n], "the lengths of a corner");
+    same([...board.arcs()].map(({ v, tip, length }) => [v, tip, length].join()), board.list().split("\n").slice(4, -1)
+      .reduce((found, line) => {
+        const arc = /^  -> (.*), length (.*)$/.exec(line);
+        const v = board.vertex(arc ? arc[1] : line);
+        return arc ? { ...found, arcs: [...found.arcs, [found.v, v, arc[2]].join()] } : { ...found, v };
+      }, { v: null, arcs: [] }).arcs, "the arcs of a board");
+    same([board.vertex("1.2"), board.vertex("2.2"), board.name(4), board.degree(4)], [5, null, "1.1", 3], "a vertex");
+    check(/^1\.\d+\.\d+$/.test(sgb.version), `the version of the calls: gave ${sgb.version}`);
+    same(board.closed, false, "whether a graph is closed");
     // what was fetched stays, and the arrays do
     board.names();
     board.close();
     board.close();
+    same(board.closed, true, "whether a closed graph is");
     same(board.names()[5], "1.2", "names after the graph was closed");
+    same([board.names(4, 2).join(" "), board.name(3), board.m], ["1.1 1.2", "1.0", 14], "what was asked for before");
     same(board.tips.length, 14, "tips after the graph was closed");
     same(board.ints("x").length, 6, "integers that were fetched");
-    for (const call of [() => board.save(), () => board.ints("z")]) {
+    for (const call of [() => board.save(), () => board.ints("z"), () => board.rows(0, 1)]) {
       check(/closed/.test(thrown(call)?.message), "a call on a closed graph");
     }
   },
 
-  async chunks() {
+  async runs() {
     const sgb = await load();
-    for (const text of GRAPHS) {
-      const graph = sgb.graph(text);
-      same(sgb.vertices(text), graph.n, `${text}: vertices`);
-      same(sgb.arcs(text), graph.m, `${text}: arcs`);
-      let [v, k, names] = [0, 0, []];
-      for (const chunk of sgb.chunks(text, { size: 7 })) {
-        same(chunk.first, v, `${text}: where a chunk begins`);
-        same(chunk.starts, graph.starts.subarray(v, v + chunk.n + 1).map((at) => at - k), `${text}: starts of a chunk`);
-        same(chunk.tips, graph.tips.subarray(k, k + chunk.tips.length), `${text}: tips of a chunk`);
-        same(chunk.lengths, graph.lengths.subarray(k, k + chunk.tips.length), `${text}: lengths of a chunk`);
-        same(chunk.neighbors(v), graph.neighbors(v), `${text}: neighbors in a chunk`);
-        names = names.concat(chunk.names());
-        [v, k] = [v + chunk.n, k + chunk.tips.length];
+    for (const text of [...GRAPHS, "wheel(5,1,0)", "lines(complete(4),0)", "stdin"]) {
+      const graph = sgb.graph(text, bytes(FILE));
+      const [whole, names] = [graph.rows(), graph.names()];
+      let [v, k, seen] = [0, 0, []];
+      for (const rows of graph.chunks({ size: 7 })) {
+        same(rows.first, v, `${text}: where a chunk begins`);
+        same(rows.starts, whole.starts.subarray(v, v + rows.n + 1).map((at) => at - k), `${text}: starts of a chunk`);
+        same(rows.tips, whole.tips.subarray(k, k + rows.tips.length), `${text}: tips of a chunk`);
+        same(rows.lengths, whole.lengths.subarray(k, k + rows.tips.length), `${text}: lengths of a chunk`);
+        same(rows.neighbors(v), whole.neighbors(v), `${text}: neighbors in a chunk`);
+        same(rows.lengthsOf(v), whole.lengthsOf(v), `${text}: lengths of a vertex in a chunk`);
+        same(graph.neighbors(v), whole.neighbors(v), `${text}: neighbors of a vertex`);
+        same(graph.degree(v), whole.degree(v), `${text}: the degree of a vertex`);
+        const bare = graph.rows(v, rows.n, { lengths: false });
+        same([bare.tips.join(), bare.starts.join(), bare.lengths], [rows.tips.join(), rows.starts.join(), null],
+          `${text}: a run without lengths`);
+        seen = seen.concat(rows.names());
+        [v, k] = [v + rows.n, k + rows.tips.length];
       }
       same(v, graph.n, `${text}: vertices of all chunks`);
-      same(names, graph.names(), `${text}: names of all chunks`);
+      same(seen, names, `${text}: names of all chunks`);
+      same(graph.starts, whole.starts, `${text}: starts`);
       graph.close();
     }
-    same(sgb.vertices(GREAT), 1e9, "vertices of a great board");
-    same(sgb.arcs(GREAT), 2e9 - 2, "arcs of a great board");
-    const last = sgb.chunk(GREAT, 999_999_990, 10);
-    check(last instanceof Chunk, "the type of a chunk");
+    const great = sgb.graph(GREAT);
+    same(great.n, 1e9, "vertices of a great board");
+    same(great.m, 2e9 - 2, "arcs of a great board");
+    const last = great.rows(999_999_990, 10);
+    check(last instanceof Rows, "the type of a run");
     same(last.names(), Array.from({ length: 10 }, (_, k) => 999_999_990 + k), "the last names of a great board");
     same(last.neighbors(999_999_999), [999_999_998], "the last list of a great board");
-    same([...last.neighbors(999_999_995)].sort(), [999_999_994, 999_999_996], "a list of a great board");
-    same([...sgb.chunks(GREAT, { first: 999_000_000 })].reduce((sum, chunk) => sum + chunk.tips.length, 0), 1_999_999,
+    same([...great.neighbors(999_999_995)].sort(), [999_999_994, 999_999_996], "a list of a great board");
+    same([...great.chunks({ first: 999_000_000 })].reduce((sum, rows) => sum + rows.tips.length, 0), 1_999_999,
       "the arcs of the last million vertices");
-    same(sgb.arcs("board(1000000000,0,0,0,-1,0,0)"), 999_999_999_000_000_000n, "more arcs than 2^53");
-    refused(() => sgb.chunk(GREAT, 999_999_991, 10), 106, "a chunk beyond the end");
-    refused(() => sgb.chunk("wheel(3,1,0)", 0, 1), 107, "a chunk of what is no generator's");
-    refused(() => sgb.chunks("board(3,"), 1008, "chunks of a bad expression");
+    same(great.arcs().next().value.tip, 1, "the first arc of a great board");
+    same(sgb.graph("board(1000000000,0,0,0,-1,0,0)").m, 999_999_999_000_000_000n, "more arcs than 2^53");
+    const small = sgb.graph("petersen()");
     for (const range of [{ size: 0 }, { first: -1 }, { first: 11 }, { first: 5, count: 6 }, { size: 1.5 }]) {
-      const error = thrown(() => sgb.chunks("petersen()", range));
+      const error = thrown(() => small.chunks(range));
       check(error instanceof RangeError, `chunks with ${JSON.stringify(range)}: threw ${error}`);
     }
-    check(thrown(() => sgb.chunk(GREAT, -1, 1)) instanceof RangeError, "a chunk from -1 on");
-    same(sgb.memory.taken, 0, "taken by chunks");
+    for (const run of [[-1, 1], [999_999_991, 10], [0, -1], [0.5, 1]]) {
+      const calls = ["rows", "names"].map((name) => () => great[name](...run)).concat(() => great.ints("x", ...run));
+      for (const call of calls) {
+        check(thrown(call) instanceof RangeError, `a run of ${run}`);
+      }
+    }
+    for (const v of [-1, 1e9, 0.5, "x"]) {
+      for (const name of ["neighbors", "lengthsOf", "degree", "name"]) {
+        check(thrown(() => great[name](v)) instanceof RangeError, `${name} of vertex ${v}`);
+      }
+    }
+    check(thrown(() => last.neighbors(999_999_989)) instanceof RangeError, "a vertex before a run");
+    small.close();
+    great.close();
   },
 
   async flips() {
@@ -230,6 +261,13 @@ const tests = {
 
   async errors() {
     const sgb = await load();
+    // the words are those of the header
+    const header = await readFile(new URL("../include/sgb.h", here), "ascii");
+    const codes = new Map([...header.matchAll(/^#define (SGB_\w+) (\d+)\b/gm)].map(([, name, code]) => [name, Number(code)]));
+    const found = [...header.matchAll(/^ +case (SGB_\w+): return "(.*)";$/gm)].slice(1);
+    const said = found.map(([, name]) => codes.get(name)).map((code) => (code === 1 ? new MemoryError() : new GraphError(code)));
+    same(said.map(({ words }) => words), found.map(([, , words]) => words), "the words of the answers");
+    check(found.length > 10 || !header.includes("sgb_words"), "the header has fewer answers");
     refused(() => sgb.graph("x".repeat(65_536)), 1000, "a long text");
     refused(() => sgb.graph("x".repeat(65_537)), 100, "a longer text");
     refused(() => sgb.graph("petersen() "), 1010, "a space behind");
@@ -254,9 +292,18 @@ const tests = {
     const most = 12 << 20;
     const sgb = await load(undefined, { limit: most });
     const before = sgb.memory;
-    const great = thrown(() => sgb.graph("complete(2000)"));
+    const great = thrown(() => sgb.graph("complement(empty(2000),0,0,0)"));
     check(great instanceof MemoryError && great.code === 1, `a graph that is too large: threw ${great}`);
     same(sgb.memory.taken, 0, "taken after a graph that is too large");
+    // that of a generator's call is not built: its arrays are too large
+    const complete = sgb.graph("complete(2000)");
+    for (const call of [() => complete.tips, () => complete.rows(), () => complete.save()]) {
+      const error = thrown(call);
+      check(error instanceof MemoryError, `what is too large of a graph: threw ${error}`);
+    }
+    same(complete.rows(1999, 1).tips.length, 1999, "the last list of a graph that is too large");
+    complete.close();
+    same(sgb.memory.taken, 0, "taken after a graph whose arrays are too large");
     check(sgb.memory.size <= before.size + most + 65536, "more memory than the limit");
     same(sgb.graph("petersen()").m, 30, "a graph after one that is too large");
     // the limit is somewhere in each of the calls that a graph takes: all is given back, and the next one is whole
@@ -284,7 +331,7 @@ const tests = {
       check(thrown(() => free.flip(1, 0, many)) instanceof MemoryError, `${many} draws`);
     }
     same(free.graph("petersen()").m, 30, "a graph after such draws");
-    check(thrown(() => free.chunk(GREAT, 0, 4_000_000_000)) instanceof GraphError, "a chunk that is not there");
+    check(thrown(() => free.graph(GREAT).rows(0, 1_000_000_000)) instanceof MemoryError, "all of a great graph");
   },
 
   async closing() {

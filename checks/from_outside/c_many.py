@@ -13,6 +13,7 @@ import concurrent.futures
 import os
 import random
 import re
+import subprocess
 import time
 
 from . import c_library, random_requests

@@ -1,12 +1,13 @@
 #!/usr/bin/env python3
-"""How many vertices of a generator's graph have how many arcs, counted by Dask's distributed scheduler.
+"""How many vertices of a graph have how many arcs, counted by Dask's distributed scheduler.
 
     examples/parts/dask_degrees.py "board(1000,1000,0,0,1,0,0)"
     examples/parts/dask_degrees.py "simplex(44000,-2,0,0,0,0,0)" --scheduler tcp://anna:8786
 
-The graph is not built, so it may have 10^9 vertices. Its vertices are cut into parts, and each is a task: a worker
-goes through it in chunks by the package sgb, and hands back counts alone. The first line has the numbers of vertices
-and arcs; each further one a degree, which is how many arcs stand on a vertex's list, and how many vertices have it.
+A generator's graph is not built, so it may have 10^9 vertices; another is built for each task. Its vertices are cut
+into parts, and each is a task: a worker goes through it in chunks by the package sgb, and hands back counts alone.
+The first line has the numbers of vertices and arcs; each further one a degree, which is how many arcs stand on a
+vertex's list, and how many vertices have it.
 
 Without --scheduler there are --workers processes on this machine, two if it is not said. With it the tasks go to the
 scheduler at that address; the package sgb (a wheel, or PYTHONPATH) has to be on each of its workers as it is here, and
@@ -45,11 +46,12 @@ def counted(text, chunk, first, count):
     import sgb
 
     seen, arcs, degrees = 0, 0, collections.Counter()
-    for some in sgb.chunks(text, chunk, first, count):
-        starts = some.starts.tolist()
-        degrees.update(map(operator.sub, starts[1:], starts))
-        seen += some.n
-        arcs += len(some.tips)
+    with sgb.graph(text) as graph:
+        for some in graph.chunks(chunk, first, count, lengths=False):
+            starts = some.starts.tolist()
+            degrees.update(map(operator.sub, starts[1:], starts))
+            seen += some.n
+            arcs += len(some.tips)
     return first, seen, arcs, degrees
 
 
@@ -57,7 +59,16 @@ def told(text):
     """A task: how many arcs there are, as the head of the listing says."""
     import sgb
 
-    return sgb.arcs(text)
+    with sgb.graph(text) as graph:
+        return graph.m
+
+
+def vertices_of(text):
+    """How many vertices there are."""
+    import sgb
+
+    with sgb.graph(text) as graph:
+        return graph.n
 
 
 def degrees_of(client, text, part=PART, chunk=CHUNK, heard=None):
@@ -66,9 +77,8 @@ def degrees_of(client, text, part=PART, chunk=CHUNK, heard=None):
     `heard` is called after each part that came, with how many are still to come.
     """
     import distributed
-    import sgb
 
-    n = sgb.vertices(text)
+    n = vertices_of(text)
     head = client.submit(told, text, pure=False)
     wanted = {first: min(part, n - first) for first in range(0, n, part)}
     count = functools.partial(counted, text, chunk)
@@ -115,7 +125,7 @@ def size(word):
 
 def words():
     reader = argparse.ArgumentParser(description=__doc__.partition("\n")[0])
-    reader.add_argument("text", metavar="EXPR", help="board, simplex, subsets with parameters, or a short name of one")
+    reader.add_argument("text", metavar="EXPR", help="the graph, best one of board, simplex, subsets, or a short name of one")
     reader.add_argument("--scheduler", metavar="ADDRESS", help="that of a scheduler, as tcp://anna:8786")
     reader.add_argument("--workers", metavar="N", type=size, default=2, help="processes here, without --scheduler (2)")
     reader.add_argument("--part", metavar="N", type=size, default=PART, help=f"vertices of a task ({PART})")
@@ -128,10 +138,9 @@ def main():
     logging.disable()  # one line says what went wrong
     try:
         import distributed
-        import sgb
 
         # what is refused is refused before a worker is asked
-        sgb.vertices(given.text)
+        vertices_of(given.text)
         with contextlib.ExitStack() as stack:
             where = given.scheduler
             if not where:

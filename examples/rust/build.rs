@@ -4,4 +4,5 @@ fn main() {
     println!("cargo:rustc-link-search=native={folder}");
     println!("cargo:rustc-link-lib=static=sgb");
     println!("cargo:rerun-if-env-changed=SGB_LIB");
+    println!("cargo:rerun-if-changed={folder}/libsgb.a");
 }

@@ -31,12 +31,13 @@ GRAPHS = [
     ("petersen()", ()), ("board(30,31,0,0,5,0,0)", ("--part", "100", "--chunk", "7")),
     ("simplex(12,-3,0,0,0,0,1)", ("--part", "91", "--chunk", "91")), ("board(1,0,0,0,1,1,0)", ("--part", "1")),
     ("subsets(3,1,-9,0,0,0,0x2,0)", ("--part", "50", "--chunk", "1000")), ("empty(7)", ("--part", "3", "--chunk", "2")),
+    ("lines(petersen(),0)", ("--part", "4", "--chunk", "3")),
 ]
 GREAT = "board(1000,1000,0,0,1,0,0)"
 # a corner has two neighbours, the other squares of a side three
 OF_GREAT = (1_000_000, 3_996_000, {2: 4, 3: 4 * 998, 4: 998 * 998})
 REFUSED = [
-    ("board(3,", "bad expression at byte 8"), ("lines(petersen(),0)", "no call of a generator"),
+    ("board(3,", "bad expression at byte 8"), ("stdin", "the head of the .gb file is wrong"),
     ("board(2,-251,0,0,1,0,0)", "parameters that make no sense"),
 ]
 # a package of six vertices with two arcs each, and what is told wrong in it
@@ -44,15 +45,18 @@ PACKAGE = """
 class Some:
     def __init__(self, first, n):
         self.first, self.n, self.tips, self.starts = first, n, 2 * n * [0], memoryview(bytes(range(0, 2 * n + 1, 2)))
-def vertices(text):
-    return 6
-def arcs(text):
-    return 12
-def chunks(text, size, first, count):
-    return [Some(first, count)]
+class graph:
+    def __init__(self, text):
+        self.n, self.m = 6, 12
+    def __enter__(self):
+        return self
+    def __exit__(self, *_):
+        pass
+    def chunks(self, size, first, count, lengths):
+        return [Some(first, count)]
 """
 TOLD_WRONG = [
-    ("return 12", "return 13", "12 arcs came, and the head has 13"),
+    ("6, 12", "6, 13", "12 arcs came, and the head has 13"),
     ("2 * n * [0]", "(2 * n - (first == 0)) * [0]", "11 arcs came, and the head has 12"),
     ("Some(first, count)", "Some(first, count - (first > 0))", "the part from vertex 3 on came twice, or with 2"),
     ("bytes(range(0, 2 * n + 1, 2))", "bytes(range(n + 1))", "the degrees do not add up to the arcs"),

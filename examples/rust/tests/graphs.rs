@@ -1,29 +1,42 @@
-use sgb::{arcs_of, draws, uniform_draws, vertices_of, Chunk, Error, Graph};
+use std::collections::HashMap;
+
+use sgb::{draws, uniform_draws, version, Arc, Error, Field, Graph, ANSWERS};
 
 const FILE: &[u8] = b"* GraphBase graph (util_types ZZZZZZZZZZZZZZ,2V,2A)\n\"two\",2,2\n* Vertices\n\"left\",A0\n\"right\",A1\n\
                       * Arcs\nV1,0,7\nV0,0,-3\n* Checksum -1\n";
+const GREAT: &str = "board(1000000000,0,0,0,1,0,0)";
+const GRAPHS: [&str; 7] = [
+    "petersen()", "board(3,4,0,0,-2,0,0)", "simplex(3,-3,0,0,0,0,0)", "simplex(3,1,1,0,0,0,0)", "wheel(5,1,0)",
+    "lines(complete(4),0)", "simplex(4,2,1,0,0,0,0)",
+];
+
+fn graph(text: &str) -> Graph {
+    Graph::new(text, b"").unwrap()
+}
 
 #[test]
 fn petersens_graph_has_ten_vertices_of_degree_three() {
-    let graph = Graph::new("petersen()", b"").unwrap();
-    assert_eq!((graph.n(), graph.m()), (10, 30));
-    assert!((0..10).all(|v| graph.tips_of(v).len() == 3));
-    assert_eq!(graph.id().unwrap(), "subsets(2,1,-4,0,0,0,0x1,0)");
+    let graph = graph("petersen()");
+    assert_eq!((graph.n(), graph.m(), graph.text()), (10, Ok(30), "petersen()"));
+    let rows = graph.all().unwrap();
+    assert!((0..10).all(|v| rows.tips_of(v).len() == 3 && rows.degree(v) == 3 && graph.degree(v) == Ok(3)));
+    assert_eq!(graph.id(), "subsets(2,1,-4,0,0,0,0x1,0)");
+    assert_eq!(rows.tips_of(0), [9, 8, 5]);
 }
 
 #[test]
 fn a_listing_is_that_of_the_program() {
-    let graph = Graph::new("complete(2)", b"").unwrap();
     let wanted = "  The graph whose official name is\nboard(2,0,0,0,-1,0,0)\n  has 2 vertices and 2 arcs:\n\n\
                   0\n  -> 1, length 1\n1\n  -> 0, length 1\n";
-    assert_eq!(graph.listing().unwrap(), wanted);
+    assert_eq!(graph("complete(2)").listing().unwrap(), wanted);
 }
 
 #[test]
 fn a_file_is_read() {
     let graph = Graph::new("stdin", FILE).unwrap();
-    assert_eq!(graph.names().unwrap(), ["left", "right"]);
-    assert_eq!((graph.starts, graph.tips, graph.lengths), (vec![0, 1, 2], vec![1, 0], vec![7, -3]));
+    assert!(graph.all_names().unwrap().iter().eq(["left", "right"]));
+    let rows = graph.all().unwrap();
+    assert_eq!((rows.starts(), rows.tips(), rows.lengths()), (&[0, 1, 2][..], &[1, 0][..], &[7, -3][..]));
 }
 
 #[test]
@@ -39,40 +52,43 @@ fn a_file_is_written_as_it_was() {
 fn a_graph_of_no_vertices_has_empty_arrays() {
     let file = b"* GraphBase graph (util_types ZZZZZZZZZZZZZZ,0V,0A)\n\"\",0,0\n* Vertices\n* Arcs\n* Checksum 10363\n";
     let graph = Graph::new("stdin", file).unwrap();
-    assert_eq!((graph.id().unwrap().as_str(), graph.names().unwrap().len()), ("", 0));
-    assert_eq!((graph.starts, graph.tips, graph.lengths), (vec![0], vec![], vec![]));
+    assert_eq!((graph.id(), graph.all_names().unwrap().is_empty()), ("", true));
+    let rows = graph.all().unwrap();
+    assert_eq!((rows.starts(), rows.tips(), rows.lengths()), (&[0][..], &[][..], &[][..]));
+    assert_eq!((graph.chunks(3).count(), graph.arcs().count()), (0, 0));
 }
 
 #[test]
 fn coordinates_are_in_the_fields_x_and_y() {
-    let graph = Graph::new("board(2,2,0,0,1,0,0)", b"").unwrap();
-    assert_eq!(graph.ints(3), Ok(vec![0, 0, 1, 1]));
-    assert_eq!(graph.ints(4), Ok(vec![0, 1, 0, 1]));
-    assert_eq!(graph.ints(0), Err(Error::Code(102)));
-    assert_eq!(graph.ints(6), Err(Error::Code(102)));
+    let graph = graph("board(2,2,0,0,1,0,0)");
+    assert_eq!(graph.ints(Field::X, 0, 4), Ok(vec![0, 0, 1, 1]));
+    assert_eq!(graph.ints(Field::Y, 0, 4), Ok(vec![0, 1, 0, 1]));
+    assert_eq!(graph.ints(Field::Y, 1, 2), Ok(vec![1, 0]));
+    assert_eq!(graph.ints(Field::U, 0, 4), Err(Error::Code(102)));
+    assert_eq!(graph.ints(Field::X, 1, 4), Err(Error::Code(106)));
 }
 
 #[test]
-fn two_graphs_are_open_at_once() {
-    let board = Graph::new("board(2,2,0,0,1,0,0)", b"").unwrap();
+fn several_graphs_are_open_at_once() {
+    let board = graph("board(2,2,0,0,1,0,0)");
     let names = {
-        let petersen = Graph::new("petersen()", b"").unwrap();
-        assert_eq!(board.names().unwrap(), ["0.0", "0.1", "1.0", "1.1"]);
-        petersen.names().unwrap()
+        let petersen = graph("petersen()");
+        assert!(board.all_names().unwrap().iter().eq(["0.0", "0.1", "1.0", "1.1"]));
+        petersen.all_names().unwrap()
     };
-    assert_eq!((names.len(), names[0].as_str()), (10, "0.0.0.1.1"));
-    assert_eq!(board.names().unwrap(), ["0.0", "0.1", "1.0", "1.1"]);
+    assert_eq!((names.len(), &names[0]), (10, "0.0.0.1.1"));
+    assert_eq!(&board.all_names().unwrap()[3], "1.1");
 }
 
 #[test]
 fn a_graph_that_is_dropped_is_given_back() {
     // pages that this process holds, where the system says so
-    let pages = || Some(std::fs::read_to_string("/proc/self/statm").ok()?.split(' ').nth(1)?.parse::<u64>().ok()?);
+    let pages = || std::fs::read_to_string("/proc/self/statm").ok()?.split(' ').nth(1)?.parse::<u64>().ok();
     let before = pages();
     for _ in 0..300 {
-        assert_eq!(Graph::new("board(100,100,0,0,1,0,0)", b"").unwrap().n(), 10_000);
+        assert_eq!(graph("complement(empty(300),0,0,0)").n(), 300);
     }
-    // one takes about two megabytes
+    // one takes some megabytes
     assert!(before.zip(pages()).map_or(true, |(before, after)| after < before + 40_000));
 }
 
@@ -87,48 +103,131 @@ fn what_is_no_graph_is_refused() {
 }
 
 #[test]
-fn the_chunks_of_a_graph_are_its_arrays() {
-    for text in ["petersen()", "board(3,4,0,0,-2,0,0)", "simplex(3,-3,0,0,0,0,0)", "simplex(3,1,1,0,0,0,0)"] {
-        let graph = Graph::new(text, b"").unwrap();
-        let names = graph.names().unwrap();
-        assert_eq!((vertices_of(text), arcs_of(text)), (Ok(graph.n() as u64), Ok(graph.m())));
+fn a_refusal_is_said_in_words() {
+    let said = |text: &str| Graph::new(text, b"").unwrap_err().to_string();
+    assert_eq!(said("board(3,"), "bad expression at byte 8");
+    assert_eq!(said("simplex(-1,0,0,0,0,0,0)"), "parameters that make no sense (code 30)");
+    assert_eq!((Error::Expression(8).code(), Error::Code(30).code()), (Some(1008), Some(30)));
+    assert_eq!((Error::Code(30).words(), Error::Code(77).words()), ("parameters that make no sense", "something went wrong"));
+}
+
+/// The name and the number of a line `#define SGB_NAME number`.
+fn defined(line: &str) -> Option<(&str, u64)> {
+    let mut words = line.strip_prefix("#define ")?.split_whitespace();
+    Some((words.next()?, words.next()?.parse().ok()?))
+}
+
+/// The name and the words of a line `case SGB_NAME: return "words";`.
+fn said(line: &str) -> Option<(&str, &str)> {
+    line.trim().strip_prefix("case ")?.strip_suffix("\";")?.split_once(": return \"")
+}
+
+#[test]
+fn the_words_are_those_of_the_header() {
+    let header = include_str!("../../../include/sgb.h");
+    let numbers: HashMap<_, _> = header.lines().filter_map(defined).collect();
+    let found: Vec<_> = header.lines().filter_map(said).map(|(name, words)| (numbers[name], words)).collect();
+    // a header without the function sgb_words says none
+    assert!(!header.contains("sgb_words") || found[1..] == ANSWERS, "{found:?}");
+}
+
+#[test]
+fn the_runs_of_a_graph_are_its_arrays() {
+    for text in GRAPHS {
+        let graph = graph(text);
+        let (all, names) = (graph.all().unwrap(), graph.all_names().unwrap());
+        assert_eq!((all.vertices(), names.vertices()), (0..graph.n(), 0..graph.n()));
         for size in [1, 3, 1000] {
-            let mut found = (vec![], vec![], vec![]);
-            for first in (0..graph.n()).step_by(size) {
-                let count = size.min(graph.n() - first);
-                let chunk = Chunk::new(text, first as u32, count as u32).unwrap();
-                assert_eq!((chunk.first() as usize, chunk.count() as usize), (first, count));
-                assert!((0..count).all(|k| chunk.tips_of(k) == graph.tips_of(first + k)));
-                found.0.extend_from_slice(&chunk.tips);
-                found.1.extend_from_slice(&chunk.lengths);
-                found.2.extend(chunk.names().unwrap());
+            let (mut tips, mut lengths, mut seen) = (vec![], vec![], 0);
+            for rows in graph.chunks(size) {
+                let rows = rows.unwrap();
+                assert_eq!((rows.first(), rows.count()), (seen, size.min(graph.n() - seen)));
+                assert_eq!(rows.lists(), &graph.lists(rows.first(), rows.count()).unwrap());
+                assert!(rows.vertices().all(|v| rows.tips_of(v) == all.tips_of(v) && rows.lengths_of(v) == all.lengths_of(v)));
+                let some = graph.names(rows.first(), rows.count()).unwrap();
+                assert!(some.iter().eq(rows.vertices().map(|v| &names[v])));
+                tips.extend_from_slice(rows.tips());
+                lengths.extend_from_slice(rows.lengths());
+                seen += rows.count();
             }
-            assert_eq!((&found.0, &found.1, &found.2), (&graph.tips, &graph.lengths, &names));
+            assert_eq!((tips, lengths, seen), (all.tips().to_vec(), all.lengths().to_vec(), graph.n()));
         }
+        for v in 0..graph.n() {
+            assert_eq!(graph.tips_of(v), Ok(all.tips_of(v).to_vec()));
+            assert_eq!(graph.lengths_of(v), Ok(all.lengths_of(v).to_vec()));
+            assert_eq!(graph.degree(v), Ok(all.degree(v) as u64));
+            assert_eq!((graph.name(v).as_deref(), names.get(v)), (Ok(&names[v]), Some(&names[v])));
+            assert_eq!(graph.vertex(&names[v]), Ok(Some(v)));
+        }
+        assert_eq!((names.get(graph.n()), graph.vertex("none")), (None, Ok(None)));
     }
 }
 
 #[test]
-fn a_great_graph_has_a_last_chunk() {
-    let text = "board(1000000000,0,0,0,1,0,0)";
-    assert_eq!((vertices_of(text), arcs_of(text)), (Ok(1_000_000_000), Ok(1_999_999_998)));
-    let chunk = Chunk::new(text, 999_999_998, 2).unwrap();
-    assert_eq!(chunk.names().unwrap(), ["999999998", "999999999"]);
-    assert_eq!((chunk.starts, chunk.lengths), (vec![0, 2, 3], vec![1; 3]));
-    assert_eq!(chunk.tips, [999_999_999, 999_999_997, 999_999_998]);
+fn arcs_come_in_the_order_of_the_lists() {
+    for text in GRAPHS.into_iter().chain(["board(5000,0,0,0,1,0,0)", "circuit(1)"]) {
+        let graph = graph(text);
+        let rows = graph.all().unwrap();
+        let arcs: Result<Vec<Arc>, Error> = graph.arcs().collect();
+        let arcs = arcs.unwrap();
+        assert!(rows.arcs().eq(arcs.iter().copied()));
+        assert!(arcs.iter().map(|arc| arc.tip).eq(rows.tips().iter().copied()));
+        assert!(arcs.iter().map(|arc| arc.length).eq(rows.lengths().iter().copied()));
+        assert!(arcs.iter().all(|arc| rows.arcs_of(arc.v as usize).any(|other| other == *arc)));
+        assert!(arcs.windows(2).all(|two| two[0].v <= two[1].v));
+    }
 }
 
 #[test]
-fn what_is_no_chunk_is_refused() {
-    let refusal = |text: &str, first, count| Chunk::new(text, first, count).err();
-    assert_eq!(refusal("petersen()", 0, 10), None);
-    assert_eq!(refusal("petersen()", 10, 0), None);
-    assert_eq!(refusal("petersen()", 1, 10), Some(Error::Code(106)));
-    assert_eq!(refusal("petersen()", u32::MAX, u32::MAX), Some(Error::Code(106)));
-    assert_eq!(refusal("stdin", 0, 0), Some(Error::Code(107)));
-    assert_eq!(refusal("board(3,", 0, 0), Some(Error::Expression(8)));
-    assert_eq!(vertices_of("wheel(5,1,0)"), Err(Error::Code(107)));
-    assert_eq!(arcs_of("simplex(-1,0,0,0,0,0,0)"), Err(Error::Code(30)));
+fn an_edge_is_two_arcs() {
+    let ends = |text: &str| graph(text).edges().map(|edges| edges.iter().map(|e| (e.v, e.tip, e.length)).collect::<Vec<_>>());
+    assert_eq!(ends("circuit(1)"), Ok(vec![(0, 0, 1)]));
+    assert_eq!(ends("board(3,0,0,0,-1,0,0)").map(|edges| edges.len()), Ok(3));
+    let parallel = ends("gunion(complete(3),circuit(3),1,0)").unwrap();
+    assert_eq!((parallel.len(), parallel.iter().filter(|edge| **edge == (0, 1, 1)).count()), (6, 2));
+    let alone = Arc { v: 0, tip: 1, length: 7 };
+    assert_eq!(Graph::new("stdin", FILE).unwrap().edges(), Err(Error::Unpaired(alone)));
+    let said = "the arc from vertex 0 to vertex 1, length 7, is no edge, since none leads back";
+    assert_eq!(Error::Unpaired(alone).to_string(), said);
+}
+
+#[test]
+fn graphs_of_one_official_name_are_equal() {
+    assert_eq!(graph("petersen()"), graph("subsets(2,1,-4,0,0,0,1,0)"));
+    assert_ne!(graph("complete(3)"), graph("complete(4)"));
+}
+
+#[test]
+fn a_great_graph_has_a_last_run() {
+    let graph = graph(GREAT);
+    assert_eq!((graph.n(), graph.m()), (1_000_000_000, Ok(1_999_999_998)));
+    let rows = graph.rows(999_999_998, 2).unwrap();
+    assert!(graph.names(999_999_998, 2).unwrap().iter().eq(["999999998", "999999999"]));
+    assert_eq!((rows.starts(), rows.lengths()), (&[0, 2, 3][..], &[1; 3][..]));
+    assert_eq!(rows.tips(), [999_999_999, 999_999_997, 999_999_998]);
+    assert_eq!(graph.tips_of(999_999_999), Ok(vec![999_999_998]));
+    assert_eq!(graph.chunks(10).next().unwrap().unwrap().vertices(), 0..10);
+}
+
+#[test]
+fn a_run_that_is_not_there_is_refused() {
+    for text in ["petersen()", "wheel(9,1,0)"] {
+        let graph = graph(text);
+        assert!(graph.rows(0, 10).is_ok());
+        assert!(graph.rows(10, 0).is_ok());
+        for (first, count) in [(1, 10), (11, 0), (0, 11), (u32::MAX as usize, u32::MAX as usize), (1 << 32, 0), (0, 1 << 32)] {
+            assert_eq!(graph.rows(first, count).err(), Some(Error::Code(106)));
+            assert_eq!(graph.lists(first, count).err(), Some(Error::Code(106)));
+            assert_eq!(graph.names(first, count).err(), Some(Error::Code(106)));
+        }
+        assert_eq!((graph.degree(10), graph.tips_of(10)), (Err(Error::Code(106)), Err(Error::Code(106))));
+    }
+}
+
+#[test]
+#[should_panic(expected = "vertex 4 is not among 1..4")]
+fn a_list_that_is_not_there_panics() {
+    graph("petersen()").rows(1, 3).unwrap().tips_of(4);
 }
 
 #[test]
@@ -137,4 +236,11 @@ fn the_first_draw_is_that_of_gb_flip() {
     assert_eq!(draws(-314159, 0, 0), []);
     assert_eq!(uniform_draws(-314159, 0, 0, 1), Err(Error::Code(103)));
     assert_eq!(uniform_draws(-314159, 0, 1, 3), Ok(vec![0, 0, 0]));
+}
+
+#[test]
+fn the_calls_are_of_version_1() {
+    assert_eq!(version() / 1_000_000, 1);
+    let package: Vec<u64> = env!("CARGO_PKG_VERSION").split('.').map(|part| part.parse().unwrap()).collect();
+    assert_eq!(package[0], version() / 1_000_000);
 }

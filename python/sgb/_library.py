@@ -1,0 +1,236 @@
+"""The calls of libsgb.so: what they take, the arrays that they fill, and what their answers mean."""
+
+from __future__ import annotations
+
+import ctypes
+import os
+import threading
+from typing import Any, Optional
+
+try:
+    import numpy
+except ImportError:
+    numpy = None  # type: ignore[assignment]
+
+BAD_EXPRESSION = 1000
+# the words of each answer, as include/sgb.h has them
+ANSWERS = {
+    1: "out of memory",
+    10: "the head of the .gb file is wrong",
+    11: "the end of the .gb file is wrong",
+    20: "a record of the .gb file is wrong",
+    30: "parameters that make no sense",
+    40: "parameters that ask for too much",
+    60: "a graph that the operation cannot take",
+    100: "the expression is too large",
+    101: "an array has another length than it must have",
+    102: "there is no such field, or it holds no integers",
+    103: "a uniform draw has a bound from 1 to 2^31",
+    104: "a graph is open",
+    105: "no graph is open",
+    106: "there are not so many vertices",
+}
+# of the library's calls: another number means other calls
+MAJOR = 1
+
+
+class GraphError(ValueError):
+    """Why there is no graph.
+
+    It can be pickled and copied, so that it comes out of another process as it was raised there.
+
+    Attributes
+    ----------
+    code : int
+        The library's answer: GraphBase's panic code where it is below 100.
+    byte : int or None
+        Of a bad expression the length of the longest prefix that begins one, else None.
+    """
+
+    def __init__(self, code: int) -> None:
+        self.code = code
+        self.byte: Optional[int] = code - BAD_EXPRESSION if code >= BAD_EXPRESSION else None
+        if self.byte is None:
+            super().__init__(f"{ANSWERS.get(code, 'something went wrong')} (code {code})")
+        else:
+            super().__init__(f"bad expression at byte {self.byte}")
+
+    def __reduce__(self) -> Any:
+        # an exception is made again from its `args`, which are its words: this one is made from its code
+        return type(self), (self.code,), self.__dict__
+
+
+class Sizes(ctypes.Structure):
+    """How large a graph is."""
+
+    _fields_ = [("vertices", ctypes.c_uint64), ("id", ctypes.c_uint64)]
+
+
+class Handle(ctypes.Structure):
+    """A graph that is open, or none."""
+
+    _fields_ = [("held", ctypes.c_void_p), ("is_open", ctypes.c_bool)]
+
+
+_ARRAY = [ctypes.c_void_p, ctypes.c_size_t]
+_TEXT = [ctypes.c_char_p, ctypes.c_size_t]
+_ON = [ctypes.POINTER(Handle)]
+_RUN = [*_ON, ctypes.c_uint32, ctypes.c_uint32]
+_NUMBER = [ctypes.POINTER(ctypes.c_uint64)]
+# the calls of sgb.h: what each takes, and what it answers
+CALLS: dict[str, Any] = {
+    "sgb_open": (_TEXT + _TEXT + _ON, ctypes.c_uint64),
+    "sgb_close": (_ON, None),
+    "sgb_sizes": (_ON + [ctypes.POINTER(Sizes)], ctypes.c_uint64),
+    "sgb_arcs": (_ON + _NUMBER, ctypes.c_uint64),
+    "sgb_rows_size": (_RUN + _NUMBER, ctypes.c_uint64),
+    "sgb_names_size": (_RUN + _NUMBER, ctypes.c_uint64),
+    "sgb_rows": (_RUN + 3 * _ARRAY, ctypes.c_uint64),
+    "sgb_tips": (_RUN + 2 * _ARRAY, ctypes.c_uint64),
+    "sgb_names": (_RUN + 2 * _ARRAY, ctypes.c_uint64),
+    "sgb_ints": (_ON + 3 * [ctypes.c_uint32] + _ARRAY, ctypes.c_uint64),
+    "sgb_id": (_ON + _ARRAY, ctypes.c_uint64),
+    "sgb_kinds": (_ON + _ARRAY, ctypes.c_uint64),
+    "sgb_file_size": (_ON + _NUMBER, ctypes.c_uint64),
+    "sgb_file": (_ON + _ARRAY, ctypes.c_uint64),
+    "sgb_draws": ([ctypes.c_int64, ctypes.c_uint64] + _ARRAY, None),
+    "sgb_uniform_draws": ([ctypes.c_int64, ctypes.c_uint64, ctypes.c_uint32] + _ARRAY, ctypes.c_uint64),
+    "sgb_version": ([], ctypes.c_uint64),
+}
+
+
+def _path() -> str:
+    if path := os.environ.get("SGB_LIBRARY"):
+        return path
+    here = os.path.dirname(os.path.abspath(__file__))
+    top = os.path.dirname(os.path.dirname(here))
+    places = [os.path.join(folder, "libsgb.so") for folder in (here, top)]
+    # that which the system finds has the name that programs keep of it
+    return next(filter(os.path.exists, places), f"libsgb.so.{MAJOR}")
+
+
+def _library() -> ctypes.CDLL:
+    path = _path()
+    try:
+        library = ctypes.CDLL(path)
+        for name, (takes, answers) in CALLS.items():
+            call = getattr(library, name)
+            call.argtypes, call.restype = takes, answers
+    except (OSError, AttributeError) as why:
+        raise ImportError(f"{why}: `make lib` makes libsgb.so, and SGB_LIBRARY may name it") from None
+    version = library.sgb_version()
+    if version // 1_000_000 != MAJOR:
+        raise ImportError(f"{path} has calls of version {version // 1_000_000}, and those of version {MAJOR} are wanted")
+    return library
+
+
+lib = _library()
+
+
+def must(answer: int) -> None:
+    """Raises what an answer means, where it is not 0."""
+    if answer == 1:
+        raise MemoryError("out of memory (code 1)")
+    if answer:
+        raise GraphError(answer)
+
+
+_TYPES: dict[str, Any] = {"B": ctypes.c_uint8, "I": ctypes.c_uint32, "Q": ctypes.c_uint64, "q": ctypes.c_int64}
+
+
+class Array:
+    """An array of so many numbers: what C is handed, and what Python sees, which it cannot change."""
+
+    def __init__(self, code: str, count: int) -> None:
+        self.code, self.count = code, count
+        if count >= 2**56:
+            raise MemoryError(f"out of memory: an array of {count} numbers")
+        self.kept: Any
+        # one place more than is handed over, so that there is always an address
+        if numpy is None:
+            self.kept = (_TYPES[code] * (count + 1))()
+            address = ctypes.addressof(self.kept)
+        else:
+            self.kept = numpy.empty(count + 1, dtype=code)
+            address = self.kept.ctypes.data
+        self.words = (address, count)
+
+    def seen(self) -> Any:
+        """The numbers: a numpy array, or a memory view."""
+        if numpy is None:
+            return memoryview(self.kept).cast("B").cast(self.code)[: self.count].toreadonly()
+        self.kept.flags.writeable = False
+        return self.kept[: self.count]
+
+    def bytes(self) -> bytes:
+        """The same as bytes."""
+        return bytes(self.seen())
+
+
+def array_of(code: str, data: bytes) -> Any:
+    """The numbers that these bytes hold, as `Array.seen` shows them."""
+    return memoryview(data).cast(code) if numpy is None else numpy.frombuffer(data, dtype=code)
+
+
+class Held:
+    """A graph that the library holds, until it is closed, or until nothing leads to this object any more."""
+
+    def __init__(self, text: bytes, given: bytes) -> None:
+        self._handle, self._lock = Handle(), threading.Lock()
+        must(lib.sgb_open(text, len(text), given, len(given), self._handle))
+
+    @property
+    def is_open(self) -> bool:
+        """Whether the graph is held."""
+        return bool(self._handle.is_open)
+
+    def call(self, what: str, name: str, *words: Any) -> None:
+        """A call on the graph: one at a time. ValueError where it is closed."""
+        with self._lock:
+            if not self._handle.is_open:
+                raise ValueError(f"the graph is closed, and its {what} were not asked for before")
+            must(getattr(lib, name)(self._handle, *words))
+
+    def number(self, what: str, name: str, *words: Any) -> int:
+        """A call that says a number."""
+        number = ctypes.c_uint64()
+        self.call(what, name, *words, number)
+        return number.value
+
+    def close(self) -> None:
+        """Gives the graph back."""
+        with self._lock:
+            lib.sgb_close(self._handle)
+
+    def __del__(self) -> None:
+        # nobody else has it any more; where it was not made in full, its handle may not be there
+        if handle := getattr(self, "_handle", None):
+            lib.sgb_close(handle)
+
+
+def expression(text: object) -> bytes:
+    """The bytes of an expression."""
+    if not isinstance(text, str):
+        more = ", which .decode() makes one" if isinstance(text, (bytes, bytearray)) else ""
+        raise TypeError(f"an expression is a str, and this is {type(text).__name__}{more}")
+    return text.encode(errors="surrogatepass")
+
+
+def input_bytes(given: Any) -> bytes:
+    """The bytes that are handed in, or stand in the file."""
+    if given is None:
+        return b""
+    if isinstance(given, str) and "\n" in given:
+        raise TypeError("a str as input is the path of a file, and this is the text of one: .encode() makes bytes of it")
+    if isinstance(given, (str, os.PathLike)):
+        with open(given, "rb") as file:
+            return file.read()
+    if hasattr(given, "read"):
+        given = given.read()
+        if isinstance(given, str):
+            raise TypeError("the input is a file that is open for text: it has to be open for bytes, with mode 'rb'")
+    try:
+        return bytes(memoryview(given))
+    except TypeError:
+        said = f"the input is bytes, a path, an open file or a graph, and this is {type(given).__name__}"
+        raise TypeError(said) from None

@@ -1,0 +1,197 @@
+"""Graphs of one's own: each is written as a .gb file, and opened as `stdin`."""
+
+from __future__ import annotations
+
+import operator
+from typing import TYPE_CHECKING, Any, Iterable, Optional, Sequence
+
+from . import _files
+from ._graph import Graph
+
+if TYPE_CHECKING:
+    import networkx
+
+
+def _opened(names: Optional[Iterable[str]], arcs: _files.Arcs, id: Optional[str]) -> Graph:  # noqa: A002
+    return Graph("stdin", _files.gb_file(names, arcs, id))
+
+
+def from_edges(edges: Iterable[Sequence[Any]], n: Optional[int] = None, names: Optional[Sequence[str]] = None,
+               directed: bool = False, id: Optional[str] = None) -> Graph:  # noqa: A002
+    """The graph of some edges, or arcs.
+
+    Parameters
+    ----------
+    edges : iterable of (v, tip) or (v, tip, length)
+        The ends are vertices, 0 to n - 1, or their names, if all are str. A length is an integer; it is 1 where there
+        is none. Parallel edges and loops are what they are.
+    n : int
+        How many vertices there are. If it is not said: as many as there are names, else one more than the greatest end.
+    names : sequence of str
+        The names of the vertices. If there are none: the ends, in the order in which they are met, where they are
+        names; else the numbers of the vertices.
+    directed : bool
+        Whether they are arcs; otherwise each edge is two arcs there and back, and a loop two of its vertex.
+    id : str
+        Its official name. If it is not said it has the numbers of vertices and arcs and a sum of all that the graph is,
+        so that graphs of one official name are the same.
+
+    Returns
+    -------
+    Graph
+        Its expression is `stdin`; `save()` is its .gb file. The list of a vertex has its arcs in the order in which
+        they are given. (Graphs that GraphBase makes arc by arc have them the other way round.)
+
+    Raises
+    ------
+    ValueError
+        Where GraphBase has no such graph: an end that is no vertex, a length that is no integer of 64 bits, a name or
+        an id that is too long or not printable ASCII without quotation mark and backslash, more than 10^9 vertices.
+    TypeError
+        Where ends are neither numbers nor all names.
+
+    Examples
+    --------
+    >>> g = sgb.from_edges([("a", "b"), ("b", "c", 7)])
+    >>> g.names(), list(g.arcs())
+    (['a', 'b', 'c'], [(0, 1, 1), (1, 0, 1), (1, 2, 7), (2, 1, 7)])
+    """
+    given = [_ends(edge) for edge in edges]
+    if any(isinstance(end, str) for edge in given for end in edge[:2]):
+        given, names = _numbered(given, names)
+    if n is None:
+        ends = (operator.index(end) for edge in given for end in edge[:2])
+        n = len(names) if names is not None else 1 + max(ends, default=-1)
+    arcs = _files.Arcs(operator.index(n))
+    add = arcs.arc if directed else arcs.edge
+    for edge in given:
+        add(*edge)
+    return _opened(names, arcs, id)
+
+
+def _ends(edge: Any) -> tuple[Any, ...]:
+    found = tuple(edge)
+    if len(found) not in (2, 3):
+        raise TypeError(f"an edge is (v, tip) or (v, tip, length), and this is {edge!r:.60}")
+    return found
+
+
+def _numbered(edges: list[tuple[Any, ...]], names: Optional[Sequence[str]]) -> tuple[list[tuple[Any, ...]], list[str]]:
+    """Edges whose ends are names, by the numbers of these; all names."""
+    known = {} if names is None else {name: v for v, name in enumerate(names)}
+    if names is not None and len(known) != len(names):
+        raise ValueError("two vertices have one name: their arcs are told by numbers")
+    made: list[tuple[Any, ...]] = []
+    for edge in edges:
+        for end in edge[:2]:
+            if not isinstance(end, str):
+                raise TypeError(f"the ends of arcs are all numbers or all names, and there is {end!r:.60}")
+            if names is not None and end not in known:
+                raise ValueError(f"no vertex has the name {end!r:.60}")
+            known.setdefault(end, len(known))
+        made.append((known[edge[0]], known[edge[1]], *edge[2:]))
+    return made, list(known)
+
+
+def from_csr(starts: Sequence[Any], tips: Sequence[Any], lengths: Optional[Sequence[Any]] = None,
+             names: Optional[Sequence[str]] = None, id: Optional[str] = None) -> Graph:  # noqa: A002
+    """The graph of some arrays, such as a graph has.
+
+    Parameters
+    ----------
+    starts : sequence of n + 1 int
+        Where the lists begin, and where the last one ends: starts[0] is 0.
+    tips : sequence of int
+        Where the arcs lead. The list of vertex v is what stands from starts[v] up to starts[v + 1].
+    lengths : sequence of int
+        The lengths of the arcs, 1 if they are not said.
+    names, id
+        As for `from_edges`.
+
+    Returns
+    -------
+    Graph
+        Its arrays are these. An edge is two of the arcs.
+
+    Raises
+    ------
+    ValueError
+        Where they are no lists, or as `from_edges`.
+    """
+    places = [operator.index(start) for start in starts]
+    ends = list(tips)
+    sizes = [1] * len(ends) if lengths is None else list(lengths)
+    if not places or places[0] != 0 or any(a > b for a, b in zip(places, places[1:])) or places[-1] != len(ends):
+        raise ValueError(f"starts go from 0 up to the number of tips, which is {len(ends)}")
+    if len(sizes) != len(ends):
+        raise ValueError(f"there are {len(sizes)} lengths, and {len(ends)} tips")
+    arcs = _files.Arcs(len(places) - 1)
+    for v, (a, b) in enumerate(zip(places, places[1:])):
+        for tip, length in zip(ends[a:b], sizes[a:b]):
+            arcs.arc(v, tip, length)
+    return _opened(names, arcs, id)
+
+
+def from_networkx(graph: networkx.Graph, weight: str = "weight", id: Optional[str] = None) -> Graph:  # noqa: A002
+    """A graph of networkx.
+
+    Parameters
+    ----------
+    graph : networkx.Graph, DiGraph, MultiGraph or MultiDiGraph
+        Its nodes are the vertices, in its order, and their texts, as `str` has them, the names.
+    weight : str
+        The attribute of an edge that is its length, 1 where an edge has none.
+    id : str
+        As for `from_edges`. The name that the graph has in networkx is not taken for an official name.
+
+    Returns
+    -------
+    Graph
+        Its arcs or edges are in the order of `graph.edges`, those of each list too.
+
+    Raises
+    ------
+    ValueError
+        As `from_edges`.
+    """
+    place = {node: v for v, node in enumerate(graph)}
+    edges = ((place[u], place[v], length) for u, v, length in graph.edges(data=weight, default=1))
+    return from_edges(edges, len(place), [str(node) for node in place], graph.is_directed(), id)
+
+
+def from_scipy(matrix: Any, names: Optional[Sequence[str]] = None, directed: bool = True,
+               id: Optional[str] = None) -> Graph:  # noqa: A002
+    """The graph of a matrix of lengths.
+
+    Parameters
+    ----------
+    matrix : sparse array or matrix of scipy, of shape (n, n)
+        Its entries are the arcs, from the row to the column, row by row in the order in which they are kept. An entry
+        that is kept is an arc, of length 0 where it is 0.
+    names, id
+        As for `from_edges`.
+    directed : bool
+        Whether each entry is an arc. Otherwise the matrix has to be symmetric, and the entries that are not below the
+        diagonal are the edges.
+
+    Returns
+    -------
+    Graph
+
+    Raises
+    ------
+    ValueError
+        Where the matrix is not square, or not symmetric if it has to be, or as `from_edges`.
+    """
+    rows = matrix.tocsr()
+    n = rows.shape[0]
+    if rows.shape != (n, n):
+        raise ValueError(f"the matrix of a graph is square, and this has {rows.shape[0]} rows and {rows.shape[1]} columns")
+    places = rows.indptr.tolist()
+    tips, lengths = rows.indices.tolist(), rows.data.tolist()
+    if directed:
+        return from_csr(places, tips, lengths, names, id)
+    arcs = [(v, tips[k], lengths[k]) for v, (a, b) in enumerate(zip(places, places[1:])) for k in range(a, b)]
+    if sorted(arcs) != sorted((tip, v, length) for v, tip, length in arcs):
+        raise ValueError("the matrix is not symmetric: with directed=True its entries are arcs")
+    return from_edges([arc for arc in arcs if arc[0] <= arc[1]], n, names, False, id)
