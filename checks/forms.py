@@ -2,8 +2,9 @@
 """Finds the places that name each form of expressions, and fails where one lacks a form: checks/forms.py [FORM ..]
 
 At the repository's top. The forms are those that `name_opening` gives (crates/sgb_expr/specs/Names.antt); each is of one sort:
-a generator, a short name, an operation or `stdin`. PLACES has what each sort is named in: a file, and what stands there for it.
-So who adds a form adds its name, and is told what else it wants. Where FORMs are given their places are printed, too.
+a generator, a short name, an operation, one on numbers alone, or `stdin`. PLACES has what each sort is named in: a file, and what
+stands there for it. So who adds a form adds its name, and is told what else it wants. Where FORMs are given their places are
+printed, too.
 
 A place that no form is found in has lost its text: that fails as well. The last line is `N passed, M failed`; the status is 1
 where one failed.
@@ -14,9 +15,11 @@ import sys
 
 NAMES = "crates/sgb_expr/specs/Names.antt"
 OPENING = re.compile(r'^name_opening (\(Generator (\w+)\)|(\w+)) = codes "(\w+)\(?"$', re.M)
-GENERATORS = ["Board", "Simplex", "Subsets"]
+GENERATORS = ("crates/sgb_gen/src/params.rt", re.compile(r"^    (\w+)\(\w+Params\),$", re.M))
+ON_NUMBERS = ("crates/sgb_expr/specs/Expression.antt", re.compile(r"^  (\w+) : .* → OnNumbers$", re.M))
 
-# of these sorts: g a generator, s a short name, o an operation, i `stdin`; NAME is the form's text, VARIANT its variant
+# of these sorts: g a generator, s a short name, o an operation, n one on numbers alone (an o, too), i `stdin`; NAME is the form's
+# text, VARIANT its variant
 PLACES = [
     ("gso", "crates/sgb_expr/src/names.rt", r'VARIANT\)? => b"NAME\("'),
     ("i", "crates/sgb_expr/src/names.rt", r'VARIANT => b"NAME"'),
@@ -28,22 +31,16 @@ PLACES = [
     ("gs", "crates/sgb_expr/proofs/GeneratorReaders.antt", r"^reads_generator VARIANT\b"),
     ("gs", "crates/sgb_expr/src/arguments.rt", r"GeneratorName::VARIANT =>"),
     ("oi", "crates/sgb_expr/src/expressions.rt", r"^    VARIANT(,| \{)$"),
-    ("oi", "crates/sgb_expr/specs/Expression.antt", r"^expression_of \(?expr\.VARIANT\b|^ +expression_of \(?expr\.VARIANT\b"),
+    ("oi", "crates/sgb_expr/specs/Expression.antt", r"^ +VARIANT : "),
+    ("oi", "crates/sgb_expr/specs/Expression.antt", r"^ +expression_of \(?expr\.VARIANT\b"),
     ("oi", "crates/sgb_expr/src/operations.rt", r"FormName::VARIANT =>"),
     ("oi", "crates/sgb_expr/specs/Operations.antt", r"^IsCallOf .*\bVARIANT\b"),
     ("oi", "crates/sgb_expr/specs/inner/Reading.antt", r"^arguments_with .*\bVARIANT\b"),
     ("oi", "crates/sgb_expr/proofs/Forms.antt", r"^form_of VARIANT\b"),
-    ("oi", "crates/sgb_expr/proofs/Nesting.antt", r"^name_is_there VARIANT\b"),
-    ("gs", "crates/sgb_expr/proofs/Nesting.antt", r"^name_is_there \(Generator VARIANT\)"),
     ("oi", "crates/sgb_expr/src/stdin_uses.rt", r"Expr::VARIANT\b"),
-    ("oi", "crates/sgb_expr/specs/StdinUses.antt", r"has_stdin \(?VARIANT\b"),
     ("oi", "crates/sgb_values/src/evaluation.rt", r"Expr::VARIANT\b"),
-    ("oi", "crates/sgb_values/specs/Values.antt", r"value_of stdin \(?VARIANT\b"),
-    ("oi", "crates/sgb_values/specs/FirstRefusals.antt", r"^IsRefusedFirst input \(?VARIANT\b"),
-    ("oi", "crates/sgb_values/proofs/Values.antt", r"^ +size_of \(?VARIANT\b"),
-    ("oi", "crates/sgb_values/proofs/StdinValues.antt", r"^ +value_same a b \(?VARIANT\b"),
-    ("oi", "crates/sgb_values/proofs/Refusals.antt", r"^ +value_judged stdin is \(?VARIANT\b"),
-    ("oi", "crates/sgb_values/proofs/FirstRefusals.antt", r"^first_other input \(?VARIANT\b"),
+    ("oi", "crates/sgb_values/specs/Values.antt", r"^(of_\w+ \(| +value_of stdin \(?)VARIANT\b"),
+    ("n", "crates/sgb_values/specs/FirstRefusals.antt", r"^AreNumbersRefused \(VARIANT\b"),
     ("g", "crates/sgb_gen/src/params.rt", r"^    VARIANT\(VARIANTParams\),$"),
     ("g", "crates/sgb_gen/src/generators.rt", r"Generator::VARIANT\(params\) =>"),
     ("g", "crates/sgb_gen/src/locals.rt", r"^    VARIANT\(VARIANT\),$"),
@@ -78,12 +75,23 @@ def read(path):
         return file.read()
 
 
+def variants(place):
+    """The variants that a pattern finds in a file."""
+    path, pattern = place
+    return pattern.findall(read(path))
+
+
 def forms():
-    """The forms by their texts: the variant and the sort of each."""
+    """The forms by their texts: the variant and the sorts of each."""
     found = {}
+    generators = variants(GENERATORS)
+    on_numbers = variants(ON_NUMBERS)
     for _, generator, other, text in OPENING.findall(read(NAMES)):
         variant = generator or other
-        sort = "i" if variant == "Stdin" else "o" if other else "g" if variant in GENERATORS else "s"
+        if generator:
+            sort = "g" if variant in generators else "s"
+        else:
+            sort = "i" if variant == "Stdin" else "on" if variant in on_numbers else "o"
         found[text] = (variant, sort)
     return found
 
@@ -94,7 +102,7 @@ def stands(pattern, name, variant, text):
 
 def main():
     found = forms()
-    if not {"g", "s", "o", "i"} <= {sort for _, sort in found.values()}:
+    if not {"g", "s", "o", "on", "i"} <= {sort for _, sort in found.values()}:
         sys.exit(f"checks/forms.py: {NAMES} does not tell the forms")
     asked = sys.argv[1:]
     for name in asked:
@@ -104,7 +112,7 @@ def main():
     for sorts, path, pattern in PLACES:
         text = read(path)
         for name, (variant, sort) in found.items():
-            if sort not in sorts:
+            if not set(sort) & set(sorts):
                 continue
             if stands(pattern, name, variant, text):
                 passed += 1

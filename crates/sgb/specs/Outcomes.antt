@@ -7,7 +7,7 @@ use Rattle.sgb_vec.specs.declared.panics.Panic.{Panic}
 use Rattle.sgb_vec.specs.declared.panics.Panic.TheVariants.{Early}
 use Rattle.sgb_graph.specs.Graphs.{GraphData}
 use Rattle.sgb_graph.specs.Vertices.{names_of}
-use Rattle.sgb_expr.specs.Expression.{Expression, Generated, Gunion, expression_of}
+use Rattle.sgb_expr.specs.Expression.{Expression, Generated, Gunion, OfGraphs, expression_of}
 use Rattle.sgb_gen.specs.declared.params.Generator.{Generator}
 use Rattle.sgb_gen.specs.declared.params.Generator.TheVariants as generator
 use Rattle.sgb_expr.specs.StdinUses.{has_stdin}
@@ -59,7 +59,7 @@ moves_of step =
 
 -- the moves of queens: those of rooks and those of bishops [QUEEN]
 unfoldable pub queen_moves : Expression
-queen_moves = Gunion (Generated (moves_of (neg_ℤ (pos 1)))) (Generated (moves_of (neg_ℤ (pos 2)))) false false
+queen_moves = OfGraphs (Gunion false false) (Generated (moves_of (neg_ℤ (pos 1)))) (Generated (moves_of (neg_ℤ (pos 2))))
 
 -- what `queen` writes before the listing
 abbrev pub queen_title : List ℕ

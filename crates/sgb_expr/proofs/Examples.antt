@@ -5,7 +5,7 @@ use Rattle.std.specs.List.{range_with_len}
 use Rattle.std.proofs.lemmas.List.FromFn.{length-map-range_with_len, take-map-range_with_len}
 use Rattle.std.proofs.lemmas.List.Sums.{count_by-le-length}
 use Rattle.sgb_gen.specs.Shorthands.{complete, transitive, empty, circuit, cycle, disjoint_subsets, petersen}
-use Rattle.sgb_expr.specs.Expression.{Expression, Entry, Entries}
+use Rattle.sgb_expr.specs.Expression.{Expression, OnNumbers, OnGraph, OnGraphs, Entry, Entries}
 use Rattle.sgb_expr.specs.Expressions.{IsExpression, IsTooLarge}
 use Rattle.sgb_expr.specs.FlipTexts.{IsFlip}
 use Rattle.sgb_expr.specs.inner.FlipTexts.{whole_flip_at}
@@ -19,15 +19,15 @@ use Rattle.sgb_expr.proofs.WholeReading.{whole_read}
 use Rattle.sgb_text.proofs.WholeWords.{word_whole}
 
 -- the complement of the petersen graph, with loops
-reads_complement : whole_at (codes "complement(petersen(),0,-7,00)") ≡ Ok (Expression.Complement (Expression.Generated (Subsets petersen)) false true false)
+reads_complement : whole_at (codes "complement(petersen(),0,-7,00)") ≡ Ok (Expression.OfGraph (OnGraph.Complement false true false) (Expression.Generated (Subsets petersen)))
 unfolding expression_at openings generator_openings
 reads_complement = refl
 
-pub complement_is : IsExpression (codes "complement(petersen(),0,-7,00)") (Expression.Complement (Expression.Generated (Subsets petersen)) false true false)
+pub complement_is : IsExpression (codes "complement(petersen(),0,-7,00)") (Expression.OfGraph (OnGraph.Complement false true false) (Expression.Generated (Subsets petersen)))
 complement_is = whole_read _ _ reads_complement
 
 -- a union of two graphs, of which the second is a complement
-reads_union : whole_at (codes "gunion(complete(2),complement(complete(3),1,0,0),0,1)") ≡ Ok (Expression.Gunion (Expression.Generated (Board (complete (pos 2)))) (Expression.Complement (Expression.Generated (Board (complete (pos 3)))) true false false) false true)
+reads_union : whole_at (codes "gunion(complete(2),complement(complete(3),1,0,0),0,1)") ≡ Ok (Expression.OfGraphs (OnGraphs.Gunion false true) (Expression.Generated (Board (complete (pos 2)))) (Expression.OfGraph (OnGraph.Complement true false false) (Expression.Generated (Board (complete (pos 3))))))
 unfolding expression_at openings generator_openings
 reads_union = refl
 
@@ -37,24 +37,24 @@ unfolding expression_at openings generator_openings
 wrong_inside = refl
 
 -- a line graph that is directed
-reads_lines : whole_at (codes "lines(petersen(),-7)") ≡ Ok (Expression.Lines (Expression.Generated (Subsets petersen)) true)
+reads_lines : whole_at (codes "lines(petersen(),-7)") ≡ Ok (Expression.OfGraph (OnGraph.Lines true) (Expression.Generated (Subsets petersen)))
 unfolding expression_at openings generator_openings
 reads_lines = refl
 
 -- a product, whose kind is an integer as it stands
-reads_product : whole_at (codes "product(petersen(),complete(2),-3,1)") ≡ Ok (Expression.Product (Expression.Generated (Subsets petersen)) (Expression.Generated (Board (complete (pos 2)))) (negsuc 2) true)
+reads_product : whole_at (codes "product(petersen(),complete(2),-3,1)") ≡ Ok (Expression.OfGraphs (OnGraphs.Product (negsuc 2) true) (Expression.Generated (Subsets petersen)) (Expression.Generated (Board (complete (pos 2)))))
 unfolding expression_at openings generator_openings
 reads_product = refl
 
 -- a complete bipartite graph, and a wheel
 reads_two_numbers :
-    (whole_at (codes "bi_complete(2,-3,1)") ≡ Ok (Expression.BiComplete (pos 2) (negsuc 2) true))
-    × (whole_at (codes "wheel(5,1,0)") ≡ Ok (Expression.Wheel (pos 5) (pos 1) false))
+    (whole_at (codes "bi_complete(2,-3,1)") ≡ Ok (Expression.OfNumbers (OnNumbers.BiComplete (pos 2) (negsuc 2) true)))
+    × (whole_at (codes "wheel(5,1,0)") ≡ Ok (Expression.OfNumbers (OnNumbers.Wheel (pos 5) (pos 1) false)))
 unfolding expression_at openings generator_openings
 reads_two_numbers = (refl, refl)
 
 -- the flags of an intersection
-reads_intersection : whole_at (codes "intersection(complete(2),petersen(),1,0)") ≡ Ok (Expression.Intersection (Expression.Generated (Board (complete (pos 2)))) (Expression.Generated (Subsets petersen)) true false)
+reads_intersection : whole_at (codes "intersection(complete(2),petersen(),1,0)") ≡ Ok (Expression.OfGraphs (OnGraphs.Intersection true false) (Expression.Generated (Board (complete (pos 2)))) (Expression.Generated (Subsets petersen)))
 unfolding expression_at openings generator_openings
 reads_intersection = refl
 
@@ -71,7 +71,7 @@ reads_flags :
     (map whole_at (codes "board(1,2,3,4,5,-6,0)" ∷ codes "simplex(9,1,2,3,4,5,0)" ∷ [])
     ≡ map (λ f. Ok (Expression.Generated f)) (Board (record { n1 = pos 1; n2 = pos 2; n3 = pos 3; n4 = pos 4; piece = pos 5; wrap = negsuc 5; directed = false }) ∷ Simplex (record { n = pos 9; n0 = pos 1; n1 = pos 2; n2 = pos 3; n3 = pos 4; n4 = pos 5; directed = false }) ∷ []))
     × (map whole_at (codes "product(stdin,stdin,1,0)" ∷ codes "intersection(stdin,stdin,0,1)" ∷ codes "gunion(stdin,stdin,1,0)" ∷ codes "bi_complete(2,0,1)" ∷ codes "wheel(5,0,1)" ∷ [])
-    ≡ map (λ e. Ok e) (Expression.Product Expression.Stdin Expression.Stdin (pos 1) false ∷ Expression.Intersection Expression.Stdin Expression.Stdin false true ∷ Expression.Gunion Expression.Stdin Expression.Stdin true false ∷ Expression.BiComplete (pos 2) (pos 0) true ∷ Expression.Wheel (pos 5) (pos 0) true ∷ []))
+    ≡ map (λ e. Ok e) (Expression.OfGraphs (OnGraphs.Product (pos 1) false) Expression.Stdin Expression.Stdin ∷ Expression.OfGraphs (OnGraphs.Intersection false true) Expression.Stdin Expression.Stdin ∷ Expression.OfGraphs (OnGraphs.Gunion true false) Expression.Stdin Expression.Stdin ∷ Expression.OfNumbers (OnNumbers.BiComplete (pos 2) (pos 0) true) ∷ Expression.OfNumbers (OnNumbers.Wheel (pos 5) (pos 0) true) ∷ []))
 unfolding expression_at openings generator_openings
 reads_flags = (refl, refl)
 
@@ -121,7 +121,7 @@ unfolding expression_at entries_at openings generator_openings
 wrong_comma = refl
 
 -- standard input, by its whole word
-reads_stdin : whole_at (codes "complement(stdin,0,0,1)") ≡ Ok (Expression.Complement Expression.Stdin false false true)
+reads_stdin : whole_at (codes "complement(stdin,0,0,1)") ≡ Ok (Expression.OfGraph (OnGraph.Complement false false true) Expression.Stdin)
 unfolding expression_at openings generator_openings
 reads_stdin = refl
 
@@ -136,16 +136,15 @@ unfolding expression_at openings generator_openings
 wrong_in_stdin = refl
 
 -- it stands in an entry of an entry's graph
-finds_stdin : has_stdin (Expression.Induced (Expression.Generated (Subsets petersen)) (Entries.EntryThen (Entry.Number (pos 3)) (Entries.EntryThen (Entry.Graph (Expression.Lines Expression.Stdin true)) Entries.NoEntries)) false true false) ≡ true
+finds_stdin : has_stdin (Expression.Induced (Expression.Generated (Subsets petersen)) (Entries.EntryThen (Entry.Number (pos 3)) (Entries.EntryThen (Entry.Graph (Expression.OfGraph (OnGraph.Lines true) Expression.Stdin)) Entries.NoEntries)) false true false) ≡ true
 finds_stdin = refl
 
--- and as the second operand of each operation on two graphs
-finds_second : map has_stdin (Expression.Product (Expression.Generated (Subsets petersen)) Expression.Stdin (pos 0) false ∷ Expression.Gunion (Expression.Generated (Subsets petersen)) Expression.Stdin false false ∷ Expression.Intersection (Expression.Generated (Subsets petersen)) Expression.Stdin false false ∷ []) ≡ true ∷ true ∷ true ∷ []
-finds_second = refl
-
--- and as the first one
-finds_first : map has_stdin (Expression.Product Expression.Stdin (Expression.Generated (Subsets petersen)) (pos 0) false ∷ Expression.Gunion Expression.Stdin (Expression.Generated (Subsets petersen)) false false ∷ Expression.Intersection Expression.Stdin (Expression.Generated (Subsets petersen)) false false ∷ []) ≡ true ∷ true ∷ true ∷ []
-finds_first = refl
+-- and as each operand; not in generators, in operations on numbers, or among integers
+finds_each : map has_stdin (Expression.Stdin ∷ Expression.OfGraph (OnGraph.Lines false) Expression.Stdin ∷ Expression.Induced Expression.Stdin Entries.NoEntries false false false
+    ∷ Expression.OfGraphs (OnGraphs.Gunion false false) Expression.Stdin (Expression.Generated (Subsets petersen)) ∷ Expression.OfGraphs (OnGraphs.Gunion false false) (Expression.Generated (Subsets petersen)) Expression.Stdin
+    ∷ Expression.OfNumbers (OnNumbers.Wheel (pos 5) (pos 1) false) ∷ Expression.Induced (Expression.Generated (Subsets petersen)) (Entries.EntryThen (Entry.Number (pos 3)) Entries.NoEntries) false false false ∷ [])
+    ≡ true ∷ true ∷ true ∷ true ∷ true ∷ false ∷ false ∷ []
+finds_each = refl
 
 -- what is asked of the random generator: leading zeros and a sign
 flip_example : whole_flip_at (codes "flip(-3,00,5,07)") ≡ Ok (record { start = negsuc 2; skip = pos 0; count = pos 5; m = pos 7 })
@@ -157,10 +156,6 @@ flip_is = word_whole reads_flip _ _ flip_example
 -- 1 byte is left, a `)` where the fourth integer is missing
 wrong_flip : whole_flip_at (codes "flip(1,2,3)") ≡ Err 1
 wrong_flip = refl
-
--- and as the one operand of each operation on one
-finds_one : map has_stdin (Expression.Stdin ∷ Expression.Complement Expression.Stdin false false false ∷ Expression.Lines Expression.Stdin false ∷ Expression.Induced Expression.Stdin Entries.NoEntries false false false ∷ []) ≡ true ∷ true ∷ true ∷ true ∷ []
-finds_one = refl
 
 -- ---- texts that are too large
 

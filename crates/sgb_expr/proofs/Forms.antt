@@ -1,6 +1,6 @@
 -- The forms of names: languages made of that of the expressions inside, and their readers, made of the reader of these.
 use Rattle.std.proofs.Common.{ℕ, ℤ, List, [], length, codes, Result, Ok, refl, ◌∙◌, ap, arith}
-use Rattle.sgb_expr.specs.Expression.{Expression}
+use Rattle.sgb_expr.specs.Expression.{Expression, OnGraphs}
 use Rattle.sgb_expr.specs.Forms.{AreArguments, flag_at, nth_number}
 use Rattle.sgb_text.specs.Languages.{Then, After, As}
 use Rattle.sgb_expr.specs.Operations.{AreOperands, IsCallOf, IsEntryList}
@@ -86,16 +86,16 @@ two_graphs_form =
     plain (reads_as (λ numbers. record { first = first; second = second; numbers = numbers }) (reads_integers (codes ",") 2 (codes ")") close_end)))))
 
 -- as what is made of them
-operands_form : (make : Expression → Expression → List ℤ → Expression) → Form (λ Inner. AreOperands Inner make) (λ inner. read_as (λ (o : Operands). make o.first o.second o.numbers) (operands_with inner))
+operands_form : (make : List ℤ → OnGraphs) → Form (λ Inner. AreOperands Inner make) (λ inner. read_as (λ (o : Operands). Expression.OfGraphs (make o.numbers) o.first o.second) (operands_with inner))
 operands_form make =
     form_is (λ Inner word e w.
     let t = w.1 in
     let u = t.5.2 in
-    (t.0, t.1, t.2, t.3, t.4, (t.5.0, t.5.1, (u.0, u.1, u.2, u.3, u.4, (u.5.0, u.5.1, w.2 ∙ ap (λ (o : Operands). make o.first o.second o.numbers) u.5.2)))))
+    (t.0, t.1, t.2, t.3, t.4, (t.5.0, t.5.1, (u.0, u.1, u.2, u.3, u.4, (u.5.0, u.5.1, w.2 ∙ ap (λ (o : Operands). Expression.OfGraphs (make o.numbers) o.first o.second) u.5.2)))))
     (λ Inner word e w.
     let u = w.5.2 in
     (record { first = w.2; second = u.2; numbers = u.5.0 }, (w.0, w.1, w.2, w.3, w.4, (w.5.0, w.5.1, (u.0, u.1, u.2, u.3, u.4, (u.5.0, u.5.1, refl)))), u.5.2))
-    (form_as (λ (o : Operands). make o.first o.second o.numbers) two_graphs_form)
+    (form_as (λ (o : Operands). Expression.OfGraphs (make o.numbers) o.first o.second) two_graphs_form)
 
 -- entries in brackets
 entries_form : Form (λ Inner. AreEntries Inner []) (λ inner. entries_at inner [])
@@ -115,10 +115,10 @@ induced_form graph =
 pub form_of : (name : FormName) → Form (λ Inner. IsCallOf Inner name) (λ inner. arguments_with inner name)
 form_of (Generator name) = plain (reads_as Expression.Generated (reads_generator name))
 form_of Complement = form_then inside (λ graph. plain (reads_as (complement_call graph) (reads_integers (codes ",") 3 (codes ")") close_end)))
-form_of Gunion = operands_form (λ first second numbers. Expression.Gunion first second (flag_at numbers 0) (flag_at numbers 1))
-form_of Intersection = operands_form (λ first second numbers. Expression.Intersection first second (flag_at numbers 0) (flag_at numbers 1))
+form_of Gunion = operands_form (λ numbers. OnGraphs.Gunion (flag_at numbers 0) (flag_at numbers 1))
+form_of Intersection = operands_form (λ numbers. OnGraphs.Intersection (flag_at numbers 0) (flag_at numbers 1))
 form_of Lines = form_then inside (λ graph. plain (reads_as (lines_call graph) (reads_integers (codes ",") 1 (codes ")") close_end)))
-form_of Product = operands_form (λ first second numbers. Expression.Product first second (nth_number numbers 0) (flag_at numbers 1))
+form_of Product = operands_form (λ numbers. OnGraphs.Product (nth_number numbers 0) (flag_at numbers 1))
 form_of Induced = form_then inside induced_form
 form_of BiComplete = plain (reads_as bi_complete_call (reads_integers [] 3 (codes ")") close_end))
 form_of Wheel = plain (reads_as wheel_call (reads_integers [] 3 (codes ")") close_end))

@@ -1,5 +1,6 @@
 -- Expressions inside expressions: their readers, and that as many levels as the text has bytes are enough.
-use Rattle.std.proofs.Common.{◌≡◌, ◌≤◌, ◌<◌, ◌&&◌, ℕ, zero, suc, Bool, true, List, [], ◌∷◌, ◌++◌, map, length, get_or, Ok, Err, refl, sym, ◌∙◌, ap, subst, inl, inr, arith, length-append, lit<}
+use Rattle.std.proofs.Common.{◌≡◌, ◌≤◌, ◌<◌, ◌&&◌, ℕ, zero, suc, Bool, true, List, [], ◌∷◌, ◌++◌, map, length, drop, get_or, cond, nat_eq, Ok, Err, refl, sym, ◌∙◌, ap, subst, inl, inr, arith, length-append, lit<}
+use Rattle.std.specs.Cmp.Lexicographic.{pointwise}
 use Rattle.std.proofs.lemmas.Bool.{and_parts, cases_lt}
 use Rattle.sgb_expr.specs.Expression.{Expression}
 use Rattle.sgb_expr.specs.Expressions.{IsNested}
@@ -11,9 +12,9 @@ use Rattle.sgb_expr.specs.Operations.{IsCallOf}
 use Rattle.sgb_text.proofs.Readings.{then_read, word_at}
 use Rattle.sgb_expr.specs.inner.Reading.{arguments_with, expression_at, nested_at}
 use Rattle.sgb_expr.specs.declared.names.GeneratorName.{GeneratorName}
-use Rattle.sgb_expr.specs.declared.names.GeneratorName.TheVariants.{Board, Simplex, Subsets, Complete, Transitive, Empty, Circuit, Cycle, DisjointSubsets, Petersen}
+use Rattle.sgb_expr.specs.declared.names.GeneratorName.TheVariants.{Board}
 use Rattle.sgb_expr.specs.declared.names.FormName.{FormName}
-use Rattle.sgb_expr.specs.declared.names.FormName.TheVariants.{Generator, Complement, Gunion, Intersection, Lines, Product, Induced, BiComplete, Wheel, Stdin}
+use Rattle.sgb_expr.specs.declared.names.FormName.TheVariants.{Generator}
 use Rattle.sgb_text.proofs.Readers.{Anything, Reads, bind_of, bind_stops, reads_then, reads_as, reads_is}
 use Rattle.sgb_text.proofs.Words.{IsWord, reads_words}
 use Rattle.sgb_expr.proofs.GeneratorReaders.{reads_generator}
@@ -27,48 +28,23 @@ word_there opening [] i default h = absurd (omega (arith, h))
 word_there opening (n ∷ names) zero default h = inl (refl, refl)
 word_there opening (n ∷ names) (suc i) default h = inr (word_there opening names i default (omega (arith, h)))
 
--- the opening of generator i stands among theirs
-generator_there : (i : ℕ) → i < 10 → IsWord generator_openings (name_opening (Generator (get_or all_generator_names i Board))) (get_or all_generator_names i Board)
-unfolding generator_openings
-generator_there i h = word_there (λ name. name_opening (Generator name)) all_generator_names i Board h
+-- at this place
+abbrev place_of : {N : Type 0} → (N → List ℕ) → List N → List ℕ → ℕ
+place_of opening [] text = 0
+place_of opening (n ∷ names) text = cond (pointwise nat_eq (opening n) text) 0 (suc (place_of opening names text))
 
+-- so each name does: the last clause is tried for each that is left
 generator_is_there : (name : GeneratorName) → IsWord generator_openings (name_opening (Generator name)) name
-generator_is_there Board = generator_there 0 (lit< tt)
-generator_is_there Simplex = generator_there 1 (lit< tt)
-generator_is_there Subsets = generator_there 2 (lit< tt)
-generator_is_there Complete = generator_there 3 (lit< tt)
-generator_is_there Transitive = generator_there 4 (lit< tt)
-generator_is_there Empty = generator_there 5 (lit< tt)
-generator_is_there Circuit = generator_there 6 (lit< tt)
-generator_is_there Cycle = generator_there 7 (lit< tt)
-generator_is_there DisjointSubsets = generator_there 8 (lit< tt)
-generator_is_there Petersen = generator_there 9 (lit< tt)
-
--- the opening of form i stands among all
-there : (i : ℕ) → i < 19 → IsWord openings (name_opening (get_or all_names i Complement)) (get_or all_names i Complement)
-unfolding openings
-there i h = word_there name_opening all_names i Complement h
+unfolding generator_openings
+generator_is_there Board = inl (refl, refl)
+generator_is_there name =
+    let opening = λ (other : GeneratorName). name_opening (Generator other) in
+    word_there opening all_generator_names (place_of opening all_generator_names (opening name)) Board (lit< tt)
 
 name_is_there : (name : FormName) → IsWord openings (name_opening name) name
-name_is_there (Generator Board) = there 0 (lit< tt)
-name_is_there (Generator Simplex) = there 1 (lit< tt)
-name_is_there (Generator Subsets) = there 2 (lit< tt)
-name_is_there (Generator Complete) = there 3 (lit< tt)
-name_is_there (Generator Transitive) = there 4 (lit< tt)
-name_is_there (Generator Empty) = there 5 (lit< tt)
-name_is_there (Generator Circuit) = there 6 (lit< tt)
-name_is_there (Generator Cycle) = there 7 (lit< tt)
-name_is_there (Generator DisjointSubsets) = there 8 (lit< tt)
-name_is_there (Generator Petersen) = there 9 (lit< tt)
-name_is_there Complement = there 10 (lit< tt)
-name_is_there Gunion = there 11 (lit< tt)
-name_is_there Intersection = there 12 (lit< tt)
-name_is_there Lines = there 13 (lit< tt)
-name_is_there Product = there 14 (lit< tt)
-name_is_there Induced = there 15 (lit< tt)
-name_is_there BiComplete = there 16 (lit< tt)
-name_is_there Wheel = there 17 (lit< tt)
-name_is_there Stdin = there 18 (lit< tt)
+unfolding openings
+name_is_there (Generator Board) = inl (refl, refl)
+name_is_there name = word_there name_opening all_names (place_of name_opening all_names (name_opening name)) (Generator Board) (lit< tt)
 
 -- an opening is that of its name
 opening_is : {N : Type 0} (opening : N → List ℕ) (names : List N) (text : List ℕ) (name : N) → IsWord (map (λ n. (opening n, n)) names) text name → text ≡ opening name
@@ -80,15 +56,11 @@ opening_is opening (n ∷ names) text name (inr w) = opening_is opening names te
 reads_generator_openings : Reads (IsWord generator_openings) Anything (word_at generator_openings)
 unfolding generator_openings
 reads_generator_openings =
-    let later = Simplex ∷ Subsets ∷ Complete ∷ Transitive ∷ Empty ∷ Circuit ∷ Cycle ∷ DisjointSubsets ∷ Petersen ∷ [] in
-    reads_words (name_opening (Generator Board), Board) (map (λ name. (name_opening (Generator name), name)) later) refl
+    reads_words (name_opening (Generator Board), Board) (map (λ name. (name_opening (Generator name), name)) (drop 1 all_generator_names)) refl
 
 reads_openings : Reads (IsWord openings) Anything (word_at openings)
 unfolding openings
-reads_openings =
-    let generators = Simplex ∷ Subsets ∷ Complete ∷ Transitive ∷ Empty ∷ Circuit ∷ Cycle ∷ DisjointSubsets ∷ Petersen ∷ [] in
-    let later = map (λ name. Generator name) generators ++ Complement ∷ Gunion ∷ Intersection ∷ Lines ∷ Product ∷ Induced ∷ BiComplete ∷ Wheel ∷ Stdin ∷ [] in
-    reads_words (name_opening (Generator Board), Generator Board) (map (λ name. (name_opening name, name)) later) refl
+reads_openings = reads_words (name_opening (Generator Board), Generator Board) (map (λ name. (name_opening name, name)) (drop 1 all_names)) refl
 
 -- each word begins with a letter
 abbrev all_lettered : {V : Type 0} → List (List ℕ × V) → Bool

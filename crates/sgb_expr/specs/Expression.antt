@@ -6,18 +6,31 @@ use Rattle.sgb_expr.specs.declared.entries.EntryExpr.{EntryExpr}
 use Rattle.sgb_expr.specs.declared.entries.EntryExpr.TheVariants as entry
 use Rattle.sgb_gen.specs.declared.params.Generator.{Generator}
 
+-- an operation on numbers alone
+pub data OnNumbers : Type 0 where
+  BiComplete : (n1 n2 : ℤ) → (directed : Bool) → OnNumbers
+  Wheel : (n n1 : ℤ) → (directed : Bool) → OnNumbers
+
+-- an operation on a graph
+pub data OnGraph : Type 0 where
+  Complement : (copy self_loops directed : Bool) → OnGraph
+  Lines : (directed : Bool) → OnGraph
+
+-- an operation on two graphs
+pub data OnGraphs : Type 0 where
+  Gunion : (multi directed : Bool) → OnGraphs
+  Intersection : (multi directed : Bool) → OnGraphs
+  Product : (kind : ℤ) → (directed : Bool) → OnGraphs
+
 mutual
-  -- an expression that names a graph: a generator with its parameters, an operation on expressions, or standard input
+  -- an expression that names a graph: a generator with its parameters, an operation on the expressions inside it, which are
+  -- evaluated in their order, or standard input
   pub data Expression : Type 0 where
     Generated : Generator → Expression
-    Complement : (graph : Expression) → (copy self_loops directed : Bool) → Expression
-    Gunion : (first second : Expression) → (multi directed : Bool) → Expression
-    Intersection : (first second : Expression) → (multi directed : Bool) → Expression
-    Lines : (graph : Expression) → (directed : Bool) → Expression
-    Product : (first second : Expression) → (kind : ℤ) → (directed : Bool) → Expression
+    OfNumbers : OnNumbers → Expression
+    OfGraph : OnGraph → (graph : Expression) → Expression
+    OfGraphs : OnGraphs → (first second : Expression) → Expression
     Induced : (graph : Expression) → (entries : Entries) → (self_loops multi directed : Bool) → Expression
-    BiComplete : (n1 n2 : ℤ) → (directed : Bool) → Expression
-    Wheel : (n n1 : ℤ) → (directed : Bool) → Expression
     Stdin : Expression
 
   -- an entry of an induced graph: an integer or an expression
@@ -39,14 +52,15 @@ abbrev mutual
   -- the expression that a value of the code holds
   pub expression_of : Expr → Expression
   expression_of (expr.Generator f) = Generated f
-  expression_of (expr.Complement' p graph copy self_loops directed) = Complement (expression_of graph) copy self_loops directed
-  expression_of (expr.Gunion' p first q second multi directed) = Gunion (expression_of first) (expression_of second) multi directed
-  expression_of (expr.Intersection' p first q second multi directed) = Intersection (expression_of first) (expression_of second) multi directed
-  expression_of (expr.Lines' p graph directed) = Lines (expression_of graph) directed
-  expression_of (expr.Product' p first q second kind directed) = Product (expression_of first) (expression_of second) kind directed
+  expression_of (expr.Complement' p graph copy self_loops directed) = OfGraph (Complement copy self_loops directed) (expression_of graph)
+  expression_of (expr.Gunion' p first q second multi directed) = OfGraphs (Gunion multi directed) (expression_of first) (expression_of second)
+  expression_of (expr.Intersection' p first q second multi directed) =
+      OfGraphs (Intersection multi directed) (expression_of first) (expression_of second)
+  expression_of (expr.Lines' p graph directed) = OfGraph (Lines directed) (expression_of graph)
+  expression_of (expr.Product' p first q second kind directed) = OfGraphs (Product kind directed) (expression_of first) (expression_of second)
   expression_of (expr.Induced' p graph shape entries self_loops multi directed) = Induced (expression_of graph) (row_entries entries) self_loops multi directed
-  expression_of (expr.BiComplete n1 n2 directed) = BiComplete n1 n2 directed
-  expression_of (expr.Wheel n n1 directed) = Wheel n n1 directed
+  expression_of (expr.BiComplete n1 n2 directed) = OfNumbers (BiComplete n1 n2 directed)
+  expression_of (expr.Wheel n n1 directed) = OfNumbers (Wheel n n1 directed)
   expression_of expr.Stdin = Stdin
 
   pub entry_of : EntryExpr → Entry

@@ -8,12 +8,9 @@ use Rattle.sgb_expr.specs.declared.flips.FlipParams.{FlipParams}
 
 -- start, skip, count and m, in this order
 abbrev pub flip_of : List ℤ → FlipParams
-flip_of numbers = record {
-  start = nth_number numbers 0;
-  skip = nth_number numbers 1;
-  count = nth_number numbers 2;
-  m = nth_number numbers 3;
-}
+flip_of numbers =
+    let nth = nth_number numbers in
+    record { start = nth 0; skip = nth 1; count = nth 2; m = nth 3 }
 
 -- the text asks for these
 abbrev pub IsFlip : List ℕ → FlipParams → Type 0

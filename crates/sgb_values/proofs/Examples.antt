@@ -21,9 +21,10 @@ use Rattle.sgb_ops.specs.declared.entries.Entry.TheVariants as entry
 use Rattle.sgb_file.specs.FileLines.{text_of_lines}
 use Rattle.sgb_file.proofs.Examples.GraphFiles.{one_cell, one_cell_lines}
 use Rattle.sgb_file.proofs.Examples.Restoring.{no_file_read, one_cell_read}
-use Rattle.sgb_expr.specs.Expression.{Expression, BiComplete, Complement, EntryThen, Generated, Graph, Gunion, Induced, Intersection, Lines, NoEntries, Number, Product, Stdin, Wheel}
+use Rattle.sgb_expr.specs.Expression.{Expression, BiComplete, Complement, EntryThen, Generated, Graph, Gunion, Induced, Intersection, Lines, NoEntries, Number, OfGraph, OfGraphs, OfNumbers, Product, Stdin, Wheel}
 use Rattle.sgb_gen.specs.declared.params.Generator.{Generator}
 use Rattle.sgb_gen.specs.declared.params.Generator.TheVariants as generator
+use Rattle.sgb_values.specs.FirstRefusals.{IsRefusedFirst}
 use Rattle.sgb_values.specs.Values.{IsStdinValue, most_input, numbered_entry, value_of, values_of}
 
 -- board(n1,n2,0,0,piece,0,0)
@@ -50,10 +51,17 @@ too_great = Generated (squares (pos 2) (pos 2) (pos 1_000_000_000_000))
 
 -- of two operands that are refused the first one's code
 pub refused_first :
-    (value_of (Err Early) (Gunion negative too_great false false) ≡ Err Bad)
-    × (value_of (Err Early) (Gunion too_great negative false false) ≡ Err VeryBad)
+    (value_of (Err Early) (OfGraphs (Gunion false false) negative too_great) ≡ Err Bad)
+    × (value_of (Err Early) (OfGraphs (Gunion false false) too_great negative) ≡ Err VeryBad)
 unfolding repeated
 refused_first = (refl, refl)
+
+-- before memory is taken: for the first operand, or for numbers
+pub refused_at_once :
+    IsRefusedFirst [] (OfGraph (Lines false) negative) Bad × IsRefusedFirst [] (Induced negative NoEntries false false false) Bad
+    × IsRefusedFirst [] (OfGraphs (Gunion false false) negative too_great) Bad
+    × IsRefusedFirst [] (OfNumbers (BiComplete (pos 1) (negsuc 0) false)) Bad × IsRefusedFirst [] (OfNumbers (Wheel (pos 3) (negsuc 0) false)) Bad
+refused_at_once = (refl, refl, refl, refl, refl)
 
 -- entries: each is a number or a graph; the first refusal among them
 pub entries_valued :
@@ -80,7 +88,7 @@ abbrev ids : List Expression → List (List ℕ)
 ids values = map (λ e. id_of (value_of (Ok one_cell) e)) values
 
 pub one_operand :
-    ids (Complement Stdin true false false ∷ Complement Stdin false true true ∷ Lines Stdin true ∷ Lines Stdin false
+    ids (OfGraph (Complement true false false) Stdin ∷ OfGraph (Complement false true true) Stdin ∷ OfGraph (Lines true) Stdin ∷ OfGraph (Lines false) Stdin
     ∷ Induced Stdin (EntryThen (Number (pos 1)) NoEntries) true false false ∷ Induced Stdin (EntryThen (Number (pos 1)) NoEntries) false true false ∷ Induced Stdin (EntryThen (Number (pos 1)) NoEntries) false false true ∷ [])
     ≡ codes "complement(board(1,0,0,0,1,0,0),1,0,0)" ∷ codes "complement(board(1,0,0,0,1,0,0),0,1,1)"
     ∷ codes "lines(board(1,0,0,0,1,0,0),1)" ∷ codes "lines(board(1,0,0,0,1,0,0),0)"
@@ -89,8 +97,8 @@ unfolding digits numbers_from list_from each_edge_once merged compound_id
 one_operand = refl
 
 pub two_operands :
-    ids (Gunion Stdin one_square true false ∷ Gunion one_square Stdin false true ∷ Intersection Stdin one_square true false
-    ∷ Intersection one_square Stdin false true ∷ Product Stdin one_square (pos 2) false ∷ Product one_square Stdin (pos 1) true ∷ [])
+    ids (OfGraphs (Gunion true false) Stdin one_square ∷ OfGraphs (Gunion false true) one_square Stdin ∷ OfGraphs (Intersection true false) Stdin one_square
+    ∷ OfGraphs (Intersection false true) one_square Stdin ∷ OfGraphs (Product (pos 2) false) Stdin one_square ∷ OfGraphs (Product (pos 1) true) one_square Stdin ∷ [])
     ≡ codes "gunion(board(1,0,0,0,1,0,0),board(1,1,0,0,1,0,0),1,0)" ∷ codes "gunion(board(1,1,0,0,1,0,0),board(1,0,0,0,1,0,0),0,1)"
     ∷ codes "intersection(board(1,0,0,0,1,0,0),board(1,1,0,0,1,0,0),1,0)" ∷ codes "intersection(board(1,1,0,0,1,0,0),board(1,0,0,0,1,0,0),0,1)"
     ∷ codes "product(board(1,0,0,0,1,0,0),board(1,1,0,0,1,0,0),2,0)" ∷ codes "product(board(1,1,0,0,1,0,0),board(1,0,0,0,1,0,0),1,1)" ∷ []
@@ -98,7 +106,7 @@ unfolding box repeated digits name_of_vector displacements vectors_of_norm board
 two_operands = refl
 
 pub no_operand :
-    ids (BiComplete (pos 1) (pos 2) false ∷ BiComplete (pos 1) (pos 2) true ∷ Wheel (pos 3) (pos 1) false ∷ Wheel (pos 3) (pos 1) true ∷ [])
+    ids (OfNumbers (BiComplete (pos 1) (pos 2) false) ∷ OfNumbers (BiComplete (pos 1) (pos 2) true) ∷ OfNumbers (Wheel (pos 3) (pos 1) false) ∷ OfNumbers (Wheel (pos 3) (pos 1) true) ∷ [])
     ≡ codes "bi_complete(1,2,0)" ∷ codes "bi_complete(1,2,1)" ∷ codes "wheel(3,1,0)" ∷ codes "wheel(3,1,1)" ∷ []
 unfolding box repeated digits name_of_vector displacements vectors_of_norm board_moves board_id family_graph numbers_from list_from each_edge_once merged compound_id
 no_operand = refl

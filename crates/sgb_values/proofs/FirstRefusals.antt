@@ -7,11 +7,11 @@ use Rattle.sgb_vec.specs.declared.panics.Panic.{Panic}
 use Rattle.sgb_vec.specs.declared.panics.Panic.TheVariants.{Early, NoRoom, Syntax}
 use Rattle.sgb_graph.specs.Graphs.{GraphData}
 use Rattle.sgb_file.specs.Refused.{HasNoOpening}
-use Rattle.sgb_expr.specs.Expression.{Expression, Generated, Complement, Gunion, Intersection, Lines, Product, Induced, BiComplete, Wheel, Stdin, expression_of}
+use Rattle.sgb_expr.specs.Expression.{Expression, Generated, OfNumbers, OfGraph, OfGraphs, Induced, Stdin, OnNumbers, BiComplete, expression_of}
 use Rattle.sgb_expr.specs.declared.expressions.Expr.{Expr}
 use Rattle.sgb_gen.specs.declared.params.Generator.{Generator}
 use Rattle.sgb_gen.specs.Generators.{IsGeneratorRefused}
-use Rattle.sgb_values.specs.FirstRefusals.{IsInputRefused, IsRefusedFirst}
+use Rattle.sgb_values.specs.FirstRefusals.{AreNumbersRefused, IsInputRefused, IsRefusedFirst}
 use Rattle.sgb_values.specs.Values.{most_input}
 use Rattle.sgb_values.proofs.Refusals.{after, either}
 
@@ -23,17 +23,18 @@ other_code v code judged is e = judged (is ∙ ap Err e)
 pub generator_other : (f : Generator) (code : Panic) → IsGeneratorRefused f code → code ≢ NoRoom
 generator_other f code is e = search (rules, after, either)
 
+-- an operation on numbers
+numbers_other : (operation : OnNumbers) (code : Panic) → AreNumbersRefused operation code → code ≢ NoRoom
+numbers_other (BiComplete n1 n2 directed) code is = search (rules, other_code, either)
+numbers_other operation code is = search (rules, other_code, either)
+
 -- an expression
 pub first_other : (input : List ℕ) (e : Expression) (code : Panic) → IsRefusedFirst input e code → code ≢ NoRoom
 first_other input (Generated f) code is = generator_other f code is
-first_other input (Complement e copy self_loops directed) code is = first_other input e code is
-first_other input (Gunion e f multi directed) code is = first_other input e code is
-first_other input (Intersection e f multi directed) code is = first_other input e code is
-first_other input (Lines e directed) code is = first_other input e code is
-first_other input (Product e f kind directed) code is = first_other input e code is
-first_other input (Induced e _ self_loops multi directed) code is = first_other input e code is
-first_other input (BiComplete n1 n2 directed) code is = search (rules, other_code, either)
-first_other input (Wheel n n1 directed) code is = search (rules, other_code, either)
+first_other input (OfNumbers operation) code is = numbers_other operation code is
+first_other input (OfGraph operation e) code is = first_other input e code is
+first_other input (OfGraphs operation e f) code is = first_other input e code is
+first_other input (Induced e entries self_loops multi directed) code is = first_other input e code is
 first_other input Stdin code is = search rules
 
 -- a text that is too long

@@ -10,7 +10,7 @@ use Rattle.sgb_vec.specs.declared.panics.Panic.TheVariants.{NoRoom, Syntax}
 use Rattle.sgb_graph.specs.Graphs.{GraphData}
 use Rattle.sgb_file.specs.Refused.{IsRestoredAs}
 use Rattle.sgb_file.proofs.RefusedTexts.{a_reader, restored_same}
-use Rattle.sgb_expr.specs.Expression.{Expression, Generated, Complement, Gunion, Intersection, Lines, Product, Induced, BiComplete, Wheel, Stdin, Number, Graph, Entries, NoEntries, EntryThen, expression_of}
+use Rattle.sgb_expr.specs.Expression.{Expression, Generated, OfNumbers, OfGraph, OfGraphs, Induced, Stdin, Number, Graph, Entries, NoEntries, EntryThen, expression_of}
 use Rattle.sgb_expr.specs.StdinUses.{entries_have_stdin, has_stdin}
 use Rattle.sgb_gen.specs.Generators.{generator_value, made}
 use Rattle.sgb_values.specs.Values.{IsOn, IsStdinValue, IsValueOn, most_input, value_of, values_of}
@@ -59,14 +59,10 @@ mutual
   -- the graph of an expression, where `stdin` has the same value, or where it does not read
   pub value_same : (a b : Result GraphData Panic) (e : Expression) → (has_stdin e ≡ true → a ≡ b) → value_of a e ≡ value_of b e
   value_same a b (Generated f) same = refl
-  value_same a b (Complement e copy self_loops directed) same = grind (arith, value_same a b e same)
-  value_same a b (Gunion e f multi directed) same = grind (arith, value_same a b e, value_same a b f)
-  value_same a b (Intersection e f multi directed) same = grind (arith, value_same a b e, value_same a b f)
-  value_same a b (Lines e directed) same = grind (arith, value_same a b e)
-  value_same a b (Product e f kind directed) same = grind (arith, value_same a b e, value_same a b f)
+  value_same a b (OfNumbers operation) same = refl
+  value_same a b (OfGraph operation e) same = grind (arith, value_same a b e same)
+  value_same a b (OfGraphs operation e f) same = grind (arith, value_same a b e, value_same a b f)
   value_same a b (Induced e entries self_loops multi directed) same = grind (arith, value_same a b e, values_same a b entries)
-  value_same a b (BiComplete n1 n2 directed) same = refl
-  value_same a b (Wheel n n1 directed) same = refl
   value_same a b Stdin same = same refl
 
   -- the values of entries

@@ -5,7 +5,7 @@ use Rattle.sgb_vec.specs.declared.panics.Panic.{Panic}
 use Rattle.sgb_graph.specs.Descriptions.{Description, IsAnswerOf}
 use Rattle.sgb_graph.proofs.Described.{described_only}
 use Rattle.sgb_graph.specs.Graphs.{GraphData}
-use Rattle.sgb_expr.specs.Expression.{Expression, Generated, Complement, Gunion, Intersection, Lines, Product, Induced, BiComplete, Wheel, Stdin, Entry, Number, Graph, Entries, NoEntries, EntryThen, expression_of, entries_of}
+use Rattle.sgb_expr.specs.Expression.{Expression, Generated, OfNumbers, OfGraph, OfGraphs, Induced, Stdin, Entry, Number, Graph, Entries, NoEntries, EntryThen, expression_of, entries_of}
 use Rattle.sgb_expr.specs.declared.expressions.Expr.{Expr}
 use Rattle.sgb_gen.specs.Generators.{made}
 use Rattle.sgb_values.specs.Values.{both, value_of, values_of}
@@ -54,14 +54,10 @@ abbrev mutual
   -- how large an expression is: larger than its operands together
   pub size_of : Expression → ℕ
   size_of (Generated f) = 1
-  size_of (Complement e copy self_loops directed) = size_of e + 1
-  size_of (Gunion e f multi directed) = size_of e + size_of f + 2
-  size_of (Intersection e f multi directed) = size_of e + size_of f + 2
-  size_of (Lines e directed) = size_of e + 1
-  size_of (Product e f kind directed) = size_of e + size_of f + 2
+  size_of (OfNumbers operation) = 1
+  size_of (OfGraph operation e) = size_of e + 1
+  size_of (OfGraphs operation e f) = size_of e + size_of f + 2
   size_of (Induced e entries self_loops multi directed) = size_of e + size_of_entries entries + 2
-  size_of (BiComplete n1 n2 directed) = 1
-  size_of (Wheel n n1 directed) = 1
   size_of Stdin = 1
 
   -- how large an entry is

@@ -4,6 +4,7 @@ use Rattle.sgb_vec.specs.Limits.{most_entry}
 use Rattle.sgb_vec.specs.Results.{and_then}
 use Rattle.sgb_vec.specs.declared.panics.Panic.{Panic}
 use Rattle.sgb_vec.specs.declared.panics.Panic.TheVariants.{Syntax}
+use Rattle.sgb_graph.specs.Descriptions.{Description}
 use Rattle.sgb_graph.specs.Graphs.{GraphData}
 use Rattle.sgb_file.specs.Refused.{IsRestoredAs}
 use Rattle.sgb_gen.specs.Generators.{generator_value, made}
@@ -17,7 +18,7 @@ use Rattle.sgb_ops.specs.Wheel.{wheel_of}
 use Rattle.sgb_ops.specs.Induced.{induced_of}
 use Rattle.sgb_ops.specs.declared.entries.Entry.{Entry}
 use Rattle.sgb_ops.specs.declared.entries.Entry.TheVariants as entry
-use Rattle.sgb_expr.specs.Expression.{Expression, Generated, Complement, Gunion, Intersection, Lines, Product, Induced, BiComplete, Wheel, Stdin, Entry as EntryExpression, Number, Graph, Entries, NoEntries, EntryThen}
+use Rattle.sgb_expr.specs.Expression.{Expression, Generated, OfNumbers, OfGraph, OfGraphs, Induced, Stdin, OnNumbers, BiComplete, Wheel, OnGraph, Complement, Lines, OnGraphs, Gunion, Intersection, Product, Entry as EntryExpression, Number, Graph, Entries, NoEntries, EntryThen}
 
 -- a file on standard input has at most this many bytes
 abbrev pub most_input : ℕ
@@ -37,23 +38,33 @@ abbrev pub numbered_entry : ℤ → Entry
 numbered_entry (pos k) = entry.Copies (min k most_entry)
 numbered_entry (negsuc k) = entry.Merged (min (k + 1) most_entry)
 
+-- the graph of an operation on numbers
+abbrev pub of_numbers : OnNumbers → Result Description Panic
+of_numbers (BiComplete n1 n2 directed) = bi_complete_of n1 n2 directed
+of_numbers (Wheel n n1 directed) = wheel_of n n1 directed
+
+-- on a graph
+abbrev pub of_graph : OnGraph → GraphData → Result Description Panic
+of_graph (Complement copy self_loops directed) g = complement_of g copy self_loops directed
+of_graph (Lines directed) g = line_graph_of g directed
+
+-- on two
+abbrev pub of_graphs : OnGraphs → GraphData → GraphData → Result Description Panic
+of_graphs (Gunion multi directed) g h = gunion_of g h multi directed
+of_graphs (Intersection multi directed) g h = intersection_of g h multi directed
+of_graphs (Product kind directed) g h = product_graph_of g h kind directed
+
 abbrev mutual
   -- the graph of an expression where `stdin` has this value, or the first refusal: the operands' from left to right, then
   -- the operation's
   pub value_of : Result GraphData Panic → Expression → Result GraphData Panic
   value_of stdin (Generated f) = made (generator_value f)
-  value_of stdin (Complement e copy self_loops directed) = and_then (value_of stdin e) (λ g. made (complement_of g copy self_loops directed))
-  value_of stdin (Gunion e f multi directed) =
-      and_then (both (value_of stdin e) (value_of stdin f)) (λ operands. made (gunion_of operands.0 operands.1 multi directed))
-  value_of stdin (Intersection e f multi directed) =
-      and_then (both (value_of stdin e) (value_of stdin f)) (λ operands. made (intersection_of operands.0 operands.1 multi directed))
-  value_of stdin (Lines e directed) = and_then (value_of stdin e) (λ g. made (line_graph_of g directed))
-  value_of stdin (Product e f kind directed) =
-      and_then (both (value_of stdin e) (value_of stdin f)) (λ operands. made (product_graph_of operands.0 operands.1 kind directed))
+  value_of stdin (OfNumbers operation) = made (of_numbers operation)
+  value_of stdin (OfGraph operation e) = and_then (value_of stdin e) (λ g. made (of_graph operation g))
+  value_of stdin (OfGraphs operation e f) =
+      and_then (both (value_of stdin e) (value_of stdin f)) (λ operands. made (of_graphs operation operands.0 operands.1))
   value_of stdin (Induced e entries self_loops multi directed) =
       and_then (both (value_of stdin e) (values_of stdin entries)) (λ operands. made (induced_of operands.0 operands.1 self_loops multi directed))
-  value_of stdin (BiComplete n1 n2 directed) = made (bi_complete_of n1 n2 directed)
-  value_of stdin (Wheel n n1 directed) = made (wheel_of n n1 directed)
   value_of stdin Stdin = stdin
 
   -- an entry, or why its graph is refused
