@@ -1,0 +1,20 @@
+use Rattle.std.proofs.Common.{◌≡◌, ◌∙◌, ℕ, List, length, sym, ap, rules}
+use Rattle.std.proofs.lemmas.List.{length-map}
+use Rattle.sgb_graph.specs.Graphs.{GraphData}
+use Rattle.sgb_graph.specs.Growth.{new_vertex}
+use Rattle.sgb_ops.specs.declared.induced_graphs.entries.Entry.{Entry}
+use Rattle.sgb_ops.specs.Entries.{names_by_entries}
+use Rattle.sgb_ops.specs.inner.Entries.{total_of}
+use Rattle.sgb_graph.specs.Vertices.{names_of, order_of}
+use Rattle.sgb_ops.proofs.CopiesWithin.{length-names}
+use Rattle.sgb_ops.proofs.induced_graphs.begun_by.Goals as goal
+
+-- as many names as the entries make vertices
+count_of : (g : GraphData) (entries : List Entry) (names : List (List ℕ)) → length entries ≡ order_of g → names ≡ names_by_entries (names_of g) entries → length names ≡ total_of entries
+count_of g entries names count is = ap length is ∙ length-names (names_of g) entries (count ∙ sym (length-map g.vertices (λ x. x.name)))
+
+pub returns-in_err-built-clause-memory : goal.returns-in_err-built-clause-memory
+returns-in_err-built-clause-memory c = search (rules, count_of)
+
+pub begun_in_parts-requires-clause-size : goal.begun_in_parts-requires-clause-size
+begun_in_parts-requires-clause-size c = search (rules, count_of, length-map, new_vertex)
