@@ -1,7 +1,7 @@
 use Rattle.std.proofs.Common.{◌∙◌, ap}
 use Rattle.sgb_ops.specs.Gunion.{union_events}
 use Rattle.sgb_ops.specs.Merged.{merged_unless}
-use Rattle.sgb_ops.specs.inner.Titles.{gunion_id}
+use Rattle.sgb_ops.specs.inner.Compounds.{gunion_id}
 use Rattle.sgb_graph.specs.Vertices.{names_of}
 use Rattle.sgb_ops.proofs.Results.{made}
 use Rattle.sgb_ops.proofs.gunions.gunion.Goals as goal
