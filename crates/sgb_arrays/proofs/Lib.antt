@@ -13,6 +13,10 @@ pub mod CutRuns
 pub mod CopiedRuns
 -- runs of a generator's graph
 pub mod LocalRuns
+-- integers of a generator's vertices
+pub mod LocalFields
+-- a generator's graph, built
+pub mod BuiltGraphs
 -- draws, one after another
 pub mod DrawsPut
 -- integers of a field

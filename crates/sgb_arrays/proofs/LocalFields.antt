@@ -1,21 +1,16 @@
 -- The integers of a generator's vertices: the first entries of their vectors.
-use Rattle.std.proofs.Common.{◌≡◌, ◌∙◌, ℕ, zero, suc, ◌+◌, ◌-◌, ◌≤◌, ◌<◌, ℤ, pos, List, [], ◌∷◌, drop, length, map, take, Some, refl, sym, ap, ap₂, subst, arith}
-use Rattle.std.specs.Prelude.{IfErr, IsErrAnd, Result, Ok, Err, slice_get, slice_index, zip}
+use Rattle.std.proofs.Common.{◌≡◌, ◌∙◌, ℕ, zero, suc, ◌+◌, ◌-◌, ◌≤◌, ◌<◌, ℤ, pos, List, [], ◌∷◌, drop, length, map, take, Some, refl, sym, ap, ap₂, arith}
+use Rattle.std.specs.Prelude.{slice_get, slice_index, zip}
 use Rattle.std.specs.List.{enumerate_from, slice_index_or}
 use Rattle.std.proofs.lemmas.List.{drop-map, take-map}
 use Rattle.sgb_vec.specs.Names.{name_of_vector}
-use Rattle.sgb_graph.specs.Graphs.{GraphData}
 use Rattle.sgb_graph.specs.Made.{graph_described}
 use Rattle.sgb_graph.specs.Sound.{vertex_kinds}
-use Rattle.sgb_graph.specs.declared.fields.Kind.{Kind}
 use Rattle.sgb_graph.specs.declared.fields.Kind.TheVariants.{I}
-use Rattle.sgb_graph.specs.declared.fields.Util.{Util}
 use Rattle.sgb_graph.specs.declared.fields.Util.TheVariants.{Nothing}
 use Rattle.sgb_gen.specs.VectorGraphs.{VectorGraph, described_by, family_graph, fields_of_vector, kinds_of_family}
-use Rattle.sgb_arrays.specs.Fields.{IsIntsRefusal, int_at, int_of, ints_of}
-use Rattle.sgb_arrays.specs.inner.Kinds.{HoldIntsAt, IsMisfitOfInts}
-use Rattle.sgb_arrays.specs.declared.refusals.Wrong.{Wrong}
-use Rattle.sgb_arrays.specs.declared.refusals.Wrong.TheVariants as wrong
+use Rattle.sgb_arrays.specs.Fields.{int_at, int_of, ints_of}
+use Rattle.sgb_arrays.specs.inner.Kinds.{HoldIntsAt}
 
 -- the fields that hold integers
 int_fields : (vectors : List (List ℕ)) (field : ℕ) → slice_get (vertex_kinds (kinds_of_family vectors)) field ≡ Some I → (3 ≤ field) × (field < 6)
@@ -69,20 +64,3 @@ local_ints g field first count holds =
     let vertices = (graph_described (described_by g)).vertices in
     sym (take-map entry count (drop first g.vectors)) ∙ ap (take count) (sym (drop-map entry first g.vectors)) ∙ ap (λ is. take count (drop first is)) (sym read)
     ∙ ap (take count) (drop-map (int_at field) first vertices) ∙ take-map (int_at field) count (drop first vertices)
-
-same_refusal : (g : GraphData) (field first count places : ℕ) (why : Wrong) → IsMisfitOfInts (length g.vertices) g.kinds field first count places why → IsIntsRefusal g field first count places why
-same_refusal g field first count places wrong.Vertices said = said
-same_refusal g field first count places wrong.Field said = said
-same_refusal g field first count places wrong.Length said = said
-same_refusal g field first count places _ said = absurd said
-
--- why they are not handed over
-pub ints_refused : (g : GraphData) (n : ℕ) (kinds : List Kind) (field first count places : ℕ) (why : Wrong) → n ≡ length g.vertices → kinds ≡ g.kinds
-    → IsMisfitOfInts n kinds field first count places why → IsIntsRefusal g field first count places why
-ints_refused g n kinds field first count places why size same said =
-    same_refusal g field first count places why (subst (λ m. IsMisfitOfInts m g.kinds field first count places why) size (subst (λ ks. IsMisfitOfInts n ks field first count places why) same said))
-
--- a cause that is handed on
-pub cause_kept : {T : Type 0} (P : Wrong → Type 0) (r : Result T Wrong) (why : Wrong) → IsErrAnd r (λ h. h ≡ why) → P why → IfErr r P
-cause_kept P (Ok x) why is said = absurd is
-cause_kept P (Err h) why is said = subst P (sym is) said

@@ -114,10 +114,7 @@ impl OpenGraph {
     {
         match self {
             OpenGraph::Built(packed) => Ok(file_len(packed.graph())),
-            OpenGraph::Listed(local) => {
-                let graph = built(alloc, local)?;
-                Ok(file_len(&graph))
-            }
+            OpenGraph::Listed(local) => local_file_len(alloc, local),
         }
     }
 
@@ -133,11 +130,32 @@ impl OpenGraph {
     {
         match self {
             OpenGraph::Built(packed) => fill_file(packed.graph(), bytes),
-            OpenGraph::Listed(local) => match built(alloc, local) {
-                Ok(graph) => fill_file(&graph, bytes),
-                Err(_) => Err(Wrong::NoRoom),
-            },
+            OpenGraph::Listed(local) => fill_local_file(alloc, local, bytes),
         }
+    }
+}
+
+// How many bytes the file of a generator's graph has.
+fn local_file_len(alloc: Global, local: &Local) -> Result<u64, Panic>
+    ensures count { IfOk result (λ bytes. bytes
+        ≡ min (length (text_of_graph (graph_open (OpenGraph.Listed local.now)))) (2 ^ 64 - 1)) }
+    ensures memory { IfErr result (λ p. p ≡ Panic.NoRoom) }
+{
+    let graph = built(alloc, local)?;
+    Ok(file_len(&graph))
+}
+
+// Puts the file of a generator's graph into an array.
+fn fill_local_file(alloc: Global, local: &Local, bytes: &mut [u8]) -> Result<(), Wrong>
+    ensures filled { OnOk result
+        ((length bytes.old ≡ length (text_of_graph (graph_open (OpenGraph.Listed local.now))))
+        × (bytes.new ≡ text_of_graph (graph_open (OpenGraph.Listed local.now)))) }
+    ensures refused { IfErr result (λ why. IsFileRefusal (graph_open (OpenGraph.Listed local.now))
+        (length bytes.old) (IsListed (OpenGraph.Listed local.now)) why × (bytes.new ≡ bytes.old)) }
+{
+    match built(alloc, local) {
+        Ok(graph) => fill_file(&graph, bytes),
+        Err(_) => Err(Wrong::NoRoom),
     }
 }
 

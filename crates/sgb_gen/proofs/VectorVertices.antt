@@ -1,5 +1,5 @@
 -- The vertices of a graph of vectors: their names, their lists, and the vectors after one of them.
-use Rattle.std.proofs.Common.{◌≡◌, ◌∙◌, ℕ, suc, ◌+◌, ◌<◌, List, [], ◌∷◌, ◌++◌, length, map, drop, Option, Some, None, refl, sym, ap, arith}
+use Rattle.std.proofs.Common.{◌≡◌, ◌∙◌, ℕ, suc, ◌+◌, ◌<◌, List, [], ◌∷◌, ◌++◌, length, map, drop, replicate, Option, Some, None, refl, sym, ap, arith}
 use Rattle.std.specs.List.{All, Contains, slice_get}
 use Rattle.std.specs.Option.{IfSome}
 use Rattle.std.proofs.lemmas.List.{get_or_at, length-append, length-map}
@@ -11,9 +11,10 @@ use Rattle.sgb_vec.specs.Ranges.{ComeAfter}
 use Rattle.sgb_graph.specs.Events.{HasEndsBelow, list_of}
 use Rattle.sgb_graph.specs.Graphs.{chain_of}
 use Rattle.sgb_graph.specs.Made.{graph_described}
+use Rattle.sgb_graph.specs.declared.fields.Kind.TheVariants.{Z, I}
 use Rattle.sgb_graph.specs.Vertices.{names_of}
 use Rattle.sgb_graph.proofs.Described.{described_is, described_names}
-use Rattle.sgb_gen.specs.VectorGraphs.{HasEnds, Move, VectorGraph, described_by, event_among, family_graph, vertex_among}
+use Rattle.sgb_gen.specs.VectorGraphs.{HasEnds, Move, VectorGraph, described_by, event_among, family_graph, kinds_of_family, vertex_among}
 use Rattle.sgb_gen.proofs.RisingVectors.{vertex_in_rising}
 
 -- a vector that is there has its vertex among theirs
@@ -50,6 +51,23 @@ names_count g = grind (arith, named_by_vectors, length-map)
 pub vertices_are_members : (g : VectorGraph) (members : List (List ℕ)) → members ≡ g.vectors → length (graph_described (described_by g)).vertices ≡ length members
 vertices_are_members g members same =
     sym (length-map (graph_described (described_by g)).vertices (λ x. x.name)) ∙ ap length (named_by_members g members same) ∙ length-map members name_of_vector
+
+-- the kinds of its fields, where it has no vertex, and where it has some
+kinds_known : (vectors : List (List ℕ)) → length vectors ≡ 0 → kinds_of_family vectors ≡ replicate 14 Z
+kinds_known [] none = refl
+kinds_known (v ∷ vectors) none = absurd (omega (arith, none))
+
+kinds_told : (vectors : List (List ℕ)) → (length vectors ≡ 0 → ⊥) → kinds_of_family vectors ≡ Z ∷ Z ∷ Z ∷ I ∷ I ∷ I ∷ replicate 8 Z
+kinds_told [] some = absurd (some refl)
+kinds_told (v ∷ vectors) some = refl
+
+pub no_kinds_used : (g : VectorGraph) → length (graph_described (described_by g)).vertices ≡ 0 → (graph_described (described_by g)).kinds ≡ replicate 14 Z
+unfolding family_graph
+no_kinds_used g none = kinds_known g.vectors (sym (vertices_are_members g g.vectors refl) ∙ none)
+
+pub some_kinds : (g : VectorGraph) → (length (graph_described (described_by g)).vertices ≡ 0 → ⊥) → (graph_described (described_by g)).kinds ≡ Z ∷ Z ∷ Z ∷ I ∷ I ∷ I ∷ replicate 8 Z
+unfolding family_graph
+some_kinds g some = kinds_told g.vectors (λ none. some (vertices_are_members g g.vectors refl ∙ none))
 
 -- what comes after a vector of a list
 after_both : (x : List ℕ) (ys after : List (List ℕ)) → drop (suc (length ys)) (ys ++ x ∷ after) ≡ after

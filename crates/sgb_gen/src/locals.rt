@@ -87,11 +87,13 @@ impl Local {
     pub fn kinds(&self) -> [Kind; 14]
         ensures { result ≡ (graph_described (described self.now)).kinds }
     {
-        let coordinate = if self.size() == 0 { Kind::Z } else { Kind::I };
+        if self.size() == 0 {
+            return [Kind::Z; 14];
+        }
         let mut kinds = [Kind::Z; 14];
-        kinds[3] = coordinate;
-        kinds[4] = coordinate;
-        kinds[5] = coordinate;
+        kinds[3] = Kind::I;
+        kinds[4] = Kind::I;
+        kinds[5] = Kind::I;
         kinds
     }
 

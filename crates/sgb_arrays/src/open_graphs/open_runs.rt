@@ -1,5 +1,5 @@
 //! What an open graph has for a run of its vertices, as arrays.
-ghost use Rattle.std.specs.Prelude.{◌≡◌, ◌+◌, length, IfErr, IfOk, OnOk};
+ghost use Rattle.std.specs.Prelude.{◌≡◌, ◌+◌, length, IfErr, IfOk, OnOk, ⊤};
 ghost use Rattle.sgb_graph.specs.Graphs.{chain_of};
 ghost use Rattle.sgb_arrays.specs.Fields.{HoldsInts, IsIntsRefusal, ints_of};
 ghost use Rattle.sgb_arrays.specs.OpenGraphs.{IsListed, graph_open};
@@ -72,10 +72,7 @@ impl OpenGraph {
         match self {
             OpenGraph::Built(packed) => packed.fill_rows(first, count, starts, tips, lengths),
             OpenGraph::Listed(local) => {
-                match rows_for(alloc, local, first, count, starts.len()) {
-                    Ok(rows) => rows.copy_to(starts, tips, lengths),
-                    Err(wrong) => Err(wrong),
-                }
+                fill_local_rows(alloc, local, first, count, starts, tips, lengths)
             }
         }
     }
@@ -102,10 +99,7 @@ impl OpenGraph {
         match self {
             OpenGraph::Built(packed) => packed.fill_tips(first, count, starts, tips),
             OpenGraph::Listed(local) => {
-                match rows_for(alloc, local, first, count, starts.len()) {
-                    Ok(rows) => rows.copy_tips_to(starts, tips),
-                    Err(wrong) => Err(wrong),
-                }
+                fill_local_tips(alloc, local, first, count, starts, tips)
             }
         }
     }
@@ -133,10 +127,7 @@ impl OpenGraph {
         match self {
             OpenGraph::Built(packed) => fill_names(packed.graph(), first, count, starts, bytes),
             OpenGraph::Listed(local) => {
-                match names_for(alloc, local, first, count, starts.len()) {
-                    Ok(names) => names.copy_to(starts, bytes),
-                    Err(wrong) => Err(wrong),
-                }
+                fill_local_names(alloc, local, first, count, starts, bytes)
             }
         }
     }
@@ -194,6 +185,88 @@ fn local_names_len(alloc: Global, local: &Local, first: u32, count: u32) -> Resu
     }
     let names = names_of_run(alloc, local, first, count)?;
     Ok(names.bytes.len() as u64)
+}
+
+// Puts the lists of a run of a generator's graph into arrays.
+fn fill_local_rows(
+    alloc: Global,
+    local: &Local,
+    first: u32,
+    count: u32,
+    starts: &mut [u64],
+    tips: &mut [u32],
+    lengths: &mut [i64],
+) -> Result<(), Wrong>
+    ensures filled { OnOk result (IsThere (graph_open (OpenGraph.Listed local.now)) first count
+        × HaveRowLengths (graph_open (OpenGraph.Listed local.now)) first count
+        starts.old tips.old lengths.old
+        × AreRows (graph_open (OpenGraph.Listed local.now)) first count
+        starts.new tips.new lengths.new) }
+    ensures refused { IfErr result (λ why. IsFillRefusal (graph_open (OpenGraph.Listed local.now))
+        first count
+        (HaveRowLengths (graph_open (OpenGraph.Listed local.now)) first count
+        starts.old tips.old lengths.old)
+        (IsListed (OpenGraph.Listed local.now) × (length starts.old ≡ count + 1)) why
+        × (starts.new ≡ starts.old) × (tips.new ≡ tips.old) × (lengths.new ≡ lengths.old)) }
+{
+    match rows_for(alloc, local, first, count, starts.len()) {
+        Ok(rows) => rows.copy_to(starts, tips, lengths),
+        Err(wrong) => Err(wrong),
+    }
+}
+
+// The same without the lengths of the arcs.
+fn fill_local_tips(
+    alloc: Global,
+    local: &Local,
+    first: u32,
+    count: u32,
+    starts: &mut [u64],
+    tips: &mut [u32],
+) -> Result<(), Wrong>
+    ensures filled { OnOk result (IsThere (graph_open (OpenGraph.Listed local.now)) first count
+        × HaveTipLengths (graph_open (OpenGraph.Listed local.now)) first count
+        starts.old tips.old
+        × AreTips (graph_open (OpenGraph.Listed local.now)) first count
+        starts.new tips.new) }
+    ensures refused { IfErr result (λ why. IsFillRefusal (graph_open (OpenGraph.Listed local.now))
+        first count
+        (HaveTipLengths (graph_open (OpenGraph.Listed local.now)) first count
+        starts.old tips.old)
+        (IsListed (OpenGraph.Listed local.now) × (length starts.old ≡ count + 1)) why
+        × (starts.new ≡ starts.old) × (tips.new ≡ tips.old)) }
+{
+    match rows_for(alloc, local, first, count, starts.len()) {
+        Ok(rows) => rows.copy_tips_to(starts, tips),
+        Err(wrong) => Err(wrong),
+    }
+}
+
+// Puts the names of a run of a generator's graph into arrays.
+fn fill_local_names(
+    alloc: Global,
+    local: &Local,
+    first: u32,
+    count: u32,
+    starts: &mut [u64],
+    bytes: &mut [u8],
+) -> Result<(), Wrong>
+    ensures filled { OnOk result (IsThere (graph_open (OpenGraph.Listed local.now)) first count
+        × HaveNameLengths (graph_open (OpenGraph.Listed local.now)) first count
+        starts.old bytes.old
+        × AreNames (graph_open (OpenGraph.Listed local.now)) first count
+        starts.new bytes.new) }
+    ensures refused { IfErr result (λ why. IsFillRefusal (graph_open (OpenGraph.Listed local.now))
+        first count
+        (HaveNameLengths (graph_open (OpenGraph.Listed local.now)) first count
+        starts.old bytes.old)
+        (IsListed (OpenGraph.Listed local.now) × (length starts.old ≡ count + 1)) why
+        × (starts.new ≡ starts.old) × (bytes.new ≡ bytes.old)) }
+{
+    match names_for(alloc, local, first, count, starts.len()) {
+        Ok(names) => names.copy_to(starts, bytes),
+        Err(wrong) => Err(wrong),
+    }
 }
 
 // The lists of a run of a generator's graph, for an array of so many starts.

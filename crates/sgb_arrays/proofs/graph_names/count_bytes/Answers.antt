@@ -19,11 +19,11 @@ loop-k-preserved c =
     let count = c.args.count in
     let k = c.loop-k.k in
     let within : k < count = omega arith in
-    let named = get_or_from_slice_get (names_of g) (first + k) _ [] (c.name.ensures ∙ ap Some (sym c.bytes-bytes.ensures.value)) in
+    let named = get_or_from_slice_get (names_of g) (first + k) _ [] (c.name.ensures ∙ ap Some (sym c.bytes.ensures.value)) in
     let size = sym (ap length named) in
     record {
       count = part_counted c.loop-k.bytes _ _ _ _ _ (parts_left-first (λ j. name_at g (first + j)) count k within) size c.loop-k.invariant.count;
-      few = omega (arith, c.bytes-bytes.ensures.text.short, ap length c.bytes-bytes.ensures.value, c.loop-k.invariant.few);
+      few = omega (arith, c.bytes.ensures.text.short, ap length c.bytes.ensures.value, c.loop-k.invariant.few);
     }
 
 pub returns : goal.returns

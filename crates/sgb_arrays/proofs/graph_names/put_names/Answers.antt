@@ -1,4 +1,4 @@
-use Rattle.std.proofs.Common.{◌≡◌, ◌<◌, ◌+◌, ◌∙◌, [], Some, length, ap, refl, sym, arith, rules}
+use Rattle.std.proofs.Common.{◌≡◌, ◌<◌, ◌≤◌, ◌+◌, ◌∙◌, [], Some, length, ap, refl, sym, arith, rules}
 use Rattle.std.proofs.lemmas.List.{length-append}
 use Rattle.std.proofs.lemmas.Option.{get_or_from_slice_get}
 use Rattle.sgb_graph.specs.Vertices.{names_of}
@@ -37,6 +37,20 @@ put_bytes-requires c =
     let parts = length-append (name_at g (first + k)) (parts_left (λ j. name_at g (first + j)) count (k + 1)) in
     let whole = ap length (parts_by_place (name_at g) first count) in
     omega (arith, here, parts, whole, ap length named, c.loop-k.invariant.end, c.loop-k.invariant.byte_places, c.requires.lengths.bytes_fit)
+
+pub overflow_add-at : goal.overflow_add-at
+overflow_add-at c =
+    let g = c.args.graph.now in
+    let first = c.args.first in
+    let count = c.args.count in
+    let k = c.loop-k.k in
+    let below : k < count = omega arith in
+    let named = get_or_from_slice_get (names_of g) (first + k) _ [] (c.name.ensures ∙ ap Some (sym c.bytes-name.ensures.value)) in
+    let here = ap length (parts_left-first (λ j. name_at g (first + j)) count k below) in
+    let parts = length-append (name_at g (first + k)) (parts_left (λ j. name_at g (first + j)) count (k + 1)) in
+    let whole = ap length (parts_by_place (name_at g) first count) in
+    let within : c.loop-k.at + length c.bytes-name.result.now ≤ length c.loop-k.bytes = omega (arith, here, parts, whole, ap length named, c.loop-k.invariant.end, c.loop-k.invariant.byte_places, c.requires.lengths.bytes_fit) in
+    search (rules, within)
 
 pub loop-k-preserved : goal.loop-k-preserved
 loop-k-preserved c =

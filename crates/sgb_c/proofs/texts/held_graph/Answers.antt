@@ -1,13 +1,20 @@
-use Rattle.std.proofs.Common.{rules, Ok}
-use Rattle.sgb_c.specs.Answers.{IsGraphNamed}
-use Rattle.sgb_c.proofs.Named.{memory_refused}
+use Rattle.sgb_c.proofs.Named.{boxed_built, boxed_named, boxed_refused, either_kept, not_refused, refusal_kept}
 use Rattle.sgb_c.proofs.texts.held_graph.Goals as goal
 
 pub returns-in-Ok-clause-held : goal.returns-in-Ok-clause-held
-returns-in-Ok-clause-held c =
-    let named : IsGraphNamed c.args.text.now c.args.input.now (Ok c.in_ok-graph-2.graph) = rw c.in_ok-graph-2.ensures.graph c.in_ok-graph.ensures in
-    search (rules, named)
+returns-in-Ok-clause-held c = boxed_named (λ h. h.graph) c.args.text.now c.args.input.now c.in-Ok.graph c.boxed.result c.boxed.ensures.graph c.in-Ok.ensures.named
 
-pub returns-in_err-graph-2-clause-refused : goal.returns-in_err-graph-2-clause-refused
-returns-in_err-graph-2-clause-refused c =
-    memory_refused c.args.text.now c.args.input.now _ c.in_err-graph-2.field-0.0 c.from_residual-in_err-graph-2.ensures.1 c.in_err-graph-2.ensures.memory
+pub returns-in-Ok-clause-built : goal.returns-in-Ok-clause-built
+returns-in-Ok-clause-built c = boxed_built (λ h. h.graph) c.args.text.now c.args.input.now c.in-Ok.graph c.boxed.result c.boxed.ensures.graph c.in-Ok.ensures.built
+
+pub returns-in-Ok-clause-refused : goal.returns-in-Ok-clause-refused
+returns-in-Ok-clause-refused c = boxed_refused (λ h. h.graph) c.args.text.now c.args.input.now c.in-Ok.graph c.boxed.result c.boxed.ensures.memory
+
+pub returns-in-Ok-clause-first : goal.returns-in-Ok-clause-first
+returns-in-Ok-clause-first c = λ e p is small first. not_refused c.in-Ok.graph _ _ (c.in-Ok.ensures.first e p is small first)
+
+pub returns-in-Err-clause-large : goal.returns-in-Err-clause-large
+returns-in-Err-clause-large c = λ large. refusal_kept c.in-Err.answer _ (c.in-Err.ensures.large large)
+
+pub returns-in-Err-clause-first : goal.returns-in-Err-clause-first
+returns-in-Err-clause-first c = λ e p is small first. either_kept c.in-Err.answer _ _ (c.in-Err.ensures.first e p is small first)
