@@ -6,8 +6,8 @@ use Rattle.std.specs.Option.{option_map_or}
 use Rattle.std.proofs.lemmas.Bool.{and_from, and_parts}
 use Rattle.std.proofs.lemmas.Bool.Decides.{nat_tests}
 use Rattle.sgb_graph.specs.Graphs.{GraphData, ends_from, numbers_of}
-use Rattle.sgb_graph.specs.Sound.{chain_fits, chains_end, is_sound, is_vertex, leads_to_vertex, lists_lead_to_vertices}
-use Rattle.sgb_graph.specs.inner.Walks.{leads_back, leads_of}
+use Rattle.sgb_graph.specs.Sound.{chain_fits, is_sound, is_vertex, leads_to_vertex}
+use Rattle.sgb_graph.specs.inner.Walks.{leads_back, leads_of, chains_end, lists_lead_to_vertices}
 use Rattle.sgb_graph.specs.declared.fields.ArcRec.{ArcRec}
 use Rattle.sgb_graph.specs.declared.fields.Vertex.{Vertex}
 use Rattle.sgb_graph.proofs.Chains.{ends_longer, ends_none, ends_step, is_record, numbers_are_records}

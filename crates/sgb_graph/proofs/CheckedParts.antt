@@ -7,7 +7,8 @@ use Rattle.std.proofs.lemmas.Bool.{and_parts, cases_Bool}
 use Rattle.sgb_vec.specs.Limits.{most_vertices}
 use Rattle.sgb_vec.specs.declared.panics.Panic.TheVariants.{Syntax}
 use Rattle.sgb_graph.specs.Graphs.{GraphData, ends_of}
-use Rattle.sgb_graph.specs.Sound.{IsGraph, util_fits, utils_fit, fields_fit, chains_end, is_sound}
+use Rattle.sgb_graph.specs.Sound.{IsGraph, util_fits, utils_fit, fields_fit, is_sound}
+use Rattle.sgb_graph.specs.inner.Walks.{chains_end}
 use Rattle.sgb_graph.specs.Parts.{checked}
 use Rattle.sgb_graph.specs.declared.fields.Kind.{Kind}
 use Rattle.sgb_graph.specs.declared.fields.Util.{Util}

@@ -21,10 +21,10 @@ use Rattle.sgb_graph.specs.declared.fields.Kind.TheVariants.{Z, I}
 use Rattle.sgb_graph.specs.declared.fields.Util.{Util}
 use Rattle.sgb_graph.specs.declared.fields.Util.TheVariants.{Nothing, Int}
 use Rattle.sgb_graph.specs.declared.fields.Vertex.{Vertex}
-use Rattle.sgb_graph.specs.declared.vertices.Fields.{Fields}
-use Rattle.sgb_graph.specs.declared.vertices.Numbers.{Numbers}
-use Rattle.sgb_graph.specs.declared.vertices.Numbers.TheVariants.{Inside, Beside}
-use Rattle.sgb_graph.specs.declared.vertices.PlainVertex.{PlainVertex}
+use Rattle.sgb_graph.specs.declared.vertices.fields.Fields.{Fields}
+use Rattle.sgb_graph.specs.declared.vertices.numbers.Numbers.{Numbers}
+use Rattle.sgb_graph.specs.declared.vertices.numbers.Numbers.TheVariants.{Inside, Beside}
+use Rattle.sgb_graph.specs.declared.vertices.plain.PlainVertex.{PlainVertex}
 use Rattle.sgb_vec.proofs.SumRowLemmas.{take_written}
 use Rattle.sgb_graph.proofs.ColumnValues.{HasPlace-below, unused, values-unused}
 use Rattle.sgb_graph.proofs.Lists.{at_place-is_set, length-at_place, map-map}

@@ -8,8 +8,8 @@ use Rattle.std.proofs.lemmas.List.Folds.{list_all_at}
 use Rattle.std.proofs.lemmas.Option.{slice_get_past, slice_get_within}
 use Rattle.std.proofs.lemmas.List.FromFn.{length-range_with_len, get_or-range_with_len}
 use Rattle.sgb_graph.specs.Graphs.{ends_from, numbers_of, ends_of}
-use Rattle.sgb_graph.specs.Sound.{chains_end, leads_to_vertex, is_vertex}
-use Rattle.sgb_graph.specs.inner.Walks.{leads_of, is_marked, MarksGoOn}
+use Rattle.sgb_graph.specs.Sound.{leads_to_vertex, is_vertex}
+use Rattle.sgb_graph.specs.inner.Walks.{leads_of, is_marked, MarksGoOn, chains_end}
 use Rattle.sgb_graph.specs.declared.fields.ArcRec.{ArcRec}
 use Rattle.sgb_graph.proofs.Chains.{ends_none, ends_step, numbers_none, step_of}
 use Rattle.sgb_graph.proofs.EndingWays.{ends_within}

@@ -7,9 +7,8 @@ use Rattle.std.proofs.lemmas.List.Folds.{list_all_at, list_all_more}
 use Rattle.std.proofs.lemmas.Option.{slice_get-get_or}
 use Rattle.sgb_graph.specs.Graphs.{ends_of}
 use Rattle.sgb_graph.specs.Growth.{first_arc}
-use Rattle.sgb_graph.specs.Sound.{lists_lead_to_vertices}
 use Rattle.sgb_graph.specs.inner.KeptVertices.{bare_named}
-use Rattle.sgb_graph.specs.inner.Walks.{leads_of}
+use Rattle.sgb_graph.specs.inner.Walks.{leads_of, lists_lead_to_vertices}
 use Rattle.sgb_graph.specs.declared.fields.ArcRec.{ArcRec}
 use Rattle.sgb_graph.specs.declared.fields.Vertex.{Vertex}
 use Rattle.sgb_graph.proofs.Lists.{list_all-get}

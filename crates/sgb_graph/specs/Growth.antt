@@ -23,17 +23,14 @@ pub record IsKept (g : GraphData) : Type 0 where
   pub graph : IsGraph g
   pub count : g.m ≤ 10 ^ 18 + length g.records
 
--- the id of a new graph of n vertices
-abbrev pub new_id : ℕ → List ℕ
-new_id n = codes "gb_new_graph(" ++ decimal n ++ codes ")"
-
 -- a vertex with this name, no arcs and no utility field
 abbrev pub new_vertex : List ℕ → Vertex
 new_vertex text = record { name = text; arcs = None; util = no_fields }
 
 -- the graph of these names, with no arcs and no utility fields
 abbrev pub new_graph : List (List ℕ) → GraphData
-new_graph names = graph_data (new_id (length names)) 0 no_kinds no_fields (map new_vertex names) []
+new_graph names =
+    graph_data (codes "gb_new_graph(" ++ decimal (length names) ++ codes ")") 0 no_kinds no_fields (map new_vertex names) []
 
 -- the list with the element at this place changed
 abbrev pub at_place : {X : Type 0} → (X → X) → ℕ → List X → List X

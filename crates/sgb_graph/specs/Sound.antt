@@ -25,10 +25,6 @@ arc_kinds kinds = slice_range kinds 6 8
 abbrev pub graph_kinds : List Kind → List Kind
 graph_kinds kinds = drop 8 kinds
 
--- the way by next comes to an end from every record, on a list or not
-abbrev pub chains_end : List ArcRec → Bool
-chains_end records = list_all (λ k. ends_of records (Some k)) (range_with_len 0 (length records))
-
 -- this is a vertex
 abbrev pub is_vertex : Ref → Bool
 is_vertex (At v) = true
@@ -38,14 +34,12 @@ is_vertex _ = false
 abbrev pub leads_to_vertex : List ArcRec → ℕ → Bool
 leads_to_vertex records k = option_map_or (λ r. is_vertex r.tip) (slice_get records k) false
 
--- each arc on the list of a vertex leads to a vertex
-abbrev pub lists_lead_to_vertices : List Vertex → List ArcRec → Bool
-lists_lead_to_vertices vertices records =
-    list_all (λ v. list_all (leads_to_vertex records) (numbers_of records v.arcs)) vertices
-
--- the lists of the graph are lists: each record's chain ends, and each arc on a list leads to a vertex
+-- the lists of the graph are lists: from every record, on a list or not, the way by next comes to an end, and each arc on
+-- the list of a vertex leads to a vertex
 abbrev pub is_sound : GraphData → Bool
-is_sound g = chains_end g.records && lists_lead_to_vertices g.vertices g.records
+is_sound g =
+    list_all (λ k. ends_of g.records (Some k)) (range_with_len 0 (length g.records))
+    && list_all (λ v. list_all (leads_to_vertex g.records) (numbers_of g.records v.arcs)) g.vertices
 
 -- one of n vertices, or none
 abbrev pub ref_fits : ℕ → Ref → Bool

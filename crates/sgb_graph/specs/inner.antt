@@ -7,7 +7,7 @@ pub mod Draws
 pub mod Fitting
 -- a generator from cycle to cycle
 pub mod Flips
--- fields that hold integers
+-- the id of a new graph, and fields that hold integers
 pub mod Growth
 -- jumps over many random numbers
 pub mod Jumps
@@ -17,5 +17,5 @@ pub mod Kept
 pub mod KeptRecords
 -- vertices as they are kept
 pub mod KeptVertices
--- walks that mark the records they pass
+-- where chains end and lists lead, and walks that mark the records they pass
 pub mod Walks

@@ -3,7 +3,8 @@ ghost use Rattle.sgb_vec.specs.Limits.{most_vertices};
 ghost use Rattle.sgb_graph.specs.Made.{no_fields};
 ghost use Rattle.sgb_graph.specs.Columns.{arc_seen, vertex_seen};
 ghost use Rattle.sgb_graph.specs.inner.Columns.{util_kind};
-ghost use Rattle.sgb_graph.specs.Growth.{IsKept, new_id, new_graph, with_id};
+ghost use Rattle.sgb_graph.specs.Growth.{IsKept, new_graph, with_id};
+ghost use Rattle.sgb_graph.specs.inner.Growth.{new_id};
 ghost use Rattle.sgb_graph.specs.inner.Kept.{kept_graph};
 
 mod adding;

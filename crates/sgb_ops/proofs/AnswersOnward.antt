@@ -6,10 +6,10 @@ use Rattle.sgb_graph.specs.Descriptions.{Description, IsAnswerOf, IsGraphOf}
 use Rattle.sgb_graph.specs.Graphs.{GraphData}
 use Rattle.sgb_graph.specs.Made.{graph_described, no_fields, no_kinds}
 use Rattle.sgb_graph.proofs.Described.{described_only}
-use Rattle.sgb_ops.specs.declared.entries.Entry.{Entry}
+use Rattle.sgb_ops.specs.declared.induced_graphs.entries.Entry.{Entry}
 use Rattle.sgb_ops.specs.Induced.{induced_of}
 use Rattle.sgb_graph.specs.Growth.{with_id, with_uu}
-use Rattle.sgb_ops.specs.inner.Titles.{bi_complete_id, wheel_id}
+use Rattle.sgb_ops.specs.inner.Compounds.{bi_complete_id, wheel_id}
 use Rattle.sgb_ops.specs.inner.Boards.{with_parts, with_wheel_id}
 
 -- what is made of a graph that was made

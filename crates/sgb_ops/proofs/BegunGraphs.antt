@@ -11,7 +11,7 @@ use Rattle.sgb_graph.specs.Events.{Event, HasEndsBelow}
 use Rattle.sgb_graph.specs.Graphs.{GraphData}
 use Rattle.sgb_graph.specs.Growth.{AddsEvents}
 use Rattle.sgb_graph.proofs.AddedEvents.{adds-then}
-use Rattle.sgb_ops.specs.declared.entries.Entry.{Entry}
+use Rattle.sgb_ops.specs.declared.induced_graphs.entries.Entry.{Entry}
 use Rattle.sgb_ops.specs.Entries.{accepted_entries, events_within, is_unnumbered, merged_count, names_by_entries}
 use Rattle.sgb_ops.specs.Induced.{events_between, induced_events, induced_of}
 use Rattle.sgb_ops.specs.Merged.{merged_unless}
@@ -21,7 +21,7 @@ use Rattle.sgb_ops.specs.inner.Copies.{IsKeptEntry, sized}
 use Rattle.sgb_ops.specs.inner.Ends.{AllWithin}
 use Rattle.sgb_ops.specs.inner.Entries.{total_of}
 use Rattle.sgb_ops.specs.inner.Induced.{induced_graph, is_wanted, wanted}
-use Rattle.sgb_ops.specs.inner.Titles.{induced_id}
+use Rattle.sgb_ops.specs.inner.Compounds.{induced_id}
 use Rattle.sgb_ops.proofs.CopiesWithin.{events_inside, length-names}
 use Rattle.sgb_ops.proofs.InducedParts.{both_left}
 use Rattle.sgb_ops.proofs.Results.{made}

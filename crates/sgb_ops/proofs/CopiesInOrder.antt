@@ -9,11 +9,11 @@ use Rattle.std.proofs.lemmas.Grind.{flat_map-append}
 use Rattle.std.proofs.lemmas.List.{take_all}
 use Rattle.std.proofs.lemmas.List.Elements.{All-contains}
 use Rattle.sgb_vec.proofs.Lists.{range-within, filter-all, range-joined, range-more}
-use Rattle.sgb_ops.specs.declared.entries.Entry.{Entry}
+use Rattle.sgb_ops.specs.declared.induced_graphs.entries.Entry.{Entry}
 use Rattle.sgb_ops.specs.Copies.{own_copies}
 use Rattle.sgb_ops.specs.Entries.{copies_by, copies_of, first_copy, is_unnumbered, merged_count, merged_number, size_of_entry}
 use Rattle.sgb_ops.specs.inner.Entries.{own_total}
-use Rattle.sgb_ops.specs.declared.entries.Entry.TheVariants as entry
+use Rattle.sgb_ops.specs.declared.induced_graphs.entries.Entry.TheVariants as entry
 use Rattle.sgb_ops.proofs.EntryTotals.{next_first, number_below, numbered_one}
 
 -- how many copies a vertex has alone

@@ -10,8 +10,8 @@ use Rattle.sgb_vec.proofs.Lists.{All-flat_map, range-within}
 use Rattle.sgb_graph.specs.Events.{HasEndsBelow}
 use Rattle.sgb_graph.specs.Graphs.{GraphData}
 use Rattle.sgb_graph.specs.declared.fields.Link.{Link}
-use Rattle.sgb_ops.specs.declared.entries.Entry.{Entry}
-use Rattle.sgb_ops.specs.declared.entries.Entry.TheVariants as entry
+use Rattle.sgb_ops.specs.declared.induced_graphs.entries.Entry.{Entry}
+use Rattle.sgb_ops.specs.declared.induced_graphs.entries.Entry.TheVariants as entry
 use Rattle.sgb_ops.specs.inner.Copies.{IsKeptEntry}
 use Rattle.sgb_ops.specs.inner.Ends.{AllWithin}
 use Rattle.sgb_ops.specs.Entries.{copies_of, events_within, first_copy, inner_events, is_unnumbered, names_by_entries, names_of_copies, size_of_entry}

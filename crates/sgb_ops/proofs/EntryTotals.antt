@@ -12,8 +12,8 @@ use Rattle.std.proofs.lemmas.List.FromFn.{length-map-range_with_len, get_or-map-
 use Rattle.std.proofs.lemmas.List.Sums.{sum_by-cons, sum_by_push, sum_by-take-le}
 use Rattle.sgb_vec.specs.Limits.{most_vertices}
 use Rattle.std.specs.Prelude.{Ok}
-use Rattle.sgb_ops.specs.declared.entries.Entry.{Entry}
-use Rattle.sgb_ops.specs.declared.entries.Entry.TheVariants as entry
+use Rattle.sgb_ops.specs.declared.induced_graphs.entries.Entry.{Entry}
+use Rattle.sgb_ops.specs.declared.induced_graphs.entries.Entry.TheVariants as entry
 use Rattle.sgb_ops.specs.inner.Copies.{IsKeptEntry, copies_end, copies_start, count_by, first_copies, merged_of, start_by}
 use Rattle.sgb_ops.specs.Entries.{accepted_entries, copies_of, first_copy, is_unnumbered, merged_count, merged_number, size_of_entry}
 use Rattle.sgb_ops.specs.inner.Entries.{own_total, total_of}

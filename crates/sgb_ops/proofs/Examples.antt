@@ -1,7 +1,7 @@
 -- Worked examples of the definitions, evaluated by the check.
 pub mod Operands
 pub mod Pieces
-pub mod Titles
+pub mod Compounds
 pub mod Pairs
 pub mod Lines
 pub mod Product

@@ -14,8 +14,8 @@ use Rattle.sgb_graph.specs.Events.{Event, HasEndsBelow}
 use Rattle.sgb_graph.specs.Growth.{AddsEvents, IsKept}
 use Rattle.sgb_graph.proofs.AddedEvents.{adds-none}
 use Rattle.sgb_graph.specs.declared.fields.Link.{Link}
-use Rattle.sgb_ops.specs.declared.entries.Entry.{Entry}
-use Rattle.sgb_ops.specs.declared.entries.Entry.TheVariants as entry
+use Rattle.sgb_ops.specs.declared.induced_graphs.entries.Entry.{Entry}
+use Rattle.sgb_ops.specs.declared.induced_graphs.entries.Entry.TheVariants as entry
 use Rattle.sgb_ops.specs.Entries.{copies_of, events_within, first_copy, inner_events, is_unnumbered, merged_count, size_of_entry}
 use Rattle.sgb_ops.specs.Induced.{events_between, induced_events}
 use Rattle.sgb_ops.specs.Merged.{has_ends_of, merged, merged_unless}

@@ -11,7 +11,7 @@ use Rattle.sgb_ops.specs.Lines.{lines_of_graph}
 use Rattle.sgb_ops.specs.inner.Lines.{LineWithin, events_to, line_of, lines_for}
 use Rattle.sgb_graph.specs.Vertices.{order_of}
 use Rattle.sgb_ops.specs.Taken.{taken}
-use Rattle.sgb_ops.specs.declared.line_graphs.Line.{Line}
+use Rattle.sgb_ops.specs.declared.line_graphs.line.Line.{Line}
 use Rattle.sgb_ops.proofs.EventsWithin.{taken_tips}
 use Rattle.sgb_vec.proofs.Lists.{All-flat_map, All-reverse, range-more, range-within}
 

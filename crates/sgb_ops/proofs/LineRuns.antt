@@ -9,7 +9,7 @@ use Rattle.std.proofs.lemmas.List.Sums.{length-filter, count_by-le-length}
 use Rattle.sgb_vec.proofs.Lists.{filter-none}
 use Rattle.sgb_ops.specs.inner.Lines.{DescendFrom, LineWithin, events_to_numbers, events_to}
 use Rattle.sgb_ops.specs.inner.LineRuns.{begin_at, begin_from}
-use Rattle.sgb_ops.specs.declared.line_graphs.Line.{Line}
+use Rattle.sgb_ops.specs.declared.line_graphs.line.Line.{Line}
 
 -- no more lines begin somewhere than there are
 pub few_from : (w : ℕ) (lines : List Line) → begin_from w lines ≤ length lines

@@ -7,7 +7,7 @@ use Rattle.std.proofs.lemmas.List.Elements.{filter-append}
 use Rattle.sgb_vec.proofs.Lists.{made-append}
 use Rattle.sgb_graph.specs.Events.{Event}
 use Rattle.sgb_graph.specs.declared.fields.Link.{Link}
-use Rattle.sgb_ops.specs.declared.entries.Entry.{Entry}
+use Rattle.sgb_ops.specs.declared.induced_graphs.entries.Entry.{Entry}
 use Rattle.sgb_ops.specs.inner.Copies.{leads_to_copies}
 use Rattle.sgb_ops.specs.Entries.{first_copy, inner_events}
 use Rattle.sgb_ops.specs.inner.Induced.{event_between, events_of_arc, is_met, is_wanted, wanted}

@@ -9,9 +9,9 @@ use Rattle.sgb_graph.specs.declared.fields.Kind.TheVariants.{Z, I}
 use Rattle.sgb_graph.specs.declared.fields.Util.TheVariants.{Nothing, Int}
 use Rattle.sgb_graph.specs.Descriptions.{Description}
 use Rattle.sgb_graph.specs.IdTexts.{flag_text}
-use Rattle.sgb_ops.specs.Titles.{closing}
-use Rattle.sgb_ops.specs.declared.entries.Entry.{Entry}
-use Rattle.sgb_ops.specs.declared.entries.Entry.TheVariants as entry
+use Rattle.sgb_ops.specs.Compounds.{closing}
+use Rattle.sgb_ops.specs.declared.induced_graphs.entries.Entry.{Entry}
+use Rattle.sgb_ops.specs.declared.induced_graphs.entries.Entry.TheVariants as entry
 use Rattle.sgb_ops.specs.Induced.{induced_of}
 use Rattle.sgb_gen.specs.Boards.{board}
 use Rattle.sgb_graph.specs.Made.{graph_described}

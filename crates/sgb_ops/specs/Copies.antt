@@ -1,6 +1,6 @@
 -- The copies of each vertex, as they are looked up [GB_BASIC, induced].
 use Rattle.std.specs.Prelude.{ℕ, List, filter, nat_le}
-use Rattle.sgb_ops.specs.declared.entries.Entry.{Entry}
+use Rattle.sgb_ops.specs.declared.induced_graphs.entries.Entry.{Entry}
 use Rattle.sgb_ops.specs.Entries.{copies_of, merged_count}
 
 -- the copies of v that are not merged with those of others

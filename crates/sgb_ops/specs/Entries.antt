@@ -7,11 +7,11 @@ use Rattle.sgb_vec.specs.Limits.{most_vertices}
 use Rattle.sgb_vec.specs.declared.panics.Panic.{Panic}
 use Rattle.sgb_vec.specs.declared.panics.Panic.TheVariants.{Bad, VeryBad}
 use Rattle.sgb_graph.specs.Events.{Event}
-use Rattle.sgb_ops.specs.declared.entries.Entry.{Entry}
-use Rattle.sgb_ops.specs.declared.entries.Entry.TheVariants as entry
+use Rattle.sgb_ops.specs.declared.induced_graphs.entries.Entry.{Entry}
+use Rattle.sgb_ops.specs.declared.induced_graphs.entries.Entry.TheVariants as entry
 use Rattle.sgb_graph.specs.Vertices.{order_of, places_of, names_of}
 use Rattle.sgb_ops.specs.Taken.{taken}
-use Rattle.sgb_ops.specs.Titles.{joined_name}
+use Rattle.sgb_ops.specs.Compounds.{joined_name}
 
 -- how many vertices stand in the place of a vertex with this entry alone
 abbrev pub size_of_entry : Entry → ℕ

@@ -10,7 +10,7 @@ use Rattle.sgb_graph.specs.Vertices.{order_of, places_of, names_of}
 use Rattle.sgb_ops.specs.Taken.{taken}
 use Rattle.sgb_ops.specs.Merged.{merged_unless}
 use Rattle.sgb_graph.specs.IdTexts.{flag_text}
-use Rattle.sgb_ops.specs.Titles.{closing}
+use Rattle.sgb_ops.specs.Compounds.{closing}
 
 -- the events of all vertices, with parallel ones: for each v the arcs taken of it in g, and then those taken of it in h,
 -- if h has that vertex, whose tip is a vertex of g

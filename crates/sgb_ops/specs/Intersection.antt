@@ -14,7 +14,7 @@ use Rattle.sgb_ops.specs.Lengths.{least_of}
 use Rattle.sgb_graph.specs.Vertices.{order_of, names_of}
 use Rattle.sgb_ops.specs.Taken.{taken}
 use Rattle.sgb_graph.specs.IdTexts.{flag_text}
-use Rattle.sgb_ops.specs.Titles.{closing}
+use Rattle.sgb_ops.specs.Compounds.{closing}
 
 -- how many of the arcs lead to u
 abbrev pub count_to : ℕ → List Link → ℕ

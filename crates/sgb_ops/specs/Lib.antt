@@ -6,7 +6,7 @@ pub mod Taken
 -- parallel arcs and edges made one
 pub mod Merged
 -- the end of ids, and names made of two names
-pub mod Titles
+pub mod Compounds
 -- complement
 pub mod Complement
 -- gunion

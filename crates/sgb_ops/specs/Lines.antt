@@ -13,10 +13,10 @@ use Rattle.sgb_graph.specs.declared.fields.Ref.TheVariants.{Null, One, At}
 use Rattle.sgb_graph.specs.Descriptions.{Description}
 use Rattle.sgb_graph.specs.Made.{plain}
 use Rattle.sgb_graph.specs.Vertices.{places_of, name_at}
-use Rattle.sgb_ops.specs.declared.line_graphs.Line.{Line}
+use Rattle.sgb_ops.specs.declared.line_graphs.line.Line.{Line}
 use Rattle.sgb_ops.specs.Taken.{taken}
 use Rattle.sgb_graph.specs.IdTexts.{flag_text}
-use Rattle.sgb_ops.specs.Titles.{closing, line_name}
+use Rattle.sgb_ops.specs.Compounds.{closing, line_name}
 
 -- the lines: the arcs taken of each vertex, from the last vertex down to the first
 abbrev pub lines_of_graph : GraphData → Bool → List Line

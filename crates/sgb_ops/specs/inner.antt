@@ -5,6 +5,8 @@ pub mod Begun
 pub mod Boards
 -- the arcs of a complement from one vertex
 pub mod Complement
+-- ids, and names made of names
+pub mod Compounds
 -- where the copies of a vertex begin and end
 pub mod Copies
 -- the ends of events, and events merged one by one
@@ -35,5 +37,3 @@ pub mod Steps
 pub mod TakenArcs
 -- what is noted of the arcs to each vertex
 pub mod Tallies
--- ids, and names made of names
-pub mod Titles

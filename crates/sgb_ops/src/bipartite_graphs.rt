@@ -4,9 +4,8 @@ ghost use Rattle.sgb_graph.specs.Descriptions.{IsAnswerOf};
 ghost use Rattle.sgb_ops.specs.BiComplete.{accepted_parts, bi_complete_of};
 
 use crate::boards::pair_of_vertices;
-use crate::entries::Entry;
-use crate::induced_graphs::induced;
-use crate::titles::numbers_id;
+use crate::compounds::numbers_id;
+use crate::induced_graphs::{Entry, induced};
 use sgb_graph::Graph;
 use sgb_vec::{MOST_VERTICES, Panic};
 use std::alloc::Global;

@@ -2,12 +2,12 @@
 ghost use Rattle.std.specs.Prelude.{◌≡◌, ◌<◌, ◌+◌, ◌==◌, [], ◌∷◌, ℕ, pos, length, slice_index, OnOk, IsOkUnless, if◌then◌else◌};
 ghost use Rattle.sgb_graph.specs.Descriptions.{IsAnswerOf};
 ghost use Rattle.sgb_graph.specs.Growth.{AddsEvents, HasPlainArcs};
-ghost use Rattle.sgb_ops.specs.Complement.{complement_events, complement_of, has_arc};
-ghost use Rattle.sgb_ops.specs.inner.Complement.{complement_events_from, is_wanted_where};
-ghost use Rattle.sgb_ops.specs.inner.Titles.{complement_id};
+ghost use Rattle.sgb_ops.specs.Complement.{complement_events, complement_of};
+ghost use Rattle.sgb_ops.specs.inner.Complement.{complement_events_from, is_wanted_where, has_arc};
+ghost use Rattle.sgb_ops.specs.inner.Compounds.{complement_id};
 
+use crate::compounds::flag_byte;
 use crate::operands::names_of;
-use crate::titles::flag_byte;
 use sgb_graph::{Graph, Id, compound_id};
 use sgb_vec::Panic;
 use std::alloc::Global;

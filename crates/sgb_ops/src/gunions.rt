@@ -7,14 +7,14 @@ ghost use Rattle.sgb_ops.specs.inner.Ends.{event_of};
 ghost use Rattle.sgb_ops.specs.Gunion.{gunion_of, union_events};
 ghost use Rattle.sgb_ops.specs.Merged.{merged_unless};
 ghost use Rattle.sgb_ops.specs.Taken.{taken};
-ghost use Rattle.sgb_ops.specs.inner.Titles.{gunion_id};
+ghost use Rattle.sgb_ops.specs.inner.Compounds.{gunion_id};
 ghost use Rattle.sgb_ops.specs.inner.Gunion.{union_arcs};
 
+use crate::compounds::flag_byte;
 use crate::events::{Event, add_events};
 use crate::merged::merged_unless;
 use crate::operands::names_of;
 use crate::taken::taken;
-use crate::titles::flag_byte;
 use sgb_graph::{Graph, Id, Link, double_compound_id};
 use sgb_vec::Panic;
 use std::alloc::Global;
@@ -38,12 +38,12 @@ pub fn gunion(
     let names = names_of(alloc, first)?;
     let mut built = Graph::new(alloc, names)?;
     add_union_events(&mut built, alloc, first, second, multi, directed)?;
-    built.set_id(union_id(first.id(), second.id(), multi, directed));
+    built.set_id(gunion_id(first.id(), second.id(), multi, directed));
     Ok(built)
 }
 
 // The id of the result, made from the operands'.
-fn union_id(id1: &Id, id2: &Id, multi: bool, directed: bool) -> Id
+fn gunion_id(id1: &Id, id2: &Id, multi: bool, directed: bool) -> Id
     ensures { result ≡ gunion_id id1.now id2.now multi directed }
 {
     let end = [b',', flag_byte(multi), b',', flag_byte(directed), b')'];

@@ -12,16 +12,26 @@ ghost use Rattle.sgb_ops.specs.inner.Begun.{IsBegun, IsFinished, later_events};
 ghost use Rattle.sgb_ops.specs.inner.Copies.{IsKeptEntry, sized};
 ghost use Rattle.sgb_ops.specs.inner.Ends.{AllWithin};
 ghost use Rattle.sgb_ops.specs.inner.Entries.{total_of};
-ghost use Rattle.sgb_ops.specs.inner.Titles.{induced_id};
+ghost use Rattle.sgb_ops.specs.inner.Compounds.{induced_id};
 ghost use Rattle.sgb_ops.specs.inner.Induced.{wanted};
 
-use crate::copied_names::names_by_entries;
-use crate::entries::{Copies, Entry, accept_entries};
+// The names of the copies of vertices.
+mod copied_names;
+// The entries of an induced graph, and where the copies of each vertex are.
+mod entries;
+// The events of an induced graph.
+mod events;
+// These events, merged and added part by part.
+mod parts;
+
+use crate::compounds::flag_byte;
 use crate::events::{Event, add_events};
-use crate::induced_events::{Flags, events_within, push_events_between};
-use crate::induced_parts::{add_events_between, add_events_within, are_in_parts};
 use crate::merged::merged_unless;
-use crate::titles::flag_byte;
+use copied_names::names_by_entries;
+pub use entries::Entry;
+use entries::{Copies, accept_entries};
+use events::{Flags, events_within, push_events_between};
+use parts::{add_events_between, add_events_within, are_in_parts};
 use sgb_graph::{Graph, Id, compound_id};
 use sgb_vec::Panic;
 use std::alloc::Global;
@@ -185,7 +195,7 @@ fn finished(alloc: Global, graph: &Graph, begun: Begun, flags: Flags) -> Result<
         kept,
     } = begun;
     add_later(&mut built, alloc, graph, &copies, in_parts, kept, flags)?;
-    built.set_id(title(graph.id(), flags));
+    built.set_id(induced_id(graph.id(), flags));
     Ok(built)
 }
 
@@ -242,7 +252,7 @@ fn add_merged(
 }
 
 // The id of the result, made from the operand's; the entries are not in it.
-fn title(id: &Id, flags: Flags) -> Id
+fn induced_id(id: &Id, flags: Flags) -> Id
     ensures { result ≡ induced_id id.now flags.self_loops flags.multi flags.directed }
 {
     let end = [

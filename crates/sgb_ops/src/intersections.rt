@@ -6,13 +6,13 @@ ghost use Rattle.sgb_ops.specs.inner.Ends.{AllWithin};
 ghost use Rattle.sgb_ops.specs.Intersection.{common_events, intersection_events, intersection_of};
 ghost use Rattle.sgb_ops.specs.Taken.{taken};
 ghost use Rattle.sgb_ops.specs.inner.Tallies.{event_left, one_less, second_length, without_one};
-ghost use Rattle.sgb_ops.specs.inner.Titles.{intersection_id};
+ghost use Rattle.sgb_ops.specs.inner.Compounds.{intersection_id};
 
+use crate::compounds::flag_byte;
 use crate::events::{Event, graph_of};
 use crate::operands::names_of;
 use crate::taken::taken;
 use crate::tallies::{Tally, tallies};
-use crate::titles::flag_byte;
 use indexmap::IndexMap;
 use sgb_graph::{Graph, Id, Link, double_compound_id};
 use sgb_vec::Panic;
@@ -36,12 +36,12 @@ pub fn intersection(
 {
     let events = common_arcs(alloc, first, second, multi, directed)?;
     let names = names_of(alloc, first)?;
-    let id = title(first.id(), second.id(), multi, directed);
+    let id = intersection_id(first.id(), second.id(), multi, directed);
     graph_of(alloc, directed, &events, names, id)
 }
 
 // The id of the result, made from the operands'.
-fn title(id1: &Id, id2: &Id, multi: bool, directed: bool) -> Id
+fn intersection_id(id1: &Id, id2: &Id, multi: bool, directed: bool) -> Id
     ensures { result ≡ intersection_id id1.now id2.now multi directed }
 {
     let end = [b',', flag_byte(multi), b',', flag_byte(directed), b')'];

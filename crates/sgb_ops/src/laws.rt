@@ -8,8 +8,8 @@ ghost use Rattle.sgb_ops.specs.Entries.{copies_of, is_unnumbered, merged_count, 
 ghost use Rattle.sgb_ops.specs.Lines.{is_of_edges, line_graph_of, lines_of_graph};
 ghost use Rattle.sgb_ops.specs.Merged.{IsShortest, first_ones, has_ends_of, merged, named_ends};
 ghost use Rattle.sgb_ops.specs.Taken.{edges_up_from, lower_record, taken};
-ghost use Rattle.sgb_ops.specs.declared.entries.Entry.{Entry};
-ghost use Rattle.sgb_ops.specs.declared.entries.Entry.TheVariants as entry;
+ghost use Rattle.sgb_ops.specs.declared.induced_graphs.entries.Entry.{Entry};
+ghost use Rattle.sgb_ops.specs.declared.induced_graphs.entries.Entry.TheVariants as entry;
 
 /// An arc that is taken of a vertex for an undirected result leads to no vertex before it (GB_BASIC, gunion).
 pub fn taken_lead_up()

@@ -7,20 +7,14 @@ mod bipartite_graphs;
 mod boards;
 // The complement of a graph.
 mod complements;
-// The names of the copies of vertices.
-mod copied_names;
-// The entries of an induced graph, and where the copies of each vertex are.
-mod entries;
+// Ids and names made of others.
+mod compounds;
 // The events of which a graph is made.
 mod events;
 // The union of two graphs.
 mod gunions;
-// The events of an induced graph.
-mod induced_events;
 // The graph that entries induce.
 mod induced_graphs;
-// The events of an induced graph, merged and added part by part.
-mod induced_parts;
 // The intersection of two graphs.
 mod intersections;
 // Laws of the definitions.
@@ -29,7 +23,7 @@ mod laws;
 mod line_graphs;
 // Parallel arcs and edges made one.
 mod merged;
-// Copies of names.
+// Names copied, and names joined with them.
 mod operands;
 // The product of two graphs.
 mod products;
@@ -37,16 +31,13 @@ mod products;
 mod taken;
 // How many arcs lead to each vertex, and the least length.
 mod tallies;
-// Ids and names made of others.
-mod titles;
 // Wheels.
 mod wheels;
 
 pub use bipartite_graphs::bi_complete;
 pub use complements::complement;
-pub use entries::Entry;
 pub use gunions::gunion;
-pub use induced_graphs::{induced, induced_from};
+pub use induced_graphs::{Entry, induced, induced_from};
 pub use intersections::intersection;
 pub use laws::{copies_law, lines_law, merged_are_apart, merging_law, taken_lead_up, taking_law};
 pub use line_graphs::lines;

@@ -1,11 +1,17 @@
 //! What the operations read of a graph beside its lists of arcs.
-ghost use Rattle.std.specs.Prelude.{◌≡◌, ◌≤◌, length, IfOk, IsOkUnless};
+ghost use Rattle.std.specs.Prelude.{◌≡◌, ◌≤◌, ◌++◌, [], ◌∷◌, All, length, map, OnOk, IfOk, IsOkUnless};
 ghost use Rattle.sgb_vec.specs.Limits.{most_vertices};
+ghost use Rattle.sgb_vec.specs.Names.{IsTextByte};
 ghost use Rattle.sgb_graph.specs.Vertices.{names_of};
+ghost use Rattle.sgb_ops.specs.Compounds.{joined_name};
 
+use crate::compounds::joined_name;
 use sgb_graph::{Graph, Names};
-use sgb_vec::Panic;
+use sgb_vec::{Panic, Text};
 use std::alloc::Global;
+
+// How many bytes of each of two names stay, where they are joined with a byte between them.
+const MOST_PART: usize = 2_047;
 
 /// Copies of the names of a graph's vertices, in order.
 ///
@@ -23,4 +29,43 @@ pub(crate) fn names_of(alloc: Global, graph: &Graph) -> Result<Names, Panic>
         };
     }
     Ok(names)
+}
+
+/// Appends this name joined with that of each vertex of the graph, with the separator, a byte, between them.
+///
+/// `NoRoom` when out of memory, and nothing else.
+pub(crate) fn push_joined_names(
+    alloc: Global,
+    names: &mut Names,
+    name: &Text,
+    separator: &[u8],
+    graph: &Graph,
+) -> Result<(), Panic>
+    requires short { length separator.now ≤ 1 }
+    requires printable { All IsTextByte separator.now }
+    ensures ok { OnOk result (names.new ≡ names.old
+        ++ map (joined_name name.now separator.now) (names_of graph.now)) }
+    ensures memory { IsOkUnless result Panic.NoRoom }
+{
+    for w in 0..graph.n() {
+        let part = graph.name(w);
+        push_name(
+            names,
+            joined_name(alloc, name, MOST_PART, separator, part, MOST_PART)?,
+        )?;
+    }
+    Ok(())
+}
+
+/// Appends a name.
+///
+/// `NoRoom` when out of memory, and nothing else.
+pub(crate) fn push_name(names: &mut Names, name: Text) -> Result<(), Panic>
+    ensures ok { OnOk result (names.new ≡ names.old ++ name ∷ []) }
+    ensures memory { IsOkUnless result Panic.NoRoom }
+{
+    match names.push(name) {
+        Ok(()) => Ok(()),
+        Err(_refused) => Err(Panic::NoRoom),
+    }
 }

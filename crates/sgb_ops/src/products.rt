@@ -1,20 +1,21 @@
 //! The products of two graphs, on the pairs of their vertices (GB_BASIC, product).
-ghost use Rattle.std.specs.Prelude.{◌≡◌, ◌<◌, ◌≤◌, ◌*◌, ◌++◌, [], ◌∷◌, decimal, map, Ok, Err, OnOk, IfOk, IsOkUnless};
+ghost use Rattle.std.specs.Prelude.{◌≡◌, ◌<◌, ◌≤◌, ◌*◌, [], ◌∷◌, decimal, map, Ok, Err, OnOk, IfOk, IsOkUnless};
 ghost use Rattle.sgb_vec.specs.Limits.{most_vertices};
 ghost use Rattle.sgb_graph.specs.Descriptions.{IsAnswerOf};
 ghost use Rattle.sgb_graph.specs.Graphs.{chain_of};
 ghost use Rattle.sgb_graph.specs.Growth.{AddsEvents};
 ghost use Rattle.std.specs.Int.{int_min};
-ghost use Rattle.sgb_graph.specs.Vertices.{names_of, order_of, places_of};
+ghost use Rattle.sgb_graph.specs.Vertices.{order_of, places_of};
 ghost use Rattle.sgb_ops.specs.Product.{both_steps, product_events, product_graph_of, product_type, single_steps, type_number};
 ghost use Rattle.sgb_ops.specs.inner.Steps.{both_step, both_steps_at, both_steps_of_row, place_along, step_along, steps_along, steps_from};
 ghost use Rattle.sgb_ops.specs.inner.Pairs.{HasRoomForPairs, names_of_pairs, product_graph};
-ghost use Rattle.sgb_ops.specs.inner.Titles.{product_id, pair_name};
+ghost use Rattle.sgb_ops.specs.inner.Compounds.{product_id};
 
+use crate::compounds::flag_byte;
+use crate::operands::push_joined_names;
 use crate::taken::taken;
-use crate::titles::{flag_byte, joined_name};
 use sgb_graph::{Graph, Id, Link, Names, double_compound_id};
-use sgb_vec::{MOST_VERTICES, Panic, Text};
+use sgb_vec::{MOST_VERTICES, Panic};
 use std::alloc::Global;
 
 /// A product of two graphs (GB_BASIC, product): its vertices are the pairs of a vertex x of `first` and a vertex y of
@@ -343,30 +344,7 @@ fn names_of_pairs(alloc: Global, first: &Graph, second: &Graph) -> Result<Names,
 {
     let mut names = Names::new(alloc);
     for x in 0..first.n() {
-        push_names_with(alloc, &mut names, first.name(x), second)?;
+        push_joined_names(alloc, &mut names, first.name(x), b",", second)?;
     }
     Ok(names)
-}
-
-// How many bytes of each name stay.
-const MOST_PART: usize = 2_047;
-
-// Appends the names of the pairs of one vertex of this name.
-fn push_names_with(
-    alloc: Global,
-    names: &mut Names,
-    first: &Text,
-    second: &Graph,
-) -> Result<(), Panic>
-    ensures ok { OnOk result (names.new ≡ names.old
-        ++ map (pair_name first.now) (names_of second.now)) }
-    ensures memory { IsOkUnless result Panic.NoRoom }
-{
-    for y in 0..second.n() {
-        let name = joined_name(alloc, first, MOST_PART, b",", second.name(y), MOST_PART)?;
-        let Ok(()) = names.push(name) else {
-            return Err(Panic::NoRoom);
-        };
-    }
-    Ok(())
 }

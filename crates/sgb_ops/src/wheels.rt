@@ -1,13 +1,12 @@
 //! Wheels: vertices in the middle, each joined to all those of a rim (GB_BASIC, wheel).
 ghost use Rattle.std.specs.Prelude.{◌≡◌, [], ◌∷◌, Ok, Err, IfOk, IfErr, IsOkUnless};
 ghost use Rattle.sgb_graph.specs.Descriptions.{IsAnswerOf};
-ghost use Rattle.sgb_ops.specs.declared.entries.Entry.TheVariants as entry;
+ghost use Rattle.sgb_ops.specs.declared.induced_graphs.entries.Entry.TheVariants as entry;
 ghost use Rattle.sgb_ops.specs.Wheel.{accepted_middle, wheel_of};
 
 use crate::boards::{pair_of_vertices, rim_of_wheel};
-use crate::entries::Entry;
-use crate::induced_graphs::induced_from;
-use crate::titles::numbers_id;
+use crate::compounds::numbers_id;
+use crate::induced_graphs::{Entry, induced_from};
 use sgb_graph::Graph;
 use sgb_vec::{MOST_VERTICES, Panic};
 use std::alloc::Global;

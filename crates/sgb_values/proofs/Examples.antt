@@ -17,7 +17,7 @@ use Rattle.sgb_gen.specs.Moves.{board_moves}
 use Rattle.sgb_gen.specs.VectorGraphs.{family_graph}
 use Rattle.sgb_ops.specs.Merged.{merged}
 use Rattle.sgb_ops.specs.Taken.{each_edge_once}
-use Rattle.sgb_ops.specs.declared.entries.Entry.TheVariants as entry
+use Rattle.sgb_ops.specs.declared.induced_graphs.entries.Entry.TheVariants as entry
 use Rattle.sgb_file.specs.FileLines.{text_of_lines}
 use Rattle.sgb_file.proofs.Examples.GraphFiles.{one_cell, one_cell_lines}
 use Rattle.sgb_file.proofs.Examples.Restoring.{no_file_read, one_cell_read}

@@ -17,7 +17,7 @@ use Rattle.sgb_expr.specs.StdinUses.{entries_have_stdin, has_stdin}
 use Rattle.sgb_expr.specs.declared.expressions.Expr.TheVariants as expr
 use Rattle.sgb_expr.specs.declared.entries.Entries as code_entries
 use Rattle.sgb_expr.specs.declared.entries.EntryExpr.{EntryExpr}
-use Rattle.sgb_ops.specs.declared.entries.Entry as handed
+use Rattle.sgb_ops.specs.declared.induced_graphs.entries.Entry as handed
 
 -- what an operation or a generator returns is the graph that is described
 pub value_made : (value : Result Description Panic) (r : Result GraphData Panic) → IsAnswerOf value r → IsValue (made value) r

@@ -11,10 +11,10 @@ use Rattle.sgb_graph.specs.declared.fields.Kind.TheVariants.{Z, I}
 use Rattle.sgb_graph.specs.declared.fields.Util.{Util}
 use Rattle.sgb_graph.specs.declared.fields.Util.TheVariants.{Int}
 use Rattle.sgb_graph.specs.declared.fields.Vertex.{Vertex}
-use Rattle.sgb_graph.specs.declared.vertices.PlainVertex.{PlainVertex}
-use Rattle.sgb_graph.specs.declared.vertices.Numbers.{Numbers}
-use Rattle.sgb_graph.specs.declared.vertices.Numbers.TheVariants.{Inside, Beside}
-use Rattle.sgb_graph.specs.declared.vertices.Fields.{Fields}
+use Rattle.sgb_graph.specs.declared.vertices.plain.PlainVertex.{PlainVertex}
+use Rattle.sgb_graph.specs.declared.vertices.numbers.Numbers.{Numbers}
+use Rattle.sgb_graph.specs.declared.vertices.numbers.Numbers.TheVariants.{Inside, Beside}
+use Rattle.sgb_graph.specs.declared.vertices.fields.Fields.{Fields}
 
 -- the vertices of a graph, and what their utility fields u v w x y z hold
 pub record KeptVertices : Type 0 where

@@ -1,10 +1,20 @@
--- Walks along the chains of records, which mark the records that they passed.
-use Rattle.std.specs.Prelude.{◌≡◌, ◌&&◌, ℕ, Bool, true, false, List, get_or, Option, Some, IsTrue, slice_get}
-use Rattle.std.specs.List.{list_all}
+-- Where chains of records end and lists lead, and walks along them, which mark the records that they passed.
+use Rattle.std.specs.Prelude.{◌≡◌, ◌&&◌, ℕ, Bool, true, false, List, length, get_or, Option, Some, IsTrue, slice_get}
+use Rattle.std.specs.List.{list_all, range_with_len}
 use Rattle.std.specs.Option.{option_map_or}
 use Rattle.sgb_graph.specs.Graphs.{ends_of, numbers_of}
 use Rattle.sgb_graph.specs.Sound.{chain_fits, is_vertex, leads_to_vertex}
+use Rattle.sgb_graph.specs.declared.fields.Vertex.{Vertex}
 use Rattle.sgb_graph.specs.declared.fields.ArcRec.{ArcRec}
+
+-- the way by next comes to an end from every record, on a list or not
+abbrev pub chains_end : List ArcRec → Bool
+chains_end records = list_all (λ k. ends_of records (Some k)) (range_with_len 0 (length records))
+
+-- each arc on the list of a vertex leads to a vertex
+abbrev pub lists_lead_to_vertices : List Vertex → List ArcRec → Bool
+lists_lead_to_vertices vertices records =
+    list_all (λ v. list_all (leads_to_vertex records) (numbers_of records v.arcs)) vertices
 
 -- each arc on the way from a first record leads to a vertex
 abbrev pub leads_of : List ArcRec → Option ℕ → Bool

@@ -16,14 +16,14 @@ impl Graph {
             (0 ∷ 1 ∷ 2 ∷ 3 ∷ 4 ∷ 5 ∷ 6 ∷ 7 ∷ []) }
     {
         prove!(v < self.n() && self.n() - v > 7);
-        let mut first = Counted::new(self.arcs(v));
-        let mut second = Counted::new(self.arcs(v + 1));
-        let mut third = Counted::new(self.arcs(v + 2));
-        let mut fourth = Counted::new(self.arcs(v + 3));
-        let mut fifth = Counted::new(self.arcs(v + 4));
-        let mut sixth = Counted::new(self.arcs(v + 5));
-        let mut seventh = Counted::new(self.arcs(v + 6));
-        let mut eighth = Counted::new(self.arcs(v + 7));
+        let mut first = DegreeSoFar::new(self.arcs(v));
+        let mut second = DegreeSoFar::new(self.arcs(v + 1));
+        let mut third = DegreeSoFar::new(self.arcs(v + 2));
+        let mut fourth = DegreeSoFar::new(self.arcs(v + 3));
+        let mut fifth = DegreeSoFar::new(self.arcs(v + 4));
+        let mut sixth = DegreeSoFar::new(self.arcs(v + 5));
+        let mut seventh = DegreeSoFar::new(self.arcs(v + 6));
+        let mut eighth = DegreeSoFar::new(self.arcs(v + 7));
         let mut more = self.records_len() > 0;
         while more {
             more = first.step()
@@ -61,18 +61,18 @@ impl Graph {
 
 // What is left of a vertex's list, and how many arcs were counted.
 #[derive(Drop)]
-struct Counted<'a> {
+struct DegreeSoFar<'a> {
     left: Arcs<'a>,
     count: usize,
 }
 
-impl<'a> Counted<'a> {
+impl<'a> DegreeSoFar<'a> {
     // A list, with no arc counted.
-    fn new(left: Arcs<'a>) -> Counted<'a>
+    fn new(left: Arcs<'a>) -> DegreeSoFar<'a>
         ensures left { result.left ≡ left.entry }
         ensures count { result.count ≡ 0 }
     {
-        Counted { left, count: 0 }
+        DegreeSoFar { left, count: 0 }
     }
 
     // Counts an arc, if one is left: whether there was one.

@@ -7,8 +7,8 @@ ghost use Rattle.std.specs.Prelude.{◌≡◌, ◌≤◌, ◌&&◌, length, IsTr
 ghost use Rattle.sgb_vec.specs.Limits.{most_vertices};
 ghost use Rattle.std.specs.List.{list_all, range_with_len};
 ghost use Rattle.sgb_graph.specs.Graphs.{ends_of};
-ghost use Rattle.sgb_graph.specs.Sound.{chain_fits, chains_end, is_vertex, lists_lead_to_vertices};
-ghost use Rattle.sgb_graph.specs.inner.Walks.{MarksEnd, MarksGoOn, MarksLead, is_marked, leads_back, leads_of};
+ghost use Rattle.sgb_graph.specs.Sound.{chain_fits, is_vertex};
+ghost use Rattle.sgb_graph.specs.inner.Walks.{MarksEnd, MarksGoOn, MarksLead, is_marked, leads_back, leads_of, chains_end, lists_lead_to_vertices};
 
 use crate::fields::Ref;
 use crate::ranges::chain_fits;

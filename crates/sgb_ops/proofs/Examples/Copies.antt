@@ -14,7 +14,7 @@ use Rattle.sgb_graph.specs.Events.{list_from}
 use Rattle.sgb_graph.specs.Ids.{compound_id}
 use Rattle.sgb_ops.specs.Taken.{each_edge_once}
 use Rattle.sgb_ops.specs.Merged.{merged}
-use Rattle.sgb_ops.specs.declared.entries.Entry.TheVariants as entry
+use Rattle.sgb_ops.specs.declared.induced_graphs.entries.Entry.TheVariants as entry
 use Rattle.sgb_ops.specs.Entries.{accepted_entries, names_by_entries}
 use Rattle.sgb_ops.specs.Induced.{induced_events, induced_of}
 use Rattle.sgb_ops.specs.BiComplete.{bi_complete_of}

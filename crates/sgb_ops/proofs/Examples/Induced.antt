@@ -16,7 +16,7 @@ use Rattle.sgb_graph.specs.declared.fields.Kind.TheVariants.{Z, I}
 use Rattle.sgb_graph.specs.declared.fields.Util.TheVariants.{Nothing, Int}
 use Rattle.sgb_ops.specs.Taken.{each_edge_once}
 use Rattle.sgb_ops.specs.Merged.{merged}
-use Rattle.sgb_ops.specs.declared.entries.Entry.TheVariants.{Copies}
+use Rattle.sgb_ops.specs.declared.induced_graphs.entries.Entry.TheVariants.{Copies}
 use Rattle.sgb_ops.specs.Induced.{induced_of, induced_events}
 use Rattle.sgb_ops.specs.BiComplete.{bi_complete_of}
 use Rattle.sgb_ops.specs.Wheel.{wheel_of}

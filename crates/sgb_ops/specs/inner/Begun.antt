@@ -3,14 +3,14 @@ use Rattle.std.specs.Prelude.{◌≡◌, Bool, true, false, List, ◌++◌, map}
 use Rattle.sgb_graph.specs.Events.{Event}
 use Rattle.sgb_graph.specs.Graphs.{GraphData}
 use Rattle.sgb_graph.specs.Growth.{AddsEvents, new_graph, with_id}
-use Rattle.sgb_ops.specs.declared.entries.Entry.{Entry}
+use Rattle.sgb_ops.specs.declared.induced_graphs.entries.Entry.{Entry}
 use Rattle.sgb_ops.specs.Entries.{events_within, names_by_entries}
 use Rattle.sgb_ops.specs.Induced.{events_between}
 use Rattle.sgb_ops.specs.Merged.{merged_unless}
 use Rattle.sgb_graph.specs.Vertices.{names_of}
 use Rattle.sgb_ops.specs.inner.Copies.{sized}
 use Rattle.sgb_ops.specs.inner.Parts.{AreInParts}
-use Rattle.sgb_ops.specs.inner.Titles.{induced_id}
+use Rattle.sgb_ops.specs.inner.Compounds.{induced_id}
 use Rattle.sgb_ops.specs.inner.Induced.{wanted}
 
 -- the graph of the names, with no events

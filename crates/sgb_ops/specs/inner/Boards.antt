@@ -5,7 +5,7 @@ use Rattle.sgb_gen.specs.declared.params.BoardParams.{BoardParams}
 use Rattle.sgb_graph.specs.Descriptions.{Description}
 use Rattle.sgb_graph.specs.declared.fields.Kind.TheVariants.{Z, I}
 use Rattle.sgb_graph.specs.declared.fields.Util.TheVariants.{Nothing, Int}
-use Rattle.sgb_ops.specs.inner.Titles.{bi_complete_id, wheel_id}
+use Rattle.sgb_ops.specs.inner.Compounds.{bi_complete_id, wheel_id}
 
 -- board(n,0,0,0,1,1,directed): a cycle of n vertices, and where n is not positive the board of 8 by 8
 abbrev pub rim_of_wheel : ℤ → Bool → BoardParams

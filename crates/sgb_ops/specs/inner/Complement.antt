@@ -1,10 +1,14 @@
 -- The arcs of a complement from one vertex [GB_BASIC, complement].
 use Rattle.std.specs.Prelude.{ℕ, pos, ◌==◌, Bool, not, ◌&&◌, ◌||◌, List, map, filter, nat_le}
 use Rattle.std.specs.Bool.{beq}
+use Rattle.std.specs.List.{list_any}
 use Rattle.sgb_graph.specs.Events.{Event}
-use Rattle.sgb_graph.specs.Graphs.{GraphData}
+use Rattle.sgb_graph.specs.Graphs.{GraphData, chain_of}
 use Rattle.sgb_graph.specs.Vertices.{places_of}
-use Rattle.sgb_ops.specs.Complement.{has_arc}
+
+-- u's list has an arc to w
+abbrev pub has_arc : GraphData → ℕ → ℕ → Bool
+has_arc g u w = list_any (λ l. l.tip == w) (chain_of g u)
 
 -- the result has an arc from u to w, where the operand has one or not
 abbrev pub is_wanted_where : Bool → Bool → Bool → Bool → ℕ → ℕ → Bool

@@ -1,6 +1,6 @@
 -- How many lines begin at a vertex, and there or later: so the lines that begin at one vertex are found as a run [GB_BASIC, lines].
 use Rattle.std.specs.Prelude.{ℕ, ◌==◌, not, List, length, filter, nat_lt}
-use Rattle.sgb_ops.specs.declared.line_graphs.Line.{Line}
+use Rattle.sgb_ops.specs.declared.line_graphs.line.Line.{Line}
 
 -- how many of the lines begin at w
 abbrev pub begin_at : ℕ → List Line → ℕ

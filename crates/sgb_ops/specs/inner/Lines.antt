@@ -7,9 +7,9 @@ use Rattle.sgb_graph.specs.declared.fields.Link.{Link}
 use Rattle.sgb_graph.specs.declared.fields.Ref.{Ref}
 use Rattle.sgb_graph.specs.declared.fields.Ref.TheVariants.{Null, One, At}
 use Rattle.sgb_ops.specs.Lines.{meets}
-use Rattle.sgb_ops.specs.Titles.{line_name}
+use Rattle.sgb_ops.specs.Compounds.{line_name}
 use Rattle.sgb_graph.specs.Events.{Event}
-use Rattle.sgb_ops.specs.declared.line_graphs.Line.{Line}
+use Rattle.sgb_ops.specs.declared.line_graphs.line.Line.{Line}
 
 -- any line
 abbrev pub no_line : Line

@@ -7,7 +7,7 @@ use Rattle.sgb_graph.specs.Growth.{HasPlainArcs}
 use Rattle.sgb_graph.specs.Made.{plain}
 use Rattle.sgb_graph.specs.Vertices.{names_of, order_of}
 use Rattle.sgb_ops.specs.Product.{product_events}
-use Rattle.sgb_ops.specs.inner.Titles.{pair_name, product_id}
+use Rattle.sgb_ops.specs.inner.Compounds.{pair_name, product_id}
 use Rattle.sgb_ops.specs.declared.products.ProductType.{ProductType}
 
 -- it has one vertex for each pair, not more than a graph can have, and its arcs use no utility fields

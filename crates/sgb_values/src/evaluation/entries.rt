@@ -5,7 +5,7 @@
 ghost use Rattle.std.specs.Prelude.{◌≡◌, map, IfOk, IsOkUnless};
 ghost use Rattle.sgb_values.specs.Values.{numbered_entry};
 ghost use Rattle.sgb_values.specs.inner.EntryValues.{handed_entry};
-ghost use Rattle.sgb_ops.specs.declared.entries.Entry.TheVariants as entry;
+ghost use Rattle.sgb_ops.specs.declared.induced_graphs.entries.Entry.TheVariants as entry;
 
 use sgb_graph::Graph;
 use sgb_ops::Entry;

@@ -4,7 +4,7 @@ use Rattle.std.proofs.lemmas.Result.{err_from_is_err_and}
 use Rattle.sgb_vec.specs.Results.{and_then}
 use Rattle.sgb_graph.specs.Growth.{with_id, with_uu}
 use Rattle.sgb_gen.specs.Boards.{board}
-use Rattle.sgb_ops.specs.inner.Titles.{bi_complete_id}
+use Rattle.sgb_ops.specs.inner.Compounds.{bi_complete_id}
 use Rattle.sgb_ops.specs.Boards.{pair_of_vertices}
 use Rattle.sgb_ops.specs.Induced.{induced_of}
 use Rattle.sgb_ops.specs.inner.Boards.{with_parts}

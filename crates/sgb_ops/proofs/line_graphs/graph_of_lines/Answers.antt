@@ -1,6 +1,6 @@
 use Rattle.std.proofs.Common.{◌∙◌, ap}
 use Rattle.sgb_ops.specs.Lines.{line_events}
-use Rattle.sgb_ops.specs.inner.Titles.{lines_id}
+use Rattle.sgb_ops.specs.inner.Compounds.{lines_id}
 use Rattle.sgb_ops.specs.inner.Lines.{names_of_lines}
 use Rattle.sgb_ops.proofs.Results.{made}
 use Rattle.sgb_ops.proofs.line_graphs.graph_of_lines.Goals as goal
@@ -12,4 +12,4 @@ returns-clause-ok c =
     let lines = c.args.lines.now in
     made d (line_events d lines) (names_of_lines g d lines) c.in_ok-names.names (lines_id g.id d) _ c.in_ok-built.built c.add_line_events.new.built c.set_id.new.self
     c.in_ok-names.ensures.ok c.in_ok-built.ensures.ok c.in_ok-add_line_events.ensures.ok
-    (c.title.ensures ∙ ap (λ id. lines_id id d) c.id.ensures) c.set_id.ensures
+    (c.lines_id.ensures ∙ ap (λ id. lines_id id d) c.id.ensures) c.set_id.ensures

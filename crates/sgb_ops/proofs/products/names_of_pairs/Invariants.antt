@@ -2,7 +2,7 @@ use Rattle.std.proofs.Common.{◌≡◌, ◌++◌, map, drop}
 use Rattle.std.specs.List.{flat_map}
 use Rattle.sgb_graph.specs.Vertices.{names_of}
 use Rattle.sgb_ops.specs.inner.Pairs.{names_of_pairs}
-use Rattle.sgb_ops.specs.inner.Titles.{pair_name}
+use Rattle.sgb_ops.specs.inner.Compounds.{pair_name}
 use Rattle.sgb_ops.proofs.products.names_of_pairs.Given as goal
 
 -- with the names of the pairs of the vertices from x on, they are all

@@ -4,7 +4,7 @@ use Rattle.sgb_graph.specs.Growth.{new_vertex}
 use Rattle.sgb_graph.specs.Sound.{arc_kinds}
 use Rattle.sgb_ops.specs.Product.{product_events}
 use Rattle.sgb_ops.specs.inner.Pairs.{names_of_pairs}
-use Rattle.sgb_ops.specs.inner.Titles.{product_id}
+use Rattle.sgb_ops.specs.inner.Compounds.{product_id}
 use Rattle.sgb_ops.proofs.Pairs.{length-names_of_pairs}
 use Rattle.sgb_ops.proofs.Results.{made}
 use Rattle.sgb_ops.proofs.products.product_of_few.Goals as goal

@@ -8,13 +8,13 @@ use Rattle.sgb_graph.specs.Graphs.{GraphData}
 use Rattle.sgb_graph.specs.Growth.{with_id}
 use Rattle.sgb_graph.specs.Made.{graph_described}
 use Rattle.sgb_gen.specs.Boards.{board}
-use Rattle.sgb_ops.specs.declared.entries.Entry.{Entry}
-use Rattle.sgb_ops.specs.declared.entries.Entry.TheVariants as entry
+use Rattle.sgb_ops.specs.declared.induced_graphs.entries.Entry.{Entry}
+use Rattle.sgb_ops.specs.declared.induced_graphs.entries.Entry.TheVariants as entry
 use Rattle.sgb_ops.specs.Boards.{pair_of_vertices}
 use Rattle.sgb_ops.specs.Induced.{induced_of}
 use Rattle.sgb_ops.specs.Wheel.{accepted_middle, wheel_of}
 use Rattle.sgb_ops.specs.inner.Boards.{rim_of_wheel, with_wheel_id}
-use Rattle.sgb_ops.specs.inner.Titles.{wheel_id}
+use Rattle.sgb_ops.specs.inner.Compounds.{wheel_id}
 use Rattle.sgb_ops.proofs.AnswersOnward.{changed, onward, refused_onward, wheel_made}
 use Rattle.sgb_ops.proofs.wheels.wheel_around.Goals as goal
 

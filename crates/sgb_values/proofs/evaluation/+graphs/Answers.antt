@@ -10,7 +10,7 @@ use Rattle.sgb_expr.specs.Expression.{entries_of, expression_of, Expression, Ent
 use Rattle.sgb_expr.specs.StdinUses.{entries_have_stdin, has_stdin}
 use Rattle.sgb_expr.specs.declared.entries.EntryExpr.{EntryExpr}
 use Rattle.sgb_ops.specs.Induced.{induced_of}
-use Rattle.sgb_ops.specs.declared.entries.Entry.{Entry}
+use Rattle.sgb_ops.specs.declared.induced_graphs.entries.Entry.{Entry}
 use Rattle.sgb_ops.specs.Complement.{complement_of}
 use Rattle.sgb_ops.specs.Gunion.{gunion_of}
 use Rattle.sgb_ops.specs.Intersection.{intersection_of}

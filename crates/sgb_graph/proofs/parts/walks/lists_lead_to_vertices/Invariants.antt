@@ -1,6 +1,5 @@
 use Rattle.std.proofs.Common.{◌≡◌, length, take, true}
-use Rattle.sgb_graph.specs.Sound.{lists_lead_to_vertices}
-use Rattle.sgb_graph.specs.inner.Walks.{MarksLead}
+use Rattle.sgb_graph.specs.inner.Walks.{MarksLead, lists_lead_to_vertices}
 use Rattle.sgb_graph.proofs.parts.walks.lists_lead_to_vertices.Given as goal
 
 -- the lists so far lead to vertices, and so do the ways from marked records

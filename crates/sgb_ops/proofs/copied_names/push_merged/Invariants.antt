@@ -1,8 +1,0 @@
-use Rattle.std.proofs.Common.{◌≡◌, ◌++◌, map}
-use Rattle.std.specs.List.{range_with_len}
-use Rattle.sgb_ops.specs.inner.Titles.{merged_name}
-use Rattle.sgb_ops.proofs.copied_names.push_merged.Given as goal
-
--- the names with the numbers so far
-abbrev pub invariant-loop-k : goal.invariant-loop-k
-invariant-loop-k l = l.names ≡ l.fn.names ++ map merged_name (range_with_len 1 l.k)

@@ -1,0 +1,19 @@
+use Rattle.std.proofs.Common.{rules, arith}
+use Rattle.std.specs.List.{list_any}
+use Rattle.std.proofs.lemmas.List.{drop_all}
+use Rattle.sgb_ops.specs.Entries.{is_unnumbered}
+use Rattle.sgb_ops.proofs.EntryTotals.{unnumbered_left}
+use Rattle.sgb_ops.proofs.induced_graphs.entries.has_unnumbered.Goals as goal
+
+pub returns-then-is_unnumbered : goal.returns-then-is_unnumbered
+returns-then-is_unnumbered c =
+    let left = unnumbered_left c.args.entries.now c.loop-entry.entry-index c.entry-item.result (omega arith) c.entry-item.is in
+    grind (arith, left)
+
+pub loop-entry-preserved : goal.loop-entry-preserved
+loop-entry-preserved c =
+    let left = unnumbered_left c.args.entries.now c.loop-entry.entry-index c.entry-item.result (omega arith) c.entry-item.is in
+    grind (arith, left)
+
+pub returns : goal.returns
+returns c = search (rules, list_any, is_unnumbered, drop_all)

@@ -1,0 +1,18 @@
+use Rattle.std.proofs.Common.{◌++◌, ◌+◌, length, arith}
+use Rattle.sgb_ops.specs.declared.induced_graphs.entries.Entry.TheVariants as entry
+use Rattle.sgb_ops.specs.Entries.{inner_events}
+use Rattle.sgb_ops.specs.inner.Entries.{inner_events_from}
+use Rattle.sgb_ops.specs.inner.Induced.{wanted}
+use Rattle.sgb_ops.proofs.WantedEvents.{wanted_more, events_until, until_more}
+use Rattle.sgb_ops.proofs.induced_graphs.events.push_graph.Goals as goal
+
+pub loop-w-preserved : goal.loop-w-preserved
+loop-w-preserved c =
+    let g = c.args.inner.now in
+    let n = length g.vertices in
+    let w = c.loop-w.w in
+    let self = c.args.flags.self_loops in
+    let events = inner_events_from c.args.flags.directed c.args.start g in
+    wanted_more self c.loop-w.events.items c.push_inner_arcs.new.events.items (events w) (events_until events n (w + 1)) (events_until events n w)
+    (c.args.events.now.items ++ wanted self (inner_events c.args.flags.directed c.args.start (entry.Graph g)))
+    (until_more events n w (omega arith)) c.loop-w.invariant c.in_ok-push_inner_arcs.ensures.ok

@@ -1,0 +1,24 @@
+use Rattle.std.proofs.Common.{rules, ◌<◌, get_or, arith}
+use Rattle.std.proofs.lemmas.List.{drop_more}
+use Rattle.sgb_graph.specs.Growth.{AddsEvents}
+use Rattle.sgb_graph.specs.Graphs.{GraphData}
+use Rattle.sgb_graph.proofs.AddedEvents.{AddsUpTo, up_to-more, up_to-none}
+use Rattle.sgb_ops.specs.Lines.{line_events}
+use Rattle.sgb_ops.specs.inner.Lines.{no_line, events_to}
+use Rattle.sgb_ops.proofs.LineEvents.{events_from}
+use Rattle.sgb_ops.proofs.LineRuns.{ends_read, few_from, run_events}
+use Rattle.sgb_ops.proofs.line_graphs.arcs.add_arcs.Goals as goal
+
+pub add_arcs_to-requires-clause-others : goal.add_arcs_to-requires-clause-others
+add_arcs_to-requires-clause-others c =
+    let lines = c.args.lines.now in
+    let line = get_or lines c.loop-i.i no_line in
+    let below : line.to < c.args.n = (c.requires.within c.loop-i.i no_line c.loop-i-test.true).1 in
+    let end = ends_read c.args.n line.to lines c.in_ok-ends.ends.items c.index-in-loop-i.result.now (omega (arith, below)) c.in_ok-ends.ensures.size c.in_ok-ends.ensures.ends c.index-in-loop-i.ensures in
+    omega (arith, end, few_from line.to lines, c.loop-i.invariant.added.rest.size, c.requires.size)
+
+pub loop-i-init : goal.loop-i-init
+loop-i-init c = search (rules, line_events, GraphData, AddsUpTo, up_to-none)
+
+pub loop-i-preserved : goal.loop-i-preserved
+loop-i-preserved c = search (rules, no_line, ends_read, drop_more, AddsEvents, run_events, up_to-more, events_to, events_from, line_events)

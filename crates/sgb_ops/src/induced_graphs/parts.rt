@@ -1,0 +1,268 @@
+//! The events of an induced graph merged and added part by part (GB_BASIC, induced).
+//!
+//! So no list of all events is made. It is possible where no vertices are merged and no vertex with a graph in its
+//! place has a loop; else all are merged at once (`induced_graphs`).
+ghost use Rattle.std.specs.Prelude.{◌≡◌, ◌<◌, ◌≤◌, ◌+◌, ◌==◌, false, length, map, flat_map, All, OnOk, IfOk, IsOkUnless};
+ghost use Rattle.std.specs.Bool.{OnTrue};
+ghost use Rattle.std.specs.List.{list_any};
+ghost use Rattle.sgb_vec.specs.Limits.{most_vertices};
+ghost use Rattle.sgb_graph.specs.Growth.{AddsEvents, HasPlainArcs, IsKept};
+ghost use Rattle.sgb_ops.specs.declared.induced_graphs.entries.Entry.TheVariants as entry;
+ghost use Rattle.sgb_ops.specs.Entries.{events_within, inner_events, is_unnumbered, merged_count, size_of_entry};
+ghost use Rattle.sgb_ops.specs.Induced.{events_between};
+ghost use Rattle.sgb_ops.specs.Merged.{merged_unless};
+ghost use Rattle.sgb_ops.specs.Taken.{taken};
+ghost use Rattle.sgb_ops.specs.inner.Copies.{IsKeptEntry, sized};
+ghost use Rattle.sgb_ops.specs.inner.Ends.{AllWithin};
+ghost use Rattle.sgb_ops.specs.inner.Parts.{AreInParts, has_loop_inside, has_loops_inside};
+ghost use Rattle.sgb_ops.specs.inner.Entries.{inner_events_from, total_of};
+ghost use Rattle.sgb_ops.specs.inner.Induced.{events_of_arc, events_of_copies, wanted};
+
+use super::entries::{Copies, Entry};
+use super::events::{Flags, arcs_to_copies, push_from_copy, push_inner_arcs};
+use crate::events::{Event, add_events};
+use crate::merged::merged_unless;
+use crate::taken::taken;
+use sgb_graph::{Graph, Link};
+use sgb_vec::Panic;
+use std::alloc::Global;
+
+/// Whether none of the entries, which make so many merged vertices, merges any, and no vertex with a graph in its place has a loop. Then events from different copies
+/// never have the same ends, nor has one inside a graph the ends of one between copies.
+pub(super) fn are_in_parts(graph: &Graph, entries: &[Entry], merged: u32, directed: bool) -> bool
+    requires count { length entries.now ≡ length graph.now.vertices }
+    requires merged { merged ≡ merged_count entries.now }
+    ensures { OnTrue result (AreInParts graph.now entries.now directed) }
+{
+    merged == 0 && !has_loops_inside(graph, entries, directed)
+}
+
+// Whether a vertex with a graph in its place has a loop.
+fn has_loops_inside(graph: &Graph, entries: &[Entry], directed: bool) -> bool
+    requires { length entries.now ≡ length graph.now.vertices }
+    ensures { result ≡ has_loops_inside graph.now entries.now directed }
+{
+    for v in 0..graph.n() {
+        if has_loop_inside(graph, &entries[v as usize], directed, v) {
+            return true;
+        }
+    }
+    false
+}
+
+// Whether vertex `v` has a graph in its place, by this entry, and a loop.
+fn has_loop_inside(graph: &Graph, entry: &Entry, directed: bool, v: u32) -> bool
+    requires { v < length graph.now.vertices }
+    ensures { result ≡ has_loop_inside graph.now directed v entry.now }
+{
+    match entry {
+        Entry::Graph(_) => has_loop(graph, directed, v),
+        Entry::Copies(_) | Entry::Merged(_) => false,
+    }
+}
+
+// Whether an arc taken of vertex `v` is a loop.
+fn has_loop(graph: &Graph, directed: bool, v: u32) -> bool
+    requires { v < length graph.now.vertices }
+    ensures { result ≡ list_any (λ l. l.tip == v) (taken directed graph.now v) }
+{
+    for arc in taken(graph, directed, v) {
+        if arc.tip == v {
+            return true;
+        }
+    }
+    false
+}
+
+/// Adds the events inside the `n` entries, of which these are the copies: those of each vertex of a graph that is put in are
+/// merged by themselves.
+///
+/// `NoRoom` when out of memory, and nothing else.
+pub(super) fn add_events_within(
+    built: &mut Graph,
+    alloc: Global,
+    n: u32,
+    entries: &[Entry],
+    copies: &Copies,
+    flags: Flags,
+) -> Result<(), Panic>
+    requires count { length entries.now ≡ n }
+    requires copies { copies.now ≡ map sized entries.now }
+    requires few { total_of entries.now ≤ most_vertices }
+    requires kept { All IsKeptEntry entries.now }
+    requires size { length built.old.vertices ≡ total_of entries.now }
+    requires plain { HasPlainArcs built.old }
+    ensures ok { OnOk result (AddsEvents flags.directed built.old built.new
+        (merged_unless flags.multi flags.directed
+        (wanted flags.self_loops (events_within entries.now flags.directed)))) }
+    ensures memory { IsOkUnless result Panic.NoRoom }
+{
+    for v in 0..n {
+        let start = copies.own_start(v);
+        add_inner_events(built, alloc, &entries[v as usize], start, flags)?;
+    }
+    Ok(())
+}
+
+// Adds the events inside an entry whose first vertex is `start`.
+fn add_inner_events(
+    built: &mut Graph,
+    alloc: Global,
+    entry: &Entry,
+    start: u32,
+    flags: Flags,
+) -> Result<(), Panic>
+    requires few { start + size_of_entry entry.now ≤ length built.old.vertices }
+    requires small { length built.old.vertices ≤ most_vertices }
+    requires kept { IsKeptEntry entry.now }
+    requires plain { HasPlainArcs built.old }
+    ensures ok { OnOk result (AddsEvents flags.directed built.old built.new
+        (merged_unless flags.multi flags.directed
+        (wanted flags.self_loops (inner_events flags.directed start entry.now)))) }
+    ensures memory { IsOkUnless result Panic.NoRoom }
+{
+    match entry {
+        Entry::Graph(inner) => add_graph(built, alloc, inner, start, flags),
+        Entry::Copies(_) | Entry::Merged(_) => Ok(()),
+    }
+}
+
+// Adds the events of a graph whose first vertex is `start`.
+fn add_graph(
+    built: &mut Graph,
+    alloc: Global,
+    inner: &Graph,
+    start: u32,
+    flags: Flags,
+) -> Result<(), Panic>
+    requires few { start + length inner.now.vertices ≤ length built.old.vertices }
+    requires small { length built.old.vertices ≤ most_vertices }
+    requires kept { IsKept inner.now }
+    requires plain { HasPlainArcs built.old }
+    ensures ok { OnOk result (AddsEvents flags.directed built.old built.new
+        (merged_unless flags.multi flags.directed
+        (wanted flags.self_loops (inner_events flags.directed start (entry.Graph inner.now))))) }
+    ensures memory { IsOkUnless result Panic.NoRoom }
+{
+    // The events of each vertex take the memory of those of the vertex before.
+    let mut room = Vec::new(alloc);
+    for w in 0..inner.n() {
+        inner.read_ahead(w);
+        let part = events_inside(room, inner, start, flags, w)?;
+        room = add_part(built, alloc, part, flags)?;
+    }
+    Ok(())
+}
+
+// The events of the arcs of its vertex `w`. They take the memory of those in `events`.
+fn events_inside(
+    mut events: Vec<Event>,
+    inner: &Graph,
+    start: u32,
+    flags: Flags,
+    w: u32,
+) -> Result<Vec<Event>, Panic>
+    requires few { start + length inner.now.vertices ≤ most_vertices }
+    requires vertex { w < length inner.now.vertices }
+    ensures ok { IfOk result (λ part. part.items
+        ≡ wanted flags.self_loops (inner_events_from flags.directed start inner.now w)) }
+    ensures memory { IsOkUnless result Panic.NoRoom }
+{
+    events.clear();
+    push_inner_arcs(&mut events, inner, start, flags, w)?;
+    Ok(events)
+}
+
+// Adds these events, merged by themselves. Their memory is handed back.
+fn add_part(
+    built: &mut Graph,
+    alloc: Global,
+    part: Vec<Event>,
+    flags: Flags,
+) -> Result<Vec<Event>, Panic>
+    requires within { AllWithin (length built.old.vertices) part.items }
+    requires plain { HasPlainArcs built.old }
+    ensures ok { OnOk result (AddsEvents flags.directed built.old built.new
+        (merged_unless flags.multi flags.directed part.items)) }
+    ensures memory { IsOkUnless result Panic.NoRoom }
+{
+    let events = merged_unless(alloc, flags.multi, flags.directed, part)?;
+    add_events(built, flags.directed, &events)?;
+    Ok(events)
+}
+
+/// Adds the events between copies: those of each copy are merged by themselves.
+///
+/// `NoRoom` when out of memory, and nothing else.
+pub(super) fn add_events_between(
+    built: &mut Graph,
+    alloc: Global,
+    graph: &Graph,
+    copies: &Copies,
+    flags: Flags,
+) -> Result<(), Panic>
+    requires count { length copies.now ≡ length graph.now.vertices }
+    requires numbered { list_any is_unnumbered copies.now ≡ false }
+    requires own { merged_count copies.now ≡ 0 }
+    requires size { length built.old.vertices ≡ total_of copies.now }
+    requires plain { HasPlainArcs built.old }
+    ensures ok { OnOk result (AddsEvents flags.directed built.old built.new
+        (merged_unless flags.multi flags.directed
+        (wanted flags.self_loops (events_between graph.now copies.now flags.directed)))) }
+    ensures memory { IsOkUnless result Panic.NoRoom }
+{
+    for v in 0..graph.n() {
+        graph.read_ahead(v);
+        add_from_copies(built, alloc, graph, copies, flags, v)?;
+    }
+    Ok(())
+}
+
+// Adds those from the copies of vertex `v`.
+fn add_from_copies(
+    built: &mut Graph,
+    alloc: Global,
+    graph: &Graph,
+    copies: &Copies,
+    flags: Flags,
+    v: u32,
+) -> Result<(), Panic>
+    requires count { length copies.now ≡ length graph.now.vertices }
+    requires vertex { v < length graph.now.vertices }
+    requires numbered { list_any is_unnumbered copies.now ≡ false }
+    requires own { merged_count copies.now ≡ 0 }
+    requires size { length built.old.vertices ≡ total_of copies.now }
+    requires plain { HasPlainArcs built.old }
+    ensures ok { OnOk result (AddsEvents flags.directed built.old built.new
+        (merged_unless flags.multi flags.directed
+        (wanted flags.self_loops (events_of_copies graph.now copies.now flags.directed v)))) }
+    ensures memory { IsOkUnless result Panic.NoRoom }
+{
+    let arcs = arcs_to_copies(alloc, graph, copies, flags.directed, v)?;
+    // The events of each copy take the memory of those of the copy before.
+    let mut room = Vec::new(alloc);
+    for u in copies.start(v)..copies.end(v) {
+        let part = events_from_copy(room, copies, &arcs, flags, v, u)?;
+        room = add_part(built, alloc, part, flags)?;
+    }
+    Ok(())
+}
+
+// The events from copy `u` of vertex `v` for these arcs from `v`. They take the memory of those in `events`.
+fn events_from_copy(
+    mut events: Vec<Event>,
+    copies: &Copies,
+    arcs: &[Link],
+    flags: Flags,
+    v: u32,
+    u: u32,
+) -> Result<Vec<Event>, Panic>
+    requires { All (λ l. l.tip < length copies.now) arcs.now }
+    ensures ok { IfOk result (λ part. part.items ≡ wanted flags.self_loops
+        (flat_map (events_of_arc copies.now flags.directed v u) arcs.now)) }
+    ensures memory { IsOkUnless result Panic.NoRoom }
+{
+    events.clear();
+    push_from_copy(&mut events, copies, arcs, flags, v, u)?;
+    Ok(events)
+}
