@@ -16,7 +16,12 @@ use sgb_vec::Panic;
 use std::alloc::Global;
 
 // Adds the arcs of the line graph: from each line those to the lines that begin where it ends, which are one run.
-pub(super) fn add_arcs(built: &mut Graph, alloc: Global, n: u32, lines: &[Line]) -> Result<(), Panic>
+pub(super) fn add_arcs(
+    built: &mut Graph,
+    alloc: Global,
+    n: u32,
+    lines: &[Line],
+) -> Result<(), Panic>
     requires size { length built.old.vertices ≡ length lines.now }
     requires plain { HasPlainArcs built.old }
     requires few { length lines.now ≤ most_vertices }

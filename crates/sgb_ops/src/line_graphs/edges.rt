@@ -12,7 +12,12 @@ use sgb_vec::Panic;
 use std::alloc::Global;
 
 // Adds the edges of the line graph: from each line those to the earlier lines that it meets.
-pub(super) fn add_edges(built: &mut Graph, alloc: Global, n: u32, lines: &[Line]) -> Result<(), Panic>
+pub(super) fn add_edges(
+    built: &mut Graph,
+    alloc: Global,
+    n: u32,
+    lines: &[Line],
+) -> Result<(), Panic>
     requires size { length built.old.vertices ≡ length lines.now }
     requires plain { HasPlainArcs built.old }
     requires few { length lines.now ≤ most_vertices }

@@ -28,7 +28,11 @@ const MOST_LINE_START: usize = 2_046;
 const MOST_LINE_END: usize = 2_047;
 
 // The lines, from the last vertex down.
-pub(super) fn lines_of_graph(alloc: Global, graph: &Graph, directed: bool) -> Result<Vec<Line>, Panic>
+pub(super) fn lines_of_graph(
+    alloc: Global,
+    graph: &Graph,
+    directed: bool,
+) -> Result<Vec<Line>, Panic>
     ensures ok { IfOk result (λ lines. lines.items ≡ lines_of_graph graph.now directed) }
     ensures within { IfOk result (λ lines. All (LineWithin (length graph.now.vertices))
         lines.items) }

@@ -12,4 +12,4 @@ returns c =
     let h = c.args.second.now in
     made c.args.directed (merged_unless c.args.multi c.args.directed (union_events g h c.args.directed)) (names_of g) c.in_ok-names.names (gunion_id g.id h.id c.args.multi c.args.directed) _ c.in_ok-built.built c.add_union_events.new.built c.set_id.new.self
     c.in_ok-names.ensures.ok c.in_ok-built.ensures.ok c.in_ok-add_union_events.ensures.ok
-    (c.union_id.ensures ∙ (ap (λ i. gunion_id i c.id-2.result.now c.args.multi c.args.directed) c.id.ensures ∙ ap (λ i. gunion_id g.id i c.args.multi c.args.directed) c.id-2.ensures)) c.set_id.ensures
+    (c.gunion_id.ensures ∙ (ap (λ i. gunion_id i c.id-2.result.now c.args.multi c.args.directed) c.id.ensures ∙ ap (λ i. gunion_id g.id i c.args.multi c.args.directed) c.id-2.ensures)) c.set_id.ensures
