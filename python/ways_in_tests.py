@@ -1,4 +1,4 @@
-"""Tests of the ways in: from_edges, from_csr, from_networkx, from_scipy. python/tests.py runs them with the others."""
+"""Tests of the ways in: from_edges, from_csr, from_networkx, from_igraph, from_scipy. python/tests.py runs them with the others."""
 
 import random
 import unittest
@@ -182,6 +182,34 @@ class Networkx(unittest.TestCase):
         with self.assertRaisesRegex(ValueError, "printable ASCII"):
             sgb.from_networkx(networkx.Graph([(0, 'a"b')]))
         self.assertEqual(sgb.from_networkx(networkx.Graph([(0, 1, {"far": 5})]), weight="far").lengths.tolist(), [5, 5])
+
+
+class Igraph(unittest.TestCase):
+    @classmethod
+    def setUpClass(cls):
+        try:
+            import igraph
+        except ImportError:
+            raise unittest.SkipTest("without igraph") from None
+        cls.igraph = igraph
+
+    def test_there_and_back(self):
+        for text in ("petersen()", "board(3,4,0,0,-1,0,0)", "circuit(1)", "empty(3)", "board(3,0,0,0,-1,1,0)"):
+            graph = sgb.graph(text)
+            seen = sgb.from_igraph(graph.to_igraph(undirected=True))
+            self.assertEqual((seen.names(), sorted(seen.edges())), (graph.names(), sorted(graph.edges())))
+        for text in ("transitive(6)", "board(3,4,0,0,1,0,1)", "petersen()"):
+            graph = sgb.graph(text)
+            self.assertEqual(list(sgb.from_igraph(graph.to_igraph()).arcs()), list(graph.arcs()))
+        bare = self.igraph.Graph(n=3, edges=[(0, 2), (1, 1)])
+        self.assertEqual(sgb.from_igraph(bare).edges(), [(0, 2, 1), (1, 1, 1)])
+        self.assertEqual(sgb.from_igraph(bare).names(), ["0", "1", "2"])
+
+    def test_refused(self):
+        with self.assertRaisesRegex(ValueError, "the length of an arc"):
+            sgb.from_igraph(self.igraph.Graph(n=2, edges=[(0, 1)], edge_attrs={"weight": [1.5]}))
+        far = self.igraph.Graph(n=2, edges=[(0, 1)], edge_attrs={"far": [5]})
+        self.assertEqual(sgb.from_igraph(far, weight="far").lengths.tolist(), [5, 5])
 
 
 class Scipy(unittest.TestCase):

@@ -16,8 +16,8 @@ A generator's graph is not built, so it may be greater than any memory. Its list
     for rows in g.chunks(65536):
         rows.first, rows.n, rows.starts, rows.tips, rows.lengths
 
-Graphs of one's own come in by `from_edges`, `from_csr`, `from_networkx`, `from_scipy`, or as a .gb file, which the
-expression `stdin` stands for:
+Graphs of one's own come in by `from_edges`, `from_csr`, `from_networkx`, `from_igraph`, `from_scipy`, or as a .gb file,
+which the expression `stdin` stands for:
 
     sgb.graph("lines(stdin,0)", "own.gb")
     sgb.graph("lines(stdin,0)", sgb.from_edges([(0, 1), (1, 2), (2, 0)]))
@@ -45,14 +45,16 @@ from . import _library
 from ._graph import Graph
 from ._library import GraphError
 from ._rows import Rows
-from ._ways_in import from_csr, from_edges, from_networkx, from_scipy
+from ._ways_in import from_csr, from_edges, from_igraph, from_networkx, from_scipy
 
 if TYPE_CHECKING:
     import numpy
     from numpy.typing import NDArray
 
 __version__ = "1.0.0"
-__all__ = ["Graph", "GraphError", "Rows", "flip", "from_csr", "from_edges", "from_networkx", "from_scipy", "graph"]
+__all__ = [
+    "Graph", "GraphError", "Rows", "flip", "from_csr", "from_edges", "from_igraph", "from_networkx", "from_scipy", "graph",
+]
 
 
 def _show(*ones: Any) -> None:
@@ -63,7 +65,7 @@ def _show(*ones: Any) -> None:
                 part.__module__ = __name__
 
 
-_show(Graph, GraphError, Rows, from_csr, from_edges, from_networkx, from_scipy)
+_show(Graph, GraphError, Rows, from_csr, from_edges, from_igraph, from_networkx, from_scipy)
 
 
 def graph(text: str, input: Any = None) -> Graph:  # noqa: A002 (the expression `stdin` is this input)

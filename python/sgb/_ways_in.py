@@ -9,6 +9,7 @@ from . import _files
 from ._graph import Graph
 
 if TYPE_CHECKING:
+    import igraph
     import networkx
 
 
@@ -157,6 +158,35 @@ def from_networkx(graph: networkx.Graph, weight: str = "weight", id: Optional[st
     place = {node: v for v, node in enumerate(graph)}
     edges = ((place[u], place[v], length) for u, v, length in graph.edges(data=weight, default=1))
     return from_edges(edges, len(place), [str(node) for node in place], graph.is_directed(), id)
+
+
+def from_igraph(graph: igraph.Graph, weight: str = "weight", id: Optional[str] = None) -> Graph:  # noqa: A002
+    """A graph of igraph.
+
+    Parameters
+    ----------
+    graph : igraph.Graph
+        Its vertices are the vertices, with the names that the attribute `name` has, if there is one.
+    weight : str
+        The attribute of an edge that is its length, 1 where there is none.
+    id : str
+        As for `from_edges`. The name that the graph has in igraph is not taken for an official name.
+
+    Returns
+    -------
+    Graph
+        Its arcs or edges are in the order of `graph.es`, those of each list too.
+
+    Raises
+    ------
+    ValueError
+        As `from_edges`.
+    """
+    ends = graph.get_edgelist()
+    lengths = graph.es[weight] if weight in graph.es.attributes() else [1] * len(ends)
+    names = [str(name) for name in graph.vs["name"]] if "name" in graph.vs.attributes() else None
+    edges = ((v, tip, length) for (v, tip), length in zip(ends, lengths))
+    return from_edges(edges, graph.vcount(), names, graph.is_directed(), id)
 
 
 def from_scipy(matrix: Any, names: Optional[Sequence[str]] = None, directed: bool = True,
