@@ -1,6 +1,6 @@
 -- The graph that a text names, or why there is none.
 use Rattle.std.proofs.Common.{◌≡◌, ◌⊎◌, ◌∙◌, ℕ, List, false, Option, None, Some, is_some, IfErr, Result, Ok, Err, refl, ap, sym, subst, inl, inr}
-use Rattle.std.specs.Prelude.{IfOk}
+use Rattle.std.specs.Prelude.{IfOk, IsSomeAnd, true}
 use Rattle.std.specs.Option.{option_map}
 use Rattle.sgb_vec.specs.Results.{IsValue}
 use Rattle.sgb_vec.specs.declared.panics.Panic.{Panic}
@@ -120,3 +120,25 @@ pub unopened : {T : Type 0} (shown : T → GraphData) (text input : List ℕ) (h
     → number ≡ number_of why → IsGraphNamed text input (Err why) → IsOpened text input (option_map shown held) (option_map shown held) number
 unopened shown text input None why number none told refused = inr ((why, told, refused), refl)
 unopened shown text input (Some h) why number none told refused = absurd cc
+
+-- a handle of no graph holds none that is not built, and one that is open holds a graph
+pub none_listed : {T V : Type 0} (shown : T → OpenGraph) (held : Option T) → option_map (λ h. graph_open (shown h)) held ≡ None → IsSomeAnd held (λ h. IsListed (shown h)) → V
+none_listed shown None none listed = absurd listed
+none_listed shown (Some h) none listed = absurd cc
+
+pub open_some : {T V : Type 0} (shown : T → GraphData) (held : Option T) → is_some held ≡ true → option_map shown held ≡ None → V
+open_some shown None open none = absurd cc
+open_some shown (Some h) open none = absurd cc
+
+-- the number of a refusal
+pub refusal_told : {T : Type 0} (a b : Answer) (number : ℕ) → number ≡ number_of a → Err {T} a ≡ Err b → number ≡ number_of b
+refusal_told a b number told is =
+    let same : a ≡ b = cc in
+    told ∙ ap number_of same
+
+pub either_told : {T : Type 0} (a b d : Answer) (number : ℕ) → number ≡ number_of a → (Err {T} a ≡ Err b) ⊎ (Err {T} a ≡ Err d) → (number ≡ number_of b) ⊎ (number ≡ number_of d)
+either_told a b d number told (inl is) = inl (refusal_told a b number told is)
+either_told a b d number told (inr is) = inr (refusal_told a d number told is)
+
+pub no_refusal : {T U V : Type 0} (x : T) (a : U) → Ok x ≡ Err a → V
+no_refusal x a is = absurd cc
