@@ -5,6 +5,8 @@ pub mod PutValues
 pub mod PartsLeft
 -- runs, one vertex more
 pub mod RunSteps
+-- arcs put by strides
+pub mod StridePuts
 -- arrays of a run, copied to others of their lengths
 pub mod CopiedRuns
 -- runs of a generator's graph
