@@ -1,10 +1,11 @@
 -- Where the moves by a displacement lead among the vectors of a box: equal strides on, where no side is crossed that wraps around.
-use Rattle.std.proofs.Common.{◌≡◌, ◌∙◌, ◌&&◌, ℕ, nat_abs, get_or, zero, suc, ◌+◌, ◌-◌, ◌*◌, ◌/◌, ◌%◌, ◌^◌, ◌<◌, ◌≤◌, ℤ, pos, negsuc, neg_ℤ, ◌+ℤ◌, ◌*ℤ◌, Bool, true, false, cond, List, [], ◌∷◌, ◌++◌, length, map, reverse, take, Some, None, refl, sym, ap, ap₂, subst, arith, true≢false}
-use Rattle.std.specs.Prelude.{◌||◌, ◌==◌, Option}
+use borrow.Author.Differences.{down, neg_is, up}
+use Rattle.std.proofs.Common.{◌≡◌, ◌∙◌, ◌&&◌, ℕ, nat_abs, get_or, zero, suc, ◌+◌, ◌-◌, ◌*◌, ◌/◌, ◌%◌, ◌^◌, ◌<◌, ◌≤◌, ℤ, pos, negsuc, neg_ℤ, ◌+ℤ◌, ◌*ℤ◌, Bool, true, false, cond, List, [], ◌∷◌, ◌++◌, length, map, reverse, take, drop, Some, None, refl, sym, ap, ap₂, subst, arith, true≢false}
+use Rattle.std.specs.Prelude.{◌||◌, ◌==◌, IfSome, Option}
 use Rattle.std.specs.Bool.{OnTrue}
 use Rattle.std.specs.List.{All, Contains, flat_map, range_with_len, slice_get}
 use Rattle.std.proofs.lemmas.Int.{ints}
-use Rattle.std.proofs.lemmas.List.{get_or-map, length-map, map-append, take_all}
+use Rattle.std.proofs.lemmas.List.{at_drop_more, get_or-map, length-map, map-append, take_all, take_more}
 use Rattle.std.proofs.lemmas.Nat.{div_below, pow_pos}
 use Rattle.std.proofs.lemmas.Option.{get_or_from_slice_get, slice_get_within}
 use Rattle.sgb_vec.specs.Boxes.{box, product_of}
@@ -60,7 +61,12 @@ flat_is b n y z flat e = within_is n y z (rw flat at e)
 -- one side more
 one_side : (q p a b n : ℕ) (s u : ℤ) (l : ℕ) → pos q ≡ pos p +ℤ pos l *ℤ s → pos b ≡ pos a +ℤ pos l *ℤ u
     → pos (b * n + q) ≡ pos (a * n + p) +ℤ pos l *ℤ (u *ℤ pos n +ℤ s)
-one_side q p a b n s u l rest first = omega (arith, ints, rest, ap (λ z. z *ℤ pos n) first)
+one_side q p a b n s u l rest first =
+    let c = u *ℤ pos n +ℤ s in
+    let head : b + l * down u ≡ a + l * up u = omega (arith, ints, first) in
+    let tail : q + l * down s ≡ p + l * up s = omega (arith, ints, rest) in
+    let both : up c + down u * n + down s ≡ down c + up u * n + up s = omega (arith, ints) in
+    omega (arith, ints, tail, ap (λ m. m * n) head, ap (λ m. l * m) both)
 
 -- a coordinate in front is some coordinate
 not_empty : (o : Option ℕ) (p : Option (List ℕ)) → in_front o p ≡ Some [] → ⊥
@@ -79,9 +85,13 @@ stride_on k (n ∷ sizes) (a ∷ x) y [] l e = absurd (cc)
 stride_on k (n ∷ sizes) (a ∷ x) [] (u ∷ t) l e =
     absurd (not_empty (coordinate_on (record { size = n; wraps = is_bit_set (pos 0) k }) (pos a +ℤ pos l *ℤ u)) (place (sides_from_bit (k + 1) sizes (pos 0)) x t l) e)
 
+-- one side more of the opposite
+neg_side : (u s r : ℤ) (n : ℕ) → r ≡ neg_ℤ s → neg_ℤ u *ℤ pos n +ℤ r ≡ neg_ℤ (u *ℤ pos n +ℤ s)
+neg_side u s r n is = omega (arith, ints, is, ap (λ m. m * n) (neg_is u).0, ap (λ m. m * n) (neg_is u).1)
+
 -- the opposite leads back by the same stride
 pub stride_back : (sizes : List ℕ) (t : List ℤ) → stride_of sizes (opposite t) ≡ neg_ℤ (stride_of sizes t)
-stride_back (n ∷ sizes) (u ∷ t) = omega (arith, ints, stride_back sizes t)
+stride_back (n ∷ sizes) (u ∷ t) = neg_side u (stride_of sizes t) (stride_of sizes (opposite t)) (product_of sizes) (stride_back sizes t)
 stride_back [] t = refl
 stride_back (n ∷ sizes) [] = refl
 
@@ -90,7 +100,9 @@ on_is : (q p l s : ℕ) (z : ℤ) → pos q ≡ pos p +ℤ pos l *ℤ z → pos 
 on_is q p l s z e is = omega (arith, ints, e, ap (λ w. pos l *ℤ w) is)
 
 back_is : (q p l s : ℕ) (z w : ℤ) → pos q ≡ pos p +ℤ pos l *ℤ w → w ≡ neg_ℤ z → pos s ≡ z → q + l * s ≡ p
-back_is q p l s z w e turned is = omega (arith, ints, e, ap (λ v. pos l *ℤ v) turned, ap (λ v. pos l *ℤ v) is)
+back_is q p l s z w e turned is =
+    let back : pos q ≡ pos p +ℤ pos l *ℤ neg_ℤ (pos s) = e ∙ ap (λ v. pos p +ℤ pos l *ℤ v) (turned ∙ ap neg_ℤ (sym is)) in
+    omega (arith, ints, back, ap (λ m. l * m) (neg_is (pos s)).0, ap (λ m. l * m) (neg_is (pos s)).1)
 
 -- ---- the tips of the arcs by a displacement
 
@@ -249,3 +261,37 @@ said_by_table b x v ts there is =
     ap (arcs_by_all b x) (take_all (length ts) ts (omega arith)) ∙ ap (λ ms. reverse (arcs_onward b.directed x ms)) moves ∙ sym (list_of_board b x member) in
     subst (λ arcs. SayList (box b.sizes) arcs (chain_of (graph_described (described_by (board_vector_graph b))) v)) (sym whole)
     (chain_said (board_vector_graph b) (of_board b).rising (of_board b).ends v x there)
+
+-- ---- a stride, entry by entry
+
+-- one entry more
+entry_more : (places next e rest whole : ℤ) (s n : ℕ) → places *ℤ pos (s * n) +ℤ (e *ℤ pos n +ℤ rest) ≡ whole → next ≡ places *ℤ pos s +ℤ e → next *ℤ pos n +ℤ rest ≡ whole
+entry_more places next e rest whole s n so_far is =
+    let head : up next + down places * s + down e ≡ down next + up places * s + up e = omega (arith, ints, is) in
+    omega (arith, ints, so_far, ap (λ m. m * n) head)
+
+pub stride_more : (sizes : List ℕ) (t : List ℤ) (k : ℕ) (places next : ℤ) → places *ℤ pos (product_of (drop k sizes)) +ℤ stride_of (drop k sizes) (drop k t) ≡ stride_of sizes t
+    → k < length sizes → length t ≡ length sizes → next ≡ places *ℤ pos (get_or sizes k 0) +ℤ get_or t k (pos 0)
+    → next *ℤ pos (product_of (drop (k + 1) sizes)) +ℤ stride_of (drop (k + 1) sizes) (drop (k + 1) t) ≡ stride_of sizes t
+stride_more sizes t k places next so_far within long is =
+    let s = get_or sizes k 0 in
+    let n = product_of (drop (k + 1) sizes) in
+    let product : product_of (drop k sizes) ≡ s * n = at_drop_more product_of sizes k 0 within in
+    let stride : stride_of (drop k sizes) (drop k t) ≡ get_or t k (pos 0) *ℤ pos n +ℤ stride_of (drop (k + 1) sizes) (drop (k + 1) t) =
+    at_drop_more (λ ss. stride_of ss (drop k t)) sizes k 0 within ∙ at_drop_more (stride_of (s ∷ drop (k + 1) sizes)) t k (pos 0) (omega (arith, within, long)) in
+    entry_more places next (get_or t k (pos 0)) (stride_of (drop (k + 1) sizes) (drop (k + 1) t)) (stride_of sizes t) s n
+    (sym (ap₂ (λ m r. places *ℤ pos m +ℤ r) product stride) ∙ so_far) is
+
+-- one displacement more
+pub strides_more : (sizes : List ℕ) (ts : List (List ℤ)) (k : ℕ) (t : List ℤ) (s : ℕ) (now after : List ℕ) → slice_get ts k ≡ Some t → map (λ (n : ℕ). pos n) now ≡ map (stride_of sizes) (take k ts)
+    → pos s ≡ stride_of sizes t → after ≡ now ++ s ∷ [] → map (λ (n : ℕ). pos n) after ≡ map (stride_of sizes) (take (k + 1) ts)
+strides_more sizes ts k t s now after at so_far is put =
+    let more : take (k + 1) ts ≡ take k ts ++ t ∷ [] = take_more ts k t (slice_get_within ts k t at) ∙ ap (λ u. take k ts ++ u ∷ []) (get_or_from_slice_get ts k t t at) in
+    ap (map (λ (n : ℕ). pos n)) put ∙ map-append (λ (n : ℕ). pos n) now (s ∷ []) ∙ ap₂ (λ zs z. zs ++ z ∷ []) so_far is ∙ sym (map-append (stride_of sizes) (take k ts) (t ∷ []))
+    ∙ ap (map (stride_of sizes)) (sym more)
+
+-- a table of displacements that have an entry for each side
+pub table_wide : (sizes own : List ℕ) (left : List (List ℤ)) (r : Option (List (List ℤ))) → length sizes ≡ length own → All (λ t. length t ≡ length own) left → IfSome r (λ d. d ≡ left)
+    → IfSome r (All (λ t. length t ≡ length sizes))
+table_wide sizes own left None same wide is = tt
+table_wide sizes own left (Some d) same wide is = rw (is, same) wide

@@ -4,7 +4,7 @@
 //! from wherever it is made: its stride, a number in the mixed radix of the sizes. It is found once for each displacement.
 //! So the tips of a run of arcs are one sum apart. That holds on a board with no side that wraps around, and of a leaper
 //! from where no side is near. When `strides` has none no clause says, as with `runs`.
-ghost use Rattle.std.specs.Prelude.{◌≡◌, ◌++◌, ◌+◌, ◌-◌, ◌*◌, ◌<◌, ◌≤◌, ◌&&◌, ◌||◌, ℕ, [], length, map, pos, slice_get, All, IfSome, Some};
+ghost use Rattle.std.specs.Prelude.{◌≡◌, ◌++◌, ◌+◌, ◌+ℤ◌, ◌*ℤ◌, ◌-◌, ◌*◌, ◌<◌, ◌≤◌, ◌&&◌, ◌||◌, ℕ, [], length, map, pos, slice_get, All, IfSome, Some};
 ghost use Rattle.std.specs.Bool.{OnTrue};
 ghost use Rattle.sgb_vec.specs.Boxes.{box, product_of};
 ghost use Rattle.sgb_vec.specs.Limits.{most_vertices};
@@ -219,7 +219,16 @@ fn stride_by(sizes: &[u32], t: &[i32]) -> Option<u32>
 {
     let mut places: i64 = 0;
     for (k, size) in sizes.iter().enumerate() {
-        places = places.checked_mul(i64::from(*size))?.checked_add(i64::from(t[k]))?;
+        places = next_place(places, *size, t[k])?;
     }
     u32::try_from(places).ok()
+}
+
+// So many places, one side more: each counts as often as that side has coordinates.
+fn next_place(places: i64, size: u32, entry: i32) -> Option<i64>
+    ensures { IfSome result (λ p. p ≡ places *ℤ pos size +ℤ entry) }
+{
+    places
+        .checked_mul(i64::from(size))?
+        .checked_add(i64::from(entry))
 }
