@@ -94,10 +94,21 @@ fn count_arcs<'a, L: Listed<'a>>(
     for _k in 0..count {
         let x = left.front().unwrap();
         let own = arcs_from(listed, x, links)?;
-        arcs = arcs.checked_add(own).ok_or(Panic::NoRoom)?;
+        arcs = sum_of(arcs, own)?;
         let _some = left.advance();
     }
     Ok(arcs)
+}
+
+// The sum of two numbers of arcs. `NoRoom` where 128 bits do not hold it, which no list has so many arcs for.
+fn sum_of(arcs: u128, more: u128) -> Result<u128, Panic>
+    ensures sum { IfOk result (λ s. s ≡ arcs + more) }
+    ensures memory { IsOkUnless result Panic.NoRoom }
+{
+    let Some(sum) = arcs.checked_add(more) else {
+        return Err(Panic::NoRoom);
+    };
+    Ok(sum)
 }
 
 // The number of the arcs of a vector: by runs where they are had, else by its list.

@@ -49,7 +49,7 @@ loop-k-preserved g c =
     c.in_ok-own.ensures.arcs ∙ ap (λ h. length (list_in h x)) c.loop-k.invariant.same
     ∙ list_length listed (g.L.Members.Family.members c.family.result.now) (g.met.L.Members.Family.rising c.family.result.now) c.family.ensures.members c.family.ensures.ends (first + k) x there in
     record {
-      counted = omega (arith, c.loop-k.invariant.counted, own, ap length (parts_more (chain_of graph) first k), length-append (parts_of (chain_of graph) first k) (chain_of graph (first + k)));
+      counted = omega (arith, c.in_ok-arcs.ensures.sum, c.loop-k.invariant.counted, own, ap length (parts_more (chain_of graph) first k), length-append (parts_of (chain_of graph) first k) (chain_of graph (first + k)));
       left = left_after listed.vectors c.loop-k.left c.advance-some.new.self first k c.loop-k.invariant.left c.advance-some.ensures.rest;
-      same = c.arcs_from-own.ensures.same ∙ c.loop-k.invariant.same;
+      same = c.arcs_from.ensures.same ∙ c.loop-k.invariant.same;
     }

@@ -1,4 +1,4 @@
-use Rattle.std.proofs.Common.{◌≡◌, ◌∙◌, ◌++◌, ◌∷◌, [], ap, map, refl, sym, arith, rules, Contains}
+use Rattle.std.proofs.Common.{ℕ, ◌≡◌, ◌∙◌, ◌++◌, ◌∷◌, [], ap, map, refl, sym, arith, rules, Contains}
 use Rattle.std.specs.Prelude.{Some, slice_get}
 use Rattle.std.proofs.lemmas.Option.{get_or_from_slice_get, slice_get_within}
 use Rattle.sgb_gen.specs.LocalLists.{LocalArc, list_in}
@@ -8,7 +8,8 @@ use Rattle.sgb_arrays.proofs.rows.Rows.push_vertex.Goals as goal
 pub arcs_at-requires : goal.arcs_at-requires
 arcs_at-requires g c =
     let vectors = (g.L.Listed.graph c.args.listed.now).vectors in
-    (c.args.v, slice_get_within vectors c.args.v c.args.x.now c.requires.vertex, get_or_from_slice_get vectors c.args.v c.args.x.now c.args.x.now c.requires.vertex)
+    let member : Contains vectors c.args.x.now = (c.args.v, slice_get_within vectors c.args.v c.args.x.now c.requires.vertex, get_or_from_slice_get vectors c.args.v c.args.x.now c.args.x.now c.requires.vertex) in
+    search rules
 
 pub push_arcs-requires : goal.push_arcs-requires
 push_arcs-requires g c =
