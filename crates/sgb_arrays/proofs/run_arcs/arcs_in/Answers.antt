@@ -18,7 +18,7 @@ count_arcs-requires g c =
     let there : c.args.first + c.args.count ≤ length (g.L.Listed.graph c.args.listed.now).vectors = omega (arith, c.if-not-has_run.ensures.there, ap length c.family.ensures.members) in
     search rules
 
-pub returns-in-Ok-clause-arcs : goal.returns-in-Ok-clause-rows
+pub returns-in-Ok-clause-arcs : goal.returns-in-Ok-clause-arcs
 returns-in-Ok-clause-arcs g c =
     let graph = g.L.Listed.graph c.args.listed.now in
     let members = g.L.Members.Family.members c.family.result.now in

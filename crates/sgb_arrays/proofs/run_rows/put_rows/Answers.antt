@@ -31,19 +31,15 @@ unwrap-x-requires g c =
     let within : c.args.first + c.loop-k.k < length listed.vectors = omega (arith, c.requires) in
     some_front c.front.result c.loop-k.left listed.vectors (c.args.first + c.loop-k.k) c.loop-k.invariant.left within c.front.ensures.none
 
-pub push_vertex-requires-clause-vertex : goal.push_vertex-requires-clause-vertex
-push_vertex-requires-clause-vertex g c =
+pub push_vertex-requires : goal.push_vertex-requires
+push_vertex-requires g c =
     let listed = g.L.Listed.graph c.args.listed.now in
     let there = at_front listed.vectors c.loop-k.left (c.args.first + c.loop-k.k) c.unwrap-x.result.now c.loop-k.invariant.left (rw c.unwrap-x.ensures at c.front.ensures.first) in
-    rw c.loop-k.invariant.same there
-
-pub push_vertex-requires-clause-rising : goal.push_vertex-requires-clause-rising
-push_vertex-requires-clause-rising g c =
-    rw c.loop-k.invariant.same (subst IsRising c.family-family.ensures.members (g.met.L.Members.Family.rising c.family-family.result.now))
-
-pub push_vertex-requires-clause-ends : goal.push_vertex-requires-clause-ends
-push_vertex-requires-clause-ends g c =
-    subst (λ (h : VectorGraph). All (HasEnds h.vectors) h.moves) (sym c.loop-k.invariant.same) c.family-family.ensures.ends
+    record {
+      vertex = rw c.loop-k.invariant.same there;
+      rising = rw c.loop-k.invariant.same (subst IsRising c.family-family.ensures.members (g.met.L.Members.Family.rising c.family-family.result.now));
+      ends = subst (λ (h : VectorGraph). All (HasEnds h.vectors) h.moves) (sym c.loop-k.invariant.same) c.family-family.ensures.ends;
+    }
 
 pub loop-k-preserved : goal.loop-k-preserved
 loop-k-preserved g c =
