@@ -35,11 +35,11 @@ pub push_vertex-requires : goal.push_vertex-requires
 push_vertex-requires g c =
     let listed = g.L.Listed.graph c.args.listed.now in
     let there = at_front listed.vectors c.loop-k.left (c.args.first + c.loop-k.k) c.unwrap-x.result.now c.loop-k.invariant.left (rw c.unwrap-x.ensures at c.front.ensures.first) in
-    record {
-      vertex = rw c.loop-k.invariant.same there;
-      rising = rw c.loop-k.invariant.same (subst IsRising c.family-family.ensures.members (g.met.L.Members.Family.rising c.family-family.result.now));
-      ends = subst (λ (h : VectorGraph). All (HasEnds h.vectors) h.moves) (sym c.loop-k.invariant.same) c.family-family.ensures.ends;
-    }
+    let now = g.L.Listed.graph c.loop-k.listed in
+    let vertex : slice_get now.vectors (c.args.first + c.loop-k.k) ≡ Some c.unwrap-x.result.now = rw c.loop-k.invariant.same there in
+    let rising : IsRising now.vectors = rw c.loop-k.invariant.same (subst IsRising c.family-family.ensures.members (g.met.L.Members.Family.rising c.family-family.result.now)) in
+    let ends : All (HasEnds now.vectors) now.moves = subst (λ (h : VectorGraph). All (HasEnds h.vectors) h.moves) (sym c.loop-k.invariant.same) c.family-family.ensures.ends in
+    search rules
 
 pub loop-k-preserved : goal.loop-k-preserved
 loop-k-preserved g c =
