@@ -31,6 +31,8 @@ mod puts;
 mod refusals;
 // Lists of arcs as arrays.
 mod rows;
+// How many arcs are on the lists of a run of a generator's graph.
+mod run_arcs;
 // The names of a run of a generator's graph.
 mod run_names;
 // The lists of a run of a generator's graph.
@@ -51,5 +53,6 @@ pub use open_graphs::OpenGraph;
 pub use packed::PackedGraph;
 pub use refusals::Wrong;
 pub use rows::Rows;
+pub use run_arcs::arcs_of_run;
 pub use run_names::names_of_run;
 pub use run_rows::rows_of_run;

@@ -30,6 +30,8 @@ pub mod MovedCoordinates
 mod InsideVertices
 -- their lists, by leaps
 mod InsideRuns
+-- where they lead among the vectors: equal strides on
+mod StrideTips
 -- how far the coordinates stay that a displacement moves
 pub mod PartReaches
 -- where a move leads

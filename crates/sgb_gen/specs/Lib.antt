@@ -22,6 +22,8 @@ pub mod LocalLists
 pub mod MovedCoordinates
 -- the list of a board's vertex, run by run
 pub mod Runs
+-- the same, by the vertices where the arcs lead
+pub mod Strides
 -- the short names
 pub mod Shorthands
 -- what only private contracts and proofs speak of

@@ -28,6 +28,8 @@ pub mod Subsets
 pub mod MovedCoordinates
 -- a list that is had run by run
 pub mod StraightLists
+-- how far a displacement leads on among the vectors
+pub mod Strides
 -- lists of one width, one after another
 pub mod Tables
 -- from how many places a piece moves by a displacement, at one length

@@ -34,7 +34,7 @@ mod vector_tables;
 // What is done with a generator's graph, whichever generator it is of.
 mod visits;
 
-pub use accepted::{Board, BoardLists, Run, Runs, Simplex, Subsets, common};
+pub use accepted::{Board, BoardLists, Run, Runs, Simplex, Stride, Strides, Subsets, common};
 pub use generators::{board, simplex, subsets};
 pub use laws::{
     displacements_have_their_norm, moves_stay_on_board, moves_turn_back, riders_stop,

@@ -4,7 +4,8 @@
 //! `BoardLists`, which makes a table only in `prepare`: names, sizes and where a listing begins take no memory. That
 //! moves have their ends among the vectors is a clause of `family` and no law: its proof would have to stand with the
 //! definitions.
-ghost use Rattle.std.specs.Prelude.{◌≡◌, length, All, Contains, IfOk, IfSome, OnOk, IsOkUnless};
+ghost use Rattle.std.specs.Prelude.{◌≡◌, length, map, slice_get, All, Contains, IfOk, IfSome, OnOk, IsOkUnless, Some};
+ghost use Rattle.sgb_graph.specs.Graphs.{chain_of};
 ghost use Rattle.sgb_graph.specs.Made.{graph_described};
 ghost use Rattle.sgb_gen.specs.Boards.{board_vector_graph};
 ghost use Rattle.sgb_gen.specs.LocalLists.{list_in};
@@ -12,7 +13,7 @@ ghost use Rattle.sgb_gen.specs.Simplexes.{simplex_vector_graph};
 ghost use Rattle.sgb_gen.specs.Subsets.{subsets_vector_graph};
 ghost use Rattle.sgb_gen.specs.VectorGraphs.{HasEnds, VectorGraph, described_by, vertex_among};
 
-use crate::accepted::{BoardLists, Runs, Simplex, Subsets};
+use crate::accepted::{BoardLists, Runs, Simplex, Strides, Subsets};
 use crate::links::Links;
 use sgb_graph::Id;
 use sgb_vec::{BoxFamily, Family, Panic, SumFamily};
@@ -64,6 +65,16 @@ pub trait Listed<'a> {
         ensures vector { IfSome result (λ r. r.x ≡ x.now) }
         ensures arcs { IfSome result (λ r. r.arcs ≡ list_in (graph self.now) x.now) };
 
+    /// The list of vertex `v`, which is that of `x`, by the vertices where its arcs lead, where it can be had so: no vector of
+    /// theirs is then made. No memory is taken.
+    fn strides<'b>(&'b self, x: &'b [u32], v: u32) -> Option<Strides<'b>>
+        requires { slice_get (graph self.now).vectors v ≡ Some x.now }
+        ensures vertex { IfSome result (λ s. s.vertex ≡ v) }
+        ensures tips { IfSome result (λ s. s.tips ≡ map (λ l. l.tip)
+            (chain_of (graph_described (described_by (graph self.now))) v)) }
+        ensures lengths { IfSome result (λ s. s.lengths ≡ map (λ l. l.len)
+            (chain_of (graph_described (described_by (graph self.now))) v)) };
+
     /// The vertex of a vector: its place among the vectors, counted from 0. No memory is taken.
     fn place_of(&self, x: &[u32]) -> u32
         requires { Contains (graph self.now).vectors x.now }
@@ -99,6 +110,10 @@ impl<'a> Listed<'a> for BoardLists<'a> {
         BoardLists::runs(self, x)
     }
 
+    fn strides<'b>(&'b self, x: &'b [u32], v: u32) -> Option<Strides<'b>> {
+        BoardLists::strides(self, x, v)
+    }
+
     fn place_of(&self, x: &[u32]) -> u32 {
         self.board.family().place_of(x)
     }
@@ -131,6 +146,10 @@ impl<'a> Listed<'a> for &'a Simplex {
         None
     }
 
+    fn strides<'b>(&'b self, _x: &'b [u32], _v: u32) -> Option<Strides<'b>> {
+        None
+    }
+
     fn place_of(&self, x: &[u32]) -> u32 {
         (**self).family().place_of(x)
     }
@@ -160,6 +179,10 @@ impl<'a> Listed<'a> for &'a Subsets {
     }
 
     fn runs<'b>(&'b self, _x: &'b [u32]) -> Option<Runs<'b>> {
+        None
+    }
+
+    fn strides<'b>(&'b self, _x: &'b [u32], _v: u32) -> Option<Strides<'b>> {
         None
     }
 

@@ -80,6 +80,7 @@ fn times_within(room: u32, step: u32, most: u32) -> u32
 
 /// How many steps from `x` on, by a displacement that moves these coordinates, lead to a place of the board, of `most` at
 /// most.
+#[inline(never)]
 pub(crate) fn reach(sizes: &[u32], wrap: i64, x: &[u32], parts: &[Part], most: u32) -> u32
     requires below { IsBelow x.now sizes.now }
     requires parts { All (λ p. p.0 < length sizes.now) parts.now }

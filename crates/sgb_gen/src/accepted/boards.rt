@@ -14,8 +14,10 @@ ghost use Rattle.sgb_gen.specs.inner.Moves.{destination, longest_move};
 
 mod board_lists;
 mod counts;
+mod edges;
 mod lists;
 mod runs;
+mod strides;
 
 use crate::displacements::Displacements;
 use crate::moves::entry_bounds;
@@ -24,6 +26,7 @@ use crate::steps::{Parts, Step, put_parts_of};
 use crate::vector_graphs::{put_coordinates, vector_names};
 pub use board_lists::BoardLists;
 pub use runs::{Run, Runs};
+pub use strides::{Stride, Strides};
 use sgb_graph::{Graph, Id, IdWriter};
 use sgb_vec::{BoxFamily, Family, Panic, Shape, Vector, Vectors, board_sizes};
 use std::alloc::Global;

@@ -1,15 +1,14 @@
-use Rattle.std.proofs.Common.{◌∙◌, ◌≡◌, ◌<◌, ◌+◌, ◌++◌, ◌∷◌, [], ℕ, ap, refl, length, arith, rules, Contains}
+use Rattle.std.proofs.Common.{◌∙◌, ◌≡◌, ◌<◌, ◌+◌, ◌++◌, ◌∷◌, [], ℕ, ap, refl, length, map, arith, rules, All, Contains, subst, sym}
 use Rattle.std.specs.Prelude.{Some, slice_get}
 use Rattle.std.proofs.lemmas.List.{length-map}
-use Rattle.std.proofs.lemmas.Option.{get_or_from_slice_get, slice_get_within}
+use Rattle.sgb_vec.specs.Lexicographic.{IsRising}
 use Rattle.sgb_graph.specs.Graphs.{chain_of}
 use Rattle.sgb_graph.specs.declared.fields.Link.{Link}
 use Rattle.sgb_graph.specs.Made.{graph_described}
-use Rattle.sgb_gen.specs.LocalLists.{LocalArc, list_in}
-use Rattle.sgb_gen.specs.VectorGraphs.{described_by}
+use Rattle.sgb_gen.specs.VectorGraphs.{HasEnds, VectorGraph, described_by}
 use Rattle.sgb_arrays.specs.Runs.{parts_of, part_starts}
 use Rattle.sgb_arrays.proofs.RunSteps.{start_more, values_more}
-use Rattle.sgb_arrays.proofs.LocalRuns.{left_after, row_said, some_front, tips_contained}
+use Rattle.sgb_arrays.proofs.LocalRuns.{left_after, some_front}
 use Rattle.sgb_gen.proofs.FamilyWalks.{at_front}
 use Rattle.sgb_arrays.proofs.run_rows.put_rows.Goals as goal
 
@@ -19,32 +18,27 @@ loop-k-init g c = record {
   starts = c.in_ok-rows.ensures.starts;
   tips = c.in_ok-rows.ensures.tips;
   lengths = c.in_ok-rows.ensures.lengths;
-  left = grind (arith, c.vectors_from-left.ensures, c.family.ensures.members);
+  left = grind (arith, c.vectors_from-left.ensures, c.family-family.ensures.members);
   same = refl;
 }
 
 pub vectors_from-left-requires : goal.vectors_from-left-requires
-vectors_from-left-requires g c = omega (arith, c.requires, ap length c.family.ensures.members)
+vectors_from-left-requires g c = omega (arith, c.requires, ap length c.family-family.ensures.members)
 
 pub unwrap-x-requires : goal.unwrap-x-requires
 unwrap-x-requires g c =
     let listed = g.L.Listed.graph c.args.listed.now in
-    let within : c.args.first + c.loop-k._k < length listed.vectors = omega (arith, c.requires) in
-    some_front c.front.result c.loop-k.left listed.vectors (c.args.first + c.loop-k._k) c.loop-k.invariant.left within c.front.ensures.none
+    let within : c.args.first + c.loop-k.k < length listed.vectors = omega (arith, c.requires) in
+    some_front c.front.result c.loop-k.left listed.vectors (c.args.first + c.loop-k.k) c.loop-k.invariant.left within c.front.ensures.none
 
-pub arcs_at-requires : goal.arcs_at-requires
-arcs_at-requires g c =
+pub push_vertex-requires : goal.push_vertex-requires
+push_vertex-requires g c =
     let listed = g.L.Listed.graph c.args.listed.now in
-    let place = c.args.first + c.loop-k._k in
-    let x = c.unwrap-x.result.now in
-    let there = at_front listed.vectors c.loop-k.left place x c.loop-k.invariant.left (rw c.unwrap-x.ensures at c.front.ensures.first) in
-    let member : Contains (g.L.Listed.graph c.loop-k.listed).vectors x = rw c.loop-k.invariant.same (place, slice_get_within listed.vectors place x there, get_or_from_slice_get listed.vectors place x x there) in
-    search rules
-
-pub push_arcs-requires : goal.push_arcs-requires
-push_arcs-requires g c =
-    let tips : (k : ℕ) (arc : LocalArc) → slice_get c.arcs_at.new.links.arcs k ≡ Some arc → Contains (g.L.Listed.graph c.arcs_at.new.self).vectors arc.tip =
-    tips_contained (g.L.Listed.graph c.loop-k.listed) (g.L.Listed.graph c.arcs_at.new.self) c.arcs_at.new.links.arcs c.in_ok-arcs_at.ensures.same c.in_ok-arcs_at.ensures.tips in
+    let there = at_front listed.vectors c.loop-k.left (c.args.first + c.loop-k.k) c.unwrap-x.result.now c.loop-k.invariant.left (rw c.unwrap-x.ensures at c.front.ensures.first) in
+    let now = g.L.Listed.graph c.loop-k.listed in
+    let vertex : slice_get now.vectors (c.args.first + c.loop-k.k) ≡ Some c.unwrap-x.result.now = rw c.loop-k.invariant.same there in
+    let rising : IsRising now.vectors = rw c.loop-k.invariant.same (subst IsRising c.family-family.ensures.members (g.met.L.Members.Family.rising c.family-family.result.now)) in
+    let ends : All (HasEnds now.vectors) now.moves = subst (λ (h : VectorGraph). All (HasEnds h.vectors) h.moves) (sym c.loop-k.invariant.same) c.family-family.ensures.ends in
     search rules
 
 pub loop-k-preserved : goal.loop-k-preserved
@@ -52,19 +46,15 @@ loop-k-preserved g c =
     let listed = g.L.Listed.graph c.args.listed.now in
     let graph = graph_described (described_by listed) in
     let first = c.args.first in
-    let k = c.loop-k._k in
-    let x = c.unwrap-x.result.now in
-    let there = at_front listed.vectors c.loop-k.left (first + k) x c.loop-k.invariant.left (rw c.unwrap-x.ensures at c.front.ensures.first) in
-    let same : g.L.Listed.graph c.arcs_at.new.self ≡ listed = c.in_ok-arcs_at.ensures.same ∙ c.loop-k.invariant.same in
-    let arcs : c.arcs_at.new.links.arcs ≡ list_in listed x = c.in_ok-arcs_at.ensures.ok ∙ ap (λ q. list_in q x) c.loop-k.invariant.same in
-    let said = row_said listed (g.L.Listed.graph c.arcs_at.new.self) (g.L.Members.Family.members c.family.result.now) (g.met.L.Members.Family.rising c.family.result.now) c.family.ensures.members c.family.ensures.ends
-    (first + k) x c.arcs_at.new.links.arcs same arcs there in
-    let tips = values_more (λ (r : Link). r.tip) (chain_of graph) first k c.loop-k.rows.tips.items _ c.push_arcs.new.self.tips.items c.loop-k.invariant.tips said.tips c.in_ok-push_arcs.ensures.tips in
-    let lengths = values_more (λ (r : Link). r.len) (chain_of graph) first k c.loop-k.rows.lengths.items _ c.push_arcs.new.self.lengths.items c.loop-k.invariant.lengths said.lengths c.in_ok-push_arcs.ensures.lengths in
+    let k = c.loop-k.k in
+    let same : g.L.Listed.graph c.push_vertex.new.listed ≡ listed = c.push_vertex.ensures.same ∙ c.loop-k.invariant.same in
+    let chain = ap (λ h. chain_of (graph_described (described_by h)) (first + k)) c.loop-k.invariant.same in
+    let tips = values_more (λ (r : Link). r.tip) (chain_of graph) first k c.loop-k.rows.tips.items _ c.push_vertex.new.self.tips.items c.loop-k.invariant.tips (ap (map (λ (r : Link). r.tip)) chain) c.in_ok-push_vertex.ensures.tips in
+    let lengths = values_more (λ (r : Link). r.len) (chain_of graph) first k c.loop-k.rows.lengths.items _ c.push_vertex.new.self.lengths.items c.loop-k.invariant.lengths (ap (map (λ (r : Link). r.len)) chain) c.in_ok-push_vertex.ensures.lengths in
     let size = ap length tips ∙ length-map (parts_of (chain_of graph) first (k + 1)) (λ (r : Link). r.tip) in
     record {
-      starts = start_more (chain_of graph) first k c.loop-k.rows.starts.items c.push_start.new.self.starts.items (length c.push_arcs.new.self.tips.items) c.loop-k.invariant.starts size
-          (c.in_ok-push_start.ensures.starts ∙ ap (λ ss. ss ++ length c.push_arcs.new.self.tips.items ∷ []) c.in_ok-push_arcs.ensures.starts);
+      starts = start_more (chain_of graph) first k c.loop-k.rows.starts.items c.push_start.new.self.starts.items (length c.push_vertex.new.self.tips.items) c.loop-k.invariant.starts size
+          (c.in_ok-push_start.ensures.starts ∙ ap (λ ss. ss ++ length c.push_vertex.new.self.tips.items ∷ []) c.in_ok-push_vertex.ensures.starts);
       tips = c.in_ok-push_start.ensures.tips ∙ tips;
       lengths = c.in_ok-push_start.ensures.lengths ∙ lengths;
       left = left_after listed.vectors c.loop-k.left c.advance-some.new.self first k c.loop-k.invariant.left c.advance-some.ensures.rest;

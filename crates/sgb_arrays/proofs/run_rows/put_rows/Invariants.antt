@@ -11,9 +11,9 @@ invariant-loop-k g l =
     let listed = g.L.Listed.graph l.initial.listed in
     let graph = graph_described (described_by listed) in
     record {
-      starts : l.rows.starts.items ≡ part_starts (chain_of graph) l.first l._k;
-      tips : l.rows.tips.items ≡ map (λ r. r.tip) (parts_of (chain_of graph) l.first l._k);
-      lengths : l.rows.lengths.items ≡ map (λ r. r.len) (parts_of (chain_of graph) l.first l._k);
-      left : l.left ≡ drop (l.first + l._k) listed.vectors;
+      starts : l.rows.starts.items ≡ part_starts (chain_of graph) l.first l.k;
+      tips : l.rows.tips.items ≡ map (λ r. r.tip) (parts_of (chain_of graph) l.first l.k);
+      lengths : l.rows.lengths.items ≡ map (λ r. r.len) (parts_of (chain_of graph) l.first l.k);
+      left : l.left ≡ drop (l.first + l.k) listed.vectors;
       same : g.L.Listed.graph l.listed ≡ listed;
     }

@@ -14,6 +14,7 @@ ghost use Rattle.sgb_gen.specs.inner.LocalBoards.{arcs_onward};
 
 use super::Board;
 use super::runs::{lead_onward, widest_of};
+use super::strides::strides_of;
 use crate::displacement_tables::DisplacementTable;
 use crate::links::Links;
 use sgb_vec::{Family, Panic, Vector};
@@ -32,17 +33,20 @@ pub struct BoardLists<'a> {
     pub(super) leaping: bool,
     // No entry of theirs is greater.
     pub(super) widest: u32,
+    // How many places each of these leads on, where no side is crossed that wraps around.
+    pub(super) strides: Option<Vec<u32>>,
     // Room for a vector.
     there: Vector,
 }
 
 impl<'a> Model for BoardLists<'a> {
-    ghost use Rattle.std.specs.Prelude.{◌≡◌, ◌≤◌, nat_abs, pos, All, IfSome};
+    ghost use Rattle.std.specs.Prelude.{◌≡◌, ◌≤◌, map, nat_abs, pos, All, IfSome};
     ghost use Rattle.std.specs.Bool.{OnTrue};
     ghost use Rattle.sgb_gen.specs.inner.StraightLists.{AreOnward, IsLeaper};
     ghost use Rattle.sgb_gen.specs.Boards.{BoardData};
     ghost use Rattle.sgb_gen.specs.Moves.{sides_of};
     ghost use Rattle.sgb_gen.specs.inner.EntryBounds.{displacements_within, entry_bounds};
+    ghost use Rattle.sgb_gen.specs.inner.Strides.{stride_of};
 
     ghost Value = { BoardData };
 
@@ -54,7 +58,9 @@ impl<'a> Model for BoardLists<'a> {
         × OnTrue b.straight (IfSome b.table (AreOnward b.board.now.wrap))
         × IfSome b.table (All (All (λ e. nat_abs e ≤ b.widest)))
         × OnTrue b.leaping (IsLeaper b.board.now)
-        × OnTrue b.leaping (IfSome b.table (AreOnward (pos 0))) };
+        × OnTrue b.leaping (IfSome b.table (AreOnward (pos 0)))
+        × IfSome b.strides (λ s. IfSome b.table (λ d. map pos s.items
+        ≡ map (stride_of b.board.now.sizes) d)) };
 }
 
 impl Board {
@@ -109,6 +115,7 @@ impl<'a> BoardLists<'a> {
             straight: false,
             leaping: false,
             widest: 0,
+            strides: None,
             there: Vector::new(),
         }
     }
@@ -127,6 +134,7 @@ impl<'a> BoardLists<'a> {
         self.straight = lead_onward(board.wrap, &table);
         self.leaping = board.is_leaping(&table);
         self.widest = widest_of(&table);
+        self.strides = strides_of(links.alloc(), board.sizes(), &table);
         self.table = table;
     }
 

@@ -18,7 +18,7 @@ ghost use Rattle.sgb_gen.specs.LocalLists.{list_at};
 ghost use Rattle.sgb_gen.specs.MovedCoordinates.{part_at, parts_of};
 ghost use Rattle.sgb_gen.specs.Moves.{opposite, place, sides_of};
 ghost use Rattle.sgb_gen.specs.Runs.{AreMoved, arcs_along, arcs_of_run};
-ghost use Rattle.sgb_gen.specs.inner.Moves.{destination};
+ghost use Rattle.sgb_gen.specs.inner.Moves.{destination, longest_move};
 ghost use Rattle.sgb_gen.specs.inner.MovedCoordinates.{IsInside, StayAtOne, parts_stay};
 ghost use Rattle.sgb_gen.specs.inner.StraightLists.{AreOnward, IsLeaper, IsRun, arcs_back, arcs_from};
 
@@ -145,7 +145,7 @@ impl Board {
     }
 
     // Whether each coordinate of `x` has this much room on both sides.
-    fn is_inside(&self, x: &[u32], room: u32) -> bool
+    pub(super) fn is_inside(&self, x: &[u32], room: u32) -> bool
         requires { IsBelow x.now self.now.sizes }
         ensures { OnTrue result (IsInside room self.now.sizes x.now) }
     {
@@ -153,7 +153,7 @@ impl Board {
     }
 
     // The run of `x` by a displacement and its opposite.
-    fn run_by<'b>(&self, x: &[u32], pair: &'b KeptPair, near: bool) -> Run<'b>
+    pub(super) fn run_by<'b>(&self, x: &[u32], pair: &'b KeptPair, near: bool) -> Run<'b>
         requires below { IsBelow x.now self.now.sizes }
         requires dimensions { length pair.now ≡ length self.now.sizes }
         requires run { IsRun self.now x.now pair.now }
@@ -165,6 +165,15 @@ impl Board {
         ensures farthest_back { arcs_back self.now x.now (opposite pair.now) ≡ arcs_along
             self.now.sizes self.now.wrap x.now (parts_of (opposite pair.now))
             result.farthest_back }
+        ensures stay { (l : ℕ) → 0 < l → l ≤ result.farthest
+            → parts_stay self.now.sizes self.now.wrap x.now l (parts_of pair.now) ≡ true }
+        ensures stay_back { (l : ℕ) → 0 < l → l ≤ result.farthest_back
+            → parts_stay self.now.sizes self.now.wrap x.now l (parts_of (opposite pair.now))
+            ≡ true }
+        ensures within { result.farthest
+            ≤ longest_move (sides_of self.now.sizes self.now.wrap) self.now.piece }
+        ensures within_back { result.farthest_back
+            ≤ longest_move (sides_of self.now.sizes self.now.wrap) self.now.piece }
     {
         let ahead = pair.ahead();
         let back = pair.back();
@@ -177,6 +186,7 @@ impl Board {
     }
 
     // How far the moves from `x` by `t` lead, where these never come home.
+    #[inline(always)]
     pub(super) fn farthest(&self, x: &[u32], t: &Step, near: bool) -> u32
         requires below { IsBelow x.now self.now.sizes }
         requires dimensions { length t.now ≡ length self.now.sizes }
@@ -185,8 +195,12 @@ impl Board {
             ≡ place (sides_of self.now.sizes self.now.wrap) x.now t.now l }
         requires near { OnTrue near
             (parts_stay self.now.sizes self.now.wrap x.now 1 (parts_of t.now) ≡ true) }
-        ensures { arcs_from self.now x.now t.now ≡ arcs_along self.now.sizes self.now.wrap x.now
-            (parts_of t.now) result }
+        ensures arcs { arcs_from self.now x.now t.now ≡ arcs_along self.now.sizes self.now.wrap
+            x.now (parts_of t.now) result }
+        ensures stay { (l : ℕ) → 0 < l → l ≤ result
+            → parts_stay self.now.sizes self.now.wrap x.now l (parts_of t.now) ≡ true }
+        ensures within { result
+            ≤ longest_move (sides_of self.now.sizes self.now.wrap) self.now.piece }
     {
         reach_from(
             near,
@@ -207,8 +221,12 @@ impl Board {
             ≡ place (sides_of self.now.sizes self.now.wrap) x.now t.now l }
         requires near { OnTrue near
             (parts_stay self.now.sizes self.now.wrap x.now 1 (parts_of t.now) ≡ true) }
-        ensures { arcs_back self.now x.now t.now ≡ arcs_along self.now.sizes self.now.wrap x.now
-            (parts_of t.now) result }
+        ensures arcs { arcs_back self.now x.now t.now ≡ arcs_along self.now.sizes self.now.wrap
+            x.now (parts_of t.now) result }
+        ensures stay { (l : ℕ) → 0 < l → l ≤ result
+            → parts_stay self.now.sizes self.now.wrap x.now l (parts_of t.now) ≡ true }
+        ensures within { result
+            ≤ longest_move (sides_of self.now.sizes self.now.wrap) self.now.piece }
     {
         if self.directed {
             return 0;

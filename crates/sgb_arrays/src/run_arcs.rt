@@ -1,0 +1,143 @@
+//! How many arcs are on the lists of a run.
+//!
+//! They are counted by runs where these are had, and no list is made; else from list after list in one `Links`.
+ghost use Rattle.std.specs.Prelude.{◌≡◌, ◌+◌, ◌≤◌, length, Contains, IfErr, IfOk, IsOkUnless, ⊤};
+ghost use Rattle.sgb_gen.specs.LocalLists.{list_in};
+ghost use Rattle.sgb_gen.specs.VectorGraphs.{described_by};
+ghost use Rattle.sgb_graph.specs.Graphs.{chain_of};
+ghost use Rattle.sgb_graph.specs.Made.{graph_described};
+ghost use Rattle.sgb_gen.specs.Generators.{described};
+ghost use Rattle.sgb_arrays.specs.Runs.{IsRunRefusal, IsThere, parts_of};
+
+use crate::refusals::Wrong;
+use crate::runs::{has_run, vectors_from};
+use sgb_gen::{Links, Listed, Local, Runs, Visit, Visitor};
+use sgb_vec::Panic;
+use std::alloc::Global;
+
+/// How many arcs are on the lists of `count` vertices of a generator's graph, from vertex `first` on. The graph is not built,
+/// and no list is kept.
+///
+/// `Vertices` where there are not so many vertices; `NoRoom` when out of memory.
+pub fn arcs_of_run(alloc: Global, local: &Local, first: u32, count: u32) -> Result<u128, Wrong>
+    ensures arcs { IfOk result (λ m. IsThere (graph_described (described local.now)) first count
+        × (m ≡ length (parts_of (chain_of (graph_described (described local.now))) first count))) }
+    ensures refused { IfErr result (IsRunRefusal (graph_described (described local.now)) first
+        count) }
+{
+    let mut links = Links::new(alloc);
+    local.visit(ArcsOfRun { first, count }, &mut links)
+}
+
+// The number of the arcs of a run of a generator's graph, counted in links that serve for list after list.
+#[derive(Drop)]
+struct ArcsOfRun {
+    first: u32,
+    count: u32,
+}
+
+impl Visitor<Links> for ArcsOfRun {
+    type Answer = Result<u128, Wrong>;
+
+    ghost needs = { λ _ _ _. ⊤ };
+
+    ghost gives = { λ v g _ _ result.
+        IfOk result (λ m. IsThere (graph_described (described_by g)) v.first v.count
+        × (m ≡ length (parts_of (chain_of (graph_described (described_by g))) v.first v.count)))
+        × IfErr result (IsRunRefusal (graph_described (described_by g)) v.first v.count) };
+}
+
+impl<'a, L: Listed<'a>> Visit<'a, L, Links> for ArcsOfRun {
+    fn visit(self, listed: &mut L, links: &mut Links) -> Result<u128, Wrong> {
+        listed.prepare(links);
+        arcs_in(listed, self.first, self.count, links)
+    }
+}
+
+// The number of the arcs of a run of a graph, by what a listing asks of it.
+fn arcs_in<'a, L: Listed<'a>>(
+    listed: &mut L,
+    first: u32,
+    count: u32,
+    links: &mut Links,
+) -> Result<u128, Wrong>
+    ensures arcs { IfOk result (λ m. IsThere (graph_described (described_by (L.graph
+        listed.old))) first count
+        × (m ≡ length (parts_of (chain_of (graph_described (described_by (L.graph listed.old))))
+        first count))) }
+    ensures refused { IfErr result (IsRunRefusal (graph_described (described_by (L.graph
+        listed.old))) first count) }
+{
+    if !has_run(listed.family(), first, count) {
+        return Err(Wrong::Vertices);
+    }
+    match count_arcs(listed, first, count, links) {
+        Ok(arcs) => Ok(arcs),
+        Err(_) => Err(Wrong::NoRoom),
+    }
+}
+
+// The number of the arcs of a run that is there.
+fn count_arcs<'a, L: Listed<'a>>(
+    listed: &mut L,
+    first: u32,
+    count: u32,
+    links: &mut Links,
+) -> Result<u128, Panic>
+    requires { first + count ≤ length (L.graph listed.old).vectors }
+    ensures arcs { IfOk result (λ m. m ≡ length (parts_of
+        (chain_of (graph_described (described_by (L.graph listed.old)))) first count)) }
+    ensures memory { IsOkUnless result Panic.NoRoom }
+{
+    let mut arcs: u128 = 0;
+    let mut left = vectors_from(listed.family(), first);
+    for _k in 0..count {
+        let x = left.front().unwrap();
+        let own = arcs_from(listed, x, links)?;
+        arcs = sum_of(arcs, own)?;
+        let _some = left.advance();
+    }
+    Ok(arcs)
+}
+
+// The sum of two numbers of arcs. `NoRoom` where 128 bits do not hold it, which no list has so many arcs for.
+fn sum_of(arcs: u128, more: u128) -> Result<u128, Panic>
+    ensures sum { IfOk result (λ s. s ≡ arcs + more) }
+    ensures memory { IsOkUnless result Panic.NoRoom }
+{
+    let Some(sum) = arcs.checked_add(more) else {
+        return Err(Panic::NoRoom);
+    };
+    Ok(sum)
+}
+
+// The number of the arcs of a vector: by runs where they are had, else by its list.
+fn arcs_from<'a, L: Listed<'a>>(
+    listed: &mut L,
+    x: &[u32],
+    links: &mut Links,
+) -> Result<u128, Panic>
+    requires { Contains (L.graph listed.old).vectors x.now }
+    ensures arcs { IfOk result (λ m. m ≡ length (list_in (L.graph listed.old) x.now)) }
+    ensures memory { IsOkUnless result Panic.NoRoom }
+    ensures same { L.graph listed.new ≡ L.graph listed.old }
+{
+    if let Some(runs) = listed.runs(x) {
+        return Ok(arcs_of_runs(runs));
+    }
+    listed.arcs_at(x, links)?;
+    Ok(links.len() as u128)
+}
+
+// The number of the arcs of a list that is had by runs.
+fn arcs_of_runs(runs: Runs<'_>) -> u128
+    ensures { result ≡ length runs.entry.arcs }
+{
+    let mut left = runs;
+    let mut arcs: u128 = 0;
+    for _run in 0..left.len() {
+        let run = left.next_run();
+        arcs += u128::from(run.farthest) + u128::from(run.farthest_back);
+    }
+    arcs
+}
