@@ -7,7 +7,7 @@ use Rattle.sgb_vec.specs.declared.panics.Panic.TheVariants.{NoRoom}
 use Rattle.sgb_graph.specs.Graphs.{GraphData}
 use Rattle.sgb_graph.specs.Made.{graph_described}
 use Rattle.sgb_graph.specs.Vertices.{names_of}
-use Rattle.sgb_file.specs.Devices.{AppendsUnlessFailed}
+use Rattle.sgb_file.specs.Devices.{AppendsUnlessFailed, Change}
 use Rattle.sgb_gen.specs.declared.params.BoardParams.{BoardParams}
 use Rattle.sgb_expr.specs.Expression.{expression_of}
 use Rattle.sgb_expr.specs.declared.expressions.Expr.{Expr}
@@ -28,8 +28,8 @@ use Rattle.sgb_gen.specs.Generators.{IsLocalOf}
 use Rattle.sgb_gen.specs.Generators.{described, generator_value, made}
 use Rattle.sgb_gen.specs.declared.locals.Local.{Local}
 use Rattle.sgb.specs.inner.Certain.{HasListingAtOnce, HasNamesAtOnce}
-use Rattle.sgb.specs.Writing.{IsEndedFrom}
-use Rattle.sgb.proofs.Endings.{change_of, no_line}
+use Rattle.sgb.specs.Writing.{Effect, IsEndedFrom}
+use Rattle.sgb.proofs.Endings.{no_line, nothing_put}
 use Rattle.sgb_values.proofs.FirstRefusals.{first_other, generator_other}
 use Rattle.sgb.proofs.Refusals.{left_out_own}
 use Rattle.sgb.proofs.StdinValues.{answer_unread}
@@ -120,18 +120,18 @@ pub certain_unread : (r : Request) → NeedsNoMemory r → reads_input r ≡ fal
 certain_unread r needs = grind (arith)
 
 -- so the answer is told in a run that reads no input
-pub certain_ok : {T S : Type 0} (reads failed : Bool) (a : Result (List ℕ) Fault) (old new : S) (x : T) (w v e : Option (List ℕ)) (wf ef : Bool)
-    → IsEndedFrom (reads && failed) a (new ≡ old) (change_of w v wf) (Ok x) → reads ≡ false → IsGiven (outcome_of a) (record { old = old; new = new; out = change_of w v wf; err = change_of e e ef; status = 0 })
-certain_ok reads failed a old new x w v e wf ef ended unread = grind (arith, no_line)
+pub certain_ok : {T S : Type 0} (reads failed : Bool) (a : Result (List ℕ) Fault) (out : Effect S) (err : Change) (x : T) → err.after ≡ err.before
+    → IsEndedFrom (reads && failed) a out (Ok x) → reads ≡ false → IsGiven (outcome_of a) (record { out = out; err = err; status = 0 })
+certain_ok reads failed a out err x left ended unread = grind (arith, no_line)
 
-pub certain_err : (T : Type 0) {S : Type 0} (reads failed : Bool) (a : Result (List ℕ) Fault) (old new : S) (f : Fault) (w v e d : Option (List ℕ)) (wf ef : Bool)
-    → IsEndedFrom {T = T} (reads && failed) a (new ≡ old) (change_of w v wf) (Err f) → f ≢ fault.Panic NoRoom → AppendsUnlessFailed (change_of e d ef) (fault_line f)
-    → reads ≡ false → wf ≡ false → IsGiven (outcome_of a) (record { old = old; new = new; out = change_of w v wf; err = change_of e d ef; status = status_of f })
-certain_err T reads failed a old new f w v e d wf ef ended other line unread sound = grind (arith)
+pub certain_err : (T : Type 0) {S : Type 0} (reads failed : Bool) (a : Result (List ℕ) Fault) (f : Fault) (out : Effect S) (err : Change) → AppendsUnlessFailed err (fault_line f)
+    → IsEndedFrom {T = T} (reads && failed) a out (Err f) → f ≢ fault.Panic NoRoom → reads ≡ false → out.told.failed ≡ false
+    → IsGiven (outcome_of a) (record { out = out; err = err; status = status_of f })
+certain_err T reads failed a f out err line ended other unread sound = grind (arith, nothing_put)
 
 -- a request whose answer takes no memory was answered so on each input
 pub certain_run : {S : Type 0} (r : Request) (l : Left S)
-    → (reads_input r ≡ false → NeedsNoMemory r → l.out.failed ≡ false → (stdin : Result GraphData Panic) × IsGiven (outcome_of (answer_of r stdin)) l) → IsCertain r l
+    → (reads_input r ≡ false → NeedsNoMemory r → l.out.told.failed ≡ false → (stdin : Result GraphData Panic) × IsGiven (outcome_of (answer_of r stdin)) l) → IsCertain r l
 certain_run r l given needs sound other =
     let (stdin, is) = given (certain_unread r needs) needs sound in
     rw (answer_unread r other stdin (certain_unread r needs)) is

@@ -1,5 +1,5 @@
 -- Texts written part by part, until a part is cut off.
-use Rattle.std.proofs.Common.{arith, rules, ◌≡◌, ◌≢◌, ◌++◌, Bool, ℕ, List, Option, Result, Ok, Err, IfErr, false}
+use Rattle.std.proofs.Common.{arith, rules, ◌≡◌, ◌≢◌, ◌⊎◌, ◌++◌, inl, Bool, ℕ, List, Option, Result, Ok, Err, IfErr, false}
 use Rattle.std.specs.Result.{IsErrAnd}
 use Rattle.std.proofs.lemmas.Result.{err_from_is_err_and}
 use Rattle.std.specs.Io.KnownBytes.{Appends}
@@ -9,7 +9,7 @@ use Rattle.sgb_file.proofs.WrittenPrefixes.{prefix_more, prefix_none, prefix_aft
 use Rattle.sgb_file.specs.Devices.{Change}
 use Rattle.sgb_vec.specs.declared.panics.Panic.{Panic}
 use Rattle.sgb_vec.specs.declared.panics.Panic.TheVariants.{NoRoom}
-use Rattle.sgb.specs.Writing.{IsWritten, IsCutOff, IsLeftOrBegun}
+use Rattle.sgb.specs.Writing.{IsWritten, IsCutOff}
 use Rattle.sgb_requests.specs.declared.faults.Fault.{Fault}
 use Rattle.sgb_requests.specs.declared.faults.Fault.TheVariants as fault
 
@@ -48,12 +48,14 @@ pub exit_write : {T : Type 0} (r : Result T Fault) (f : Fault) → IsErrAnd r (�
 exit_write r f exit is = grind (arith, err_from_is_err_and)
 
 -- the exit of a `?` where a text was cut off by a write alone
-pub exit_uncut : {T : Type 0} (same : Type 0) (text : List ℕ) (a b : Option (List ℕ)) (r : Result T Fault) (f : Fault) → IsErrAnd r (λ g. g ≡ f) → (f ≢ fault.Write → same)
-    → IfErr r (λ g. g ≢ fault.Write → IsLeftOrBegun same text a b)
-exit_uncut same text a b r f exit left = search (rules, err_from_is_err_and)
+pub exit_uncut : {T S : Type 0} (old new : S) (text : List ℕ) (a b : Option (List ℕ)) (r : Result T Fault) (f : Fault) → IsErrAnd r (λ g. g ≡ f) → (f ≢ fault.Write → new ≡ old)
+    → IfErr r (λ g. g ≢ fault.Write → (new ≡ old) ⊎ ((more : List ℕ) × Appends a b (text ++ more)))
+exit_uncut old new text a b r f exit left =
+    let p = err_from_is_err_and r exit in
+    rw (p.1, p.2) (λ other. inl (left other))
 
 -- after a whole text, the next one is written or cut off
-pub begun_by : {T : Type 0} (same : Type 0) (a b c : Option (List ℕ)) (failed : Bool) (xs ys : List ℕ) (r : Result T Fault) → Appends a b xs
+pub begun_by : {T S : Type 0} (old new : S) (a b c : Option (List ℕ)) (failed : Bool) (xs ys : List ℕ) (r : Result T Fault) → Appends a b xs
     → IsWritten ys (record { before = b; after = c; failed = failed }) r
-    → IfErr r (λ f. f ≢ fault.Write → IsLeftOrBegun same xs a c)
-begun_by same a b c failed xs ys r p q = grind (arith, Appends-trans)
+    → IfErr r (λ f. f ≢ fault.Write → (new ≡ old) ⊎ ((more : List ℕ) × Appends a c (xs ++ more)))
+begun_by old new a b c failed xs ys r p q = grind (arith, Appends-trans)

@@ -1,6 +1,6 @@
 -- What a run leaves, from what answering the request left.
-use Rattle.std.proofs.Common.{arith, rules, ◌≡◌, ℕ, Bool, false, List, [], Option, Result, Ok, Err, IfErr, is_err, ◌+◌, take, None, Some, refl}
-use Rattle.std.specs.Io.KnownBytes.{Keeps}
+use Rattle.std.proofs.Common.{arith, ◌≡◌, ℕ, Bool, true, false, List, [], Option, Result, Ok, Err, IfErr, is_err, ◌+◌, take, None, Some, inl, inr, refl}
+use Rattle.std.specs.Io.KnownBytes.{Appends, Keeps}
 use Rattle.std.proofs.KnownBytes.{Appends-nil}
 use Rattle.std.specs.Result.{IsErrAnd, result_map_both}
 use Rattle.std.proofs.lemmas.Result.{err_from_is_err_and}
@@ -11,17 +11,21 @@ use Rattle.sgb_vec.specs.Results.{IsValue}
 use Rattle.sgb.specs.Outcomes.{answer_from}
 use Rattle.sgb_file.specs.Devices.{AppendsUnlessFailed, Change}
 use Rattle.sgb_requests.specs.Faults.{fault_line, status_of}
-use Rattle.sgb.specs.Runs.{IsRunFrom}
-use Rattle.sgb.specs.Writing.{IsEnded, IsWritten, IsEndedFrom}
+use Rattle.sgb.specs.Runs.{AreUsed, IsRunFrom}
+use Rattle.sgb.specs.Writing.{Effect, IsEnded, IsEndedFrom, IsUntouched, IsWritten}
 use Rattle.sgb_requests.specs.declared.faults.Fault.{Fault}
 use Rattle.sgb_requests.specs.declared.faults.Fault.TheVariants as fault
-use Rattle.sgb_file.proofs.WrittenPrefixes.{prefix_all}
-use Rattle.sgb.specs.Inputs.{IsKeptOfInput, IsReadFault}
+use Rattle.sgb_file.proofs.WrittenPrefixes.{prefix_all, prefix_none}
+use Rattle.sgb.specs.Inputs.{IsReadFault}
 use Rattle.sgb_values.specs.Values.{most_input}
 
 -- the bytes that a sink tells, before and after, and whether it has failed
 abbrev pub change_of : Option (List ℕ) → Option (List ℕ) → Bool → Change
 change_of before after failed = record { before = before; after = after; failed = failed }
+
+-- what was done to a sink
+abbrev pub effect_of : {S : Type 0} → S → S → Change → Effect S
+effect_of old new told = record { old = old; new = new; told = told }
 
 -- an empty line is nothing
 pub no_line : (failed : Bool) (a : Option (List ℕ)) → AppendsUnlessFailed (change_of a a failed) []
@@ -32,67 +36,79 @@ pub fault_status : (f : Fault) → status_of f ≡ 0 → ⊥
 fault_status f e = grind (arith)
 
 -- an answer that was written, once what the sink held back was passed on, or that failed
-pub flush_ended : {T S : Type 0} (a : Result (List ℕ) Fault) (same later : Type 0) (x : T) (w v u : Option (List ℕ)) (before after : Bool) (r : Result S Fault)
-    → IsEnded a same (change_of w v before) (Ok x) → Keeps v u → after ≡ is_err r → IfErr r (λ f. f ≡ fault.Write) → IsEnded a later (change_of w u after) r
-flush_ended a same later x w v u before after r p kept sound fault = grind (arith, prefix_all)
+pub flush_ended : {T R S : Type 0} (a : Result (List ℕ) Fault) (old mid new : S) (x : T) (w v u : Option (List ℕ)) (before after : Bool) (r : Result R Fault)
+    → IsEnded a (effect_of old mid (change_of w v before)) (Ok x) → Keeps v u → after ≡ is_err r → IfErr r (λ f. f ≡ fault.Write) → IsEnded a (effect_of old new (change_of w u after)) r
+flush_ended a old mid new x w v u before after r p kept sound fault = grind (arith, prefix_all)
+
+-- nothing was done to a sink
+pub untouched : {S : Type 0} (s : S) (w : Option (List ℕ)) (failed : Bool) → failed ≡ false → IsUntouched (effect_of s s (change_of w w failed))
+untouched s w failed h = record { same = refl; told = refl; sound = h }
+
+-- so nothing was put
+pub nothing_put : {S : Type 0} (out : Effect S) → IsUntouched out → Appends out.told.before out.told.after []
+nothing_put out is = rw is.told (Appends-nil out.told.before)
 
 -- a refusal before anything was written
-pub refused_at_once : (T : Type 0) (a : Result (List ℕ) Fault) (same : Type 0) (f : Fault) (w : Option (List ℕ)) (failed : Bool) → a ≡ Err f → failed ≡ false → same
-    → IsEnded {T = T} a same (change_of w w failed) (Err f)
-refused_at_once T a same f w failed e h left = search (rules, Appends-nil)
+pub refused_at_once : (T : Type 0) {S : Type 0} (a : Result (List ℕ) Fault) (s : S) (f : Fault) (w : Option (List ℕ)) (failed : Bool) → a ≡ Err f → failed ≡ false
+    → IsEnded {T = T} a (effect_of s s (change_of w w failed)) (Err f)
+refused_at_once T a s f w failed e h = rw e (inl refl, untouched s w failed h)
 
 -- out of memory before anything was written
-pub memory_at_once : (T : Type 0) (a : Result (List ℕ) Fault) (same : Type 0) (w : Option (List ℕ)) (failed : Bool) → failed ≡ false → same
-    → IsEnded {T = T} a same (change_of w w failed) (Err (fault.Panic NoRoom))
-memory_at_once T a same w failed h left = grind (arith, Appends-nil)
+pub memory_at_once : (T : Type 0) {S : Type 0} (a : Result (List ℕ) Fault) (s : S) (w : Option (List ℕ)) (failed : Bool) → failed ≡ false
+    → IsEnded {T = T} a (effect_of s s (change_of w w failed)) (Err (fault.Panic NoRoom))
+memory_at_once T (Ok text) s w failed h = record { output = prefix_none w text; cause = inr (h, refl) }
+memory_at_once T (Err f) s w failed h = (inr refl, untouched s w failed h)
 
 -- the exit of a `?` with the fault that ends the request
-pub exit_ended : {T : Type 0} (a : Result (List ℕ) Fault) (same : Type 0) (out : Change) (r : Result T Fault) (f : Fault) → IsErrAnd r (λ g. g ≡ f)
-    → IsEnded {T = T} a same out (Err f) → IsEnded a same out r
-exit_ended a same out r f exit ended = grind (arith, err_from_is_err_and)
+pub exit_ended : {T S : Type 0} (a : Result (List ℕ) Fault) (out : Effect S) (r : Result T Fault) (f : Fault) → IsErrAnd r (λ g. g ≡ f)
+    → IsEnded {T = T} a out (Err f) → IsEnded a out r
+exit_ended a out r f exit ended = let p = err_from_is_err_and r exit in rw (p.1, p.2) ended
 
 -- an answer that was written or cut off, once it is known where it begins
-pub ended_after : {T : Type 0} (from : Result ℕ Fault) (k : ℕ) (text : ℕ → List ℕ) (same : Type 0) (out : Change) (r : Result T Fault)
-    → Ok k ≡ from → IsWritten (text k) out r → IsEnded (result_map_both text (λ f. f) from) same out r
-ended_after from k text same out r e p = rw (← e) p
+pub ended_after : {T S : Type 0} (from : Result ℕ Fault) (k : ℕ) (text : ℕ → List ℕ) (out : Effect S) (r : Result T Fault)
+    → Ok k ≡ from → IsWritten (text k) out.told r → IsEnded (result_map_both text (λ f. f) from) out r
+ended_after from k text out r e p = rw (← e) p
 
 -- an answer refused because it is not known where it begins
-pub refused_after : (T : Type 0) (from : Result ℕ Fault) (text : ℕ → List ℕ) (same : Type 0) (f : Fault) (w : Option (List ℕ)) (failed : Bool)
-    → Err f ≡ from → failed ≡ false → same → IsEnded {T = T} (result_map_both text (λ f. f) from) same (change_of w w failed) (Err f)
-refused_after T from text same f w failed e h left = grind (arith, Appends-nil)
+pub refused_after : (T : Type 0) {S : Type 0} (from : Result ℕ Fault) (text : ℕ → List ℕ) (s : S) (f : Fault) (w : Option (List ℕ)) (failed : Bool)
+    → Err f ≡ from → failed ≡ false → IsEnded {T = T} (result_map_both text (λ f. f) from) (effect_of s s (change_of w w failed)) (Err f)
+refused_after T from text s f w failed e h = rw (← e) (inl refl, untouched s w failed h)
 
 -- the exit of a `?` with a refusal of the graph that an answer is made of
-pub refused_value : {T : Type 0} (v : Result GraphData Panic) (answer : GraphData → Result (List ℕ) Fault) (same : Type 0) (p : Panic) (r : Result T Fault) (w : Option (List ℕ)) (failed : Bool)
-    → IsErrAnd r (λ f. f ≡ fault.Panic p) → IsValue v (Err p) → failed ≡ false → same → IsEnded (answer_from v answer) same (change_of w w failed) r
-refused_value v answer same p r w failed exit is sound left = grind (arith, err_from_is_err_and, Appends-nil)
+pub refused_value : {T S : Type 0} (v : Result GraphData Panic) (answer : GraphData → Result (List ℕ) Fault) (s : S) (p : Panic) (r : Result T Fault) (w : Option (List ℕ)) (failed : Bool)
+    → IsErrAnd r (λ f. f ≡ fault.Panic p) → IsValue v (Err p) → failed ≡ false → IsEnded (answer_from v answer) (effect_of s s (change_of w w failed)) r
+refused_value v answer s p r w failed exit (inl is) sound = let q = err_from_is_err_and r exit in rw (q.1, q.2, is) (inl refl, untouched s w failed sound)
+refused_value v answer s p r w failed exit (inr is) sound = let q = err_from_is_err_and r exit in rw (q.1, q.2, is) (memory_at_once _ (answer_from v answer) s w failed sound)
 
 -- an answer that is made of the graph of an expression
-pub ended_value : {T : Type 0} (v : Result GraphData Panic) (g : GraphData) (answer : GraphData → Result (List ℕ) Fault) (same : Type 0) (out : Change) (r : Result T Fault)
-    → v ≡ Ok g → IsEnded (answer g) same out r → IsEnded (answer_from v answer) same out r
-ended_value v g answer same out r e p = rw e p
+pub ended_value : {T S : Type 0} (v : Result GraphData Panic) (g : GraphData) (answer : GraphData → Result (List ℕ) Fault) (out : Effect S) (r : Result T Fault)
+    → v ≡ Ok g → IsEnded (answer g) out r → IsEnded (answer_from v answer) out r
+ended_value v g answer out r e p = rw e p
 
--- something is kept
-pub some_kept : (told : Option (List ℕ)) → (kept : List ℕ) × IsKeptOfInput told kept
-some_kept None = ([], tt)
-some_kept (Some bytes) = (take (most_input + 1) bytes, refl)
+-- some bytes count for an answer
+pub some_used : (reads : Bool) (told : Option (List ℕ)) → (used : List ℕ) × AreUsed reads told used
+some_used false told = ([], (λ e. absurd cc, λ _. refl))
+some_used true None = ([], (λ _. tt, λ _. refl))
+some_used true (Some bytes) = (take (most_input + 1) bytes, (λ _. refl, λ e. absurd cc))
 
 -- reading failed before anything was written
-pub read_refused : (T : Type 0) (failed : Bool) (a : Result (List ℕ) Fault) (same : Type 0) (f : Fault) (w : Option (List ℕ)) (unsound : Bool)
-    → IsReadFault failed f → unsound ≡ false → same → IsEndedFrom {T = T} failed a same (change_of w w unsound) (Err f)
-read_refused T failed a same f w unsound h sound left = grind (arith, memory_at_once)
+pub read_refused : (T : Type 0) {S : Type 0} (failed : Bool) (a : Result (List ℕ) Fault) (s : S) (f : Fault) (w : Option (List ℕ)) (unsound : Bool)
+    → IsReadFault failed f → unsound ≡ false → IsEndedFrom {T = T} failed a (effect_of s s (change_of w w unsound)) (Err f)
+read_refused T failed a s f w unsound h sound = grind (arith, memory_at_once)
 
 -- reading ended well
-pub read_sound : {T : Type 0} (failed : Bool) (a : Result (List ℕ) Fault) (same : Type 0) (out : Change) (r : Result T Fault)
-    → failed ≡ false → IsEnded a same out r → IsEndedFrom failed a same out r
-read_sound failed a same out r sound p = rw sound p
+pub read_sound : {T S : Type 0} (failed : Bool) (a : Result (List ℕ) Fault) (out : Effect S) (r : Result T Fault)
+    → failed ≡ false → IsEnded a out r → IsEndedFrom failed a out r
+read_sound failed a out r sound p = rw sound p
 
 -- the request was answered in full
-pub answers_from_ok : {T S : Type 0} (failed : Bool) (a : Result (List ℕ) Fault) (old new : S) (x : T) (w v e : Option (List ℕ)) (wf ef : Bool)
-    → IsEndedFrom failed a (new ≡ old) (change_of w v wf) (Ok x) → IsRunFrom failed a (record { old = old; new = new; out = change_of w v wf; err = change_of e e ef; status = 0 })
-answers_from_ok failed a old new x w v e wf ef p = grind (arith, no_line)
+pub answers_from_ok : {T S : Type 0} (failed : Bool) (a : Result (List ℕ) Fault) (out : Effect S) (err : Change) (x : T)
+    → err.after ≡ err.before → IsEndedFrom failed a out (Ok x) → IsRunFrom failed a (record { out = out; err = err; status = 0 })
+answers_from_ok failed a out err x left p = grind (arith, no_line)
 
 -- the request ended with a fault, and its line was written
-pub answers_from_err : (T : Type 0) {S : Type 0} (failed : Bool) (a : Result (List ℕ) Fault) (old new : S) (f : Fault) (w v e d : Option (List ℕ)) (wf ef : Bool)
-    → IsEndedFrom {T = T} failed a (new ≡ old) (change_of w v wf) (Err f) → AppendsUnlessFailed (change_of e d ef) (fault_line f)
-    → IsRunFrom failed a (record { old = old; new = new; out = change_of w v wf; err = change_of e d ef; status = status_of f })
-answers_from_err T failed a old new f w v e d wf ef p line = grind arith
+pub answers_from_err : (T : Type 0) {S : Type 0} (failed : Bool) (a : Result (List ℕ) Fault) (f : Fault) (out : Effect S) (err : Change)
+    → AppendsUnlessFailed err (fault_line f) → IsEndedFrom {T = T} failed a out (Err f) → IsRunFrom failed a (record { out = out; err = err; status = status_of f })
+answers_from_err T true a f out err line p = grind arith
+answers_from_err T false (Ok text) f out err line p = grind arith
+answers_from_err T false (Err g) f out err line p = grind (arith, nothing_put, prefix_all)

@@ -26,7 +26,7 @@ use Rattle.sgb_expr.specs.declared.expressions.Expr.TheVariants as expr
 use Rattle.sgb_gen.specs.declared.params.Generator.{Generator}
 use Rattle.sgb_gen.specs.declared.params.Generator.TheVariants as generator
 use Rattle.sgb_gen.specs.Generators.{vectors_of}
-use Rattle.sgb.specs.Locals.{family_text, start_after}
+use Rattle.sgb.specs.Locals.{family_text, left_out_after}
 use Rattle.sgb.specs.Outcomes.{answer_of, left_out, outcome_of, queen_moves, reads_input}
 use Rattle.sgb_requests.specs.Faults.{fault_line}
 use Rattle.sgb.specs.Texts.{arc_line, block, blocks, head_text, name_lines}
@@ -129,7 +129,7 @@ abbrev local_ring : Local
 local_ring = local.Board (record { params = pos 2 ∷ pos 2 ∷ pos 0 ∷ pos 0 ∷ []; sizes = 2 ∷ 2 ∷ []; piece = pos 1; wrap = pos 0; directed = false })
 
 pub ring_of_family :
-    (start_after (vectors_of local_ring) (Some (0 ∷ 1 ∷ [])) ∷ start_after (vectors_of local_ring) None ∷ [] ≡ 2 ∷ 0 ∷ [])
+    (left_out_after (vectors_of local_ring) (Some (0 ∷ 1 ∷ [])) ∷ left_out_after (vectors_of local_ring) None ∷ [] ≡ 2 ∷ 0 ∷ [])
     × (family_text (graph_described (described local_ring)) false 2 ≡ last_blocks)
     × (family_text (graph_described (described local_ring)) true 2 ≡ ring_head ++ last_blocks)
 unfolding box repeated digits name_of_vector displacements vectors_of_norm board_moves board_id family_graph list_from numbers_from blocks block arc_line head_text

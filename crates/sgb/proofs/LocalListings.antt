@@ -23,8 +23,7 @@ use Rattle.sgb.specs.inner.Remaining.{IsRest}
 use Rattle.sgb.specs.Texts.{arc_line, block, blocks, head, head_text, name_line}
 use Rattle.sgb.specs.Outcomes.{answer_from, names_answer}
 use Rattle.sgb_gen.specs.Generators.{described, made, vector_graph_of, vectors_of}
-use Rattle.sgb.specs.Writing.{IsEnded}
-use Rattle.sgb_file.specs.Devices.{Change}
+use Rattle.sgb.specs.Writing.{Effect, IsEnded}
 use Rattle.sgb_requests.specs.declared.faults.Fault.{Fault}
 use Rattle.sgb_requests.specs.declared.requests.Resume.{Resume}
 use Rattle.sgb_gen.specs.declared.locals.Local.{Local}
@@ -79,10 +78,10 @@ lines-first arcs i arc there =
     grind (arith, get_or_from_slice_get)
 
 -- the names of a generator's vertices, from the members of its family
-pub named_local : {T : Type 0} (v : Result Description Panic) (l : Local) (members : List (List ℕ)) (resume : Resume) (same : Type 0) (out : Change) (r : Result T Fault)
-    → v ≡ Ok (described l) → members ≡ vectors_of l → IsEnded (names_answer (map name_of_vector members) resume) same out r
-    → IsEnded (answer_from (made v) (λ d. names_answer (names_of d) resume)) same out r
-named_local v l members resume same out r e vectors p = rw (e, named_by_members (vector_graph_of l) members vectors) p
+pub named_local : {T S : Type 0} (v : Result Description Panic) (l : Local) (members : List (List ℕ)) (resume : Resume) (out : Effect S) (r : Result T Fault)
+    → v ≡ Ok (described l) → members ≡ vectors_of l → IsEnded (names_answer (map name_of_vector members) resume) out r
+    → IsEnded (answer_from (made v) (λ d. names_answer (names_of d) resume)) out r
+named_local v l members resume out r e vectors p = rw (e, named_by_members (vector_graph_of l) members vectors) p
 
 pub head_of_graph : (g : VectorGraph) (n m : ℕ) → n ≡ length g.vectors → m ≡ (graph_described (described_by g)).m → head (graph_described (described_by g)) ≡ head_text g.id n m
 unfolding family_graph

@@ -12,7 +12,7 @@ use Rattle.sgb_graph.specs.Made.{graph_described}
 use Rattle.sgb_gen.specs.VectorGraphs.{VectorGraph, described_by, vertex_among}
 use Rattle.sgb_gen.proofs.RisingVectors.{vertex_in_rising}
 use Rattle.sgb_graph.specs.Vertices.{names_of}
-use Rattle.sgb.specs.Locals.{start_after}
+use Rattle.sgb.specs.Locals.{left_out_after}
 use Rattle.sgb.specs.Outcomes.{left_out}
 use Rattle.sgb.specs.Texts.{blocks}
 use Rattle.sgb.specs.inner.Remaining.{BeginsAfter, IsLastSkipped}
@@ -42,10 +42,10 @@ pub left_out_of_graph : (g : VectorGraph) (r : Resume) (a : Result ℕ Fault) �
 left_out_of_graph g r a e = sym (ap (λ ns. left_out ns r) (named_by_vectors g) ∙ e)
 
 -- the blocks after the vector where the listing begins are those that are not left out
-pub blocks_after : (g : VectorGraph) (k : ℕ) (start after : Option (List ℕ)) → drop k g.vectors ≡ drop (start_after g.vectors start) g.vectors → after ≡ start
-    → blocks (graph_described (described_by g)) k ≡ blocks (graph_described (described_by g)) (start_after g.vectors after)
+pub blocks_after : (g : VectorGraph) (k : ℕ) (start after : Option (List ℕ)) → drop k g.vectors ≡ drop (left_out_after g.vectors start) g.vectors → after ≡ start
+    → blocks (graph_described (described_by g)) k ≡ blocks (graph_described (described_by g)) (left_out_after g.vectors after)
 blocks_after g k start after alike is =
-    let count : length (drop k g.vectors) ≡ length (drop (start_after g.vectors after) g.vectors) = grind arith in
+    let count : length (drop k g.vectors) ≡ length (drop (left_out_after g.vectors after) g.vectors) = grind arith in
     grind (arith, blocks_alike, names_count, length-drop)
 
 -- the last of the first so many members, by its place, where there is such a place

@@ -5,7 +5,7 @@ use Rattle.sgb_vec.specs.declared.panics.Panic.{Panic}
 use Rattle.sgb_graph.specs.Graphs.{GraphData}
 use Rattle.sgb_expr.specs.Expression.{Expression, expression_of}
 use Rattle.sgb_expr.specs.StdinUses.{has_stdin}
-use Rattle.sgb.specs.Inputs.{IsKeptOfInput}
+use Rattle.sgb.specs.Runs.{AreUsed}
 use Rattle.sgb.specs.Outcomes.{IsAnswered, answer_from, answer_of, reads_input}
 use Rattle.sgb_gen.specs.Generators.{made}
 use Rattle.sgb_values.specs.Values.{IsOn, IsValueOn, value_of}
@@ -26,16 +26,16 @@ answer_unread r a b unread = grind (arith, value_same)
 
 -- it is the same on what is kept of standard input
 kept_on : {T : Type 0} (f : Result GraphData Panic → T) (reads : Bool) → ((a b : Result GraphData Panic) → (reads ≡ true → a ≡ b) → f a ≡ f b) → (told : Option (List ℕ)) (kept : List ℕ)
-    → (reads ≡ true → IsKeptOfInput told kept) → (held : List ℕ) × IfSome told (λ bytes. held ≡ bytes) × (x : T) × IsOn f held x × IsOn f kept x
+    → AreUsed reads told kept → (held : List ℕ) × IfSome told (λ bytes. held ≡ bytes) × (x : T) × IsOn f held x × IsOn f kept x
 kept_on f reads same None kept is =
     let (stdin, gives) = stdin_given in
     (kept, tt, f (stdin kept), (stdin kept, gives kept, refl), (stdin kept, gives kept, refl))
 kept_on f reads same (Some bytes) kept is =
     let (stdin, gives) = stdin_given in
-    let alike = same (stdin bytes) (stdin kept) (λ r. sym (ap stdin (is r) ∙ stdin_cut stdin gives bytes)) in
+    let alike = same (stdin bytes) (stdin kept) (λ r. sym (ap stdin (is.0 r) ∙ stdin_cut stdin gives bytes)) in
     (bytes, refl, f (stdin bytes), (stdin bytes, gives bytes, refl), (stdin kept, gives kept, alike))
 
-pub kept_value : (told : Option (List ℕ)) (kept : List ℕ) (e : Expression) → (has_stdin e ≡ true → IsKeptOfInput told kept)
+pub kept_value : (told : Option (List ℕ)) (kept : List ℕ) (e : Expression) → AreUsed (has_stdin e) told kept
     → (held : List ℕ) × IfSome told (λ bytes. held ≡ bytes) × (value : Result GraphData Panic) × IsValueOn held e value × IsValueOn kept e value
 kept_value told kept e is = kept_on (λ stdin. value_of stdin e) (has_stdin e) (λ a b same. value_same a b e same) told kept is
 
@@ -44,7 +44,7 @@ kept_value told kept e is = kept_on (λ stdin. value_of stdin e) (has_stdin e) (
 pub answer_only : (r : Request) (input : List ℕ) (a b : Result (List ℕ) Fault) → IsAnswered r input a → IsAnswered r input b → a ≡ b
 answer_only r input a b is also = grind (arith, stdin_same)
 
-pub kept_answer : (told : Option (List ℕ)) (kept : List ℕ) (r : Request) → (reads_input r ≡ true → IsKeptOfInput told kept)
+pub kept_answer : (told : Option (List ℕ)) (kept : List ℕ) (r : Request) → AreUsed (reads_input r) told kept
     → (held : List ℕ) × IfSome told (λ bytes. held ≡ bytes) × (answer : Result (List ℕ) Fault) × IsAnswered r held answer × IsAnswered r kept answer
 kept_answer told kept r is = kept_on (answer_of r) (reads_input r) (λ a b same. answer_same r a b same) told kept is
 

@@ -5,9 +5,9 @@ use Rattle.sgb_graph.specs.Graphs.{GraphData}
 use Rattle.sgb.specs.Texts.{blocks, head}
 
 -- how many first vertices have no block: those up to the vector after which the listing begins, or none
-abbrev pub start_after : List (List ℕ) → Option (List ℕ) → ℕ
-start_after vectors None = 0
-start_after vectors (Some x) = suc (vertex_among vectors x)
+abbrev pub left_out_after : List (List ℕ) → Option (List ℕ) → ℕ
+left_out_after vectors None = 0
+left_out_after vectors (Some x) = suc (vertex_among vectors x)
 
 -- the head of a graph where it is asked for, else nothing
 abbrev pub head_if : Bool → GraphData → List ℕ

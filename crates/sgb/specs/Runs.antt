@@ -1,5 +1,5 @@
 -- What a run leaves in its sinks, by what standard input gives.
-use Rattle.std.specs.Prelude.{◌≡◌, ◌⊎◌, ◌&&◌, ℕ, Bool, true, false, List, Option, IfSome, IfErr, Result}
+use Rattle.std.specs.Prelude.{◌≡◌, ◌⊎◌, ◌&&◌, ℕ, Bool, true, false, List, [], Option, IfSome, IfErr, Result}
 use Rattle.std.specs.Bool.{MatchBool}
 use Rattle.std.specs.Io.KnownBytes.{Appends}
 use Rattle.sgb_vec.specs.declared.panics.Panic.TheVariants.{NoRoom}
@@ -10,50 +10,50 @@ use Rattle.sgb_requests.specs.Faults.{status_of, fault_line}
 use Rattle.sgb_requests.specs.declared.faults.Fault.{Fault}
 use Rattle.sgb_requests.specs.declared.faults.Fault.TheVariants as fault
 use Rattle.sgb_requests.specs.declared.requests.Request.{Request}
+use Rattle.sgb.specs.Writing.{Effect, IsUntouched}
 
--- what a run leaves: the output sink as it was and as it is; what that sink, and standard error, tell of their bytes; the exit
--- status
+-- what a run leaves: what was done to the output sink, what standard error tells of its bytes, the exit status
 pub record Left (S : Type 0) : Type 0 where
-  pub old : S
-  pub new : S
-  pub out : Change
+  pub out : Effect S
   pub err : Change
   pub status : ℕ
 
 -- the answer was given in full: all of its output, its line unless standard error failed, its status
 pub record IsGiven {S : Type 0} (answer : Outcome) (l : Left S) : Type 0 where
-  pub output : Appends l.out.before l.out.after answer.output
+  pub output : Appends l.out.told.before l.out.told.after answer.output
   pub line : AppendsUnlessFailed l.err answer.line
   pub exit : l.status ≡ answer.status
 
 -- the run was stopped by this fault: a prefix of the answer's output, the fault's line and status
 pub record IsStopped {S : Type 0} (by : Fault) (answer : Outcome) (l : Left S) : Type 0 where
-  pub output : AppendsPrefix l.out.before l.out.after answer.output
+  pub output : AppendsPrefix l.out.told.before l.out.told.after answer.output
   pub line : AppendsUnlessFailed l.err (fault_line by)
   pub exit : l.status ≡ status_of by
 
 -- A run with this outcome leaves this. Where the output sink has failed, that stopped the run. Where it is sound, the
 -- answer was given, or the run was stopped when memory ran out.
 abbrev pub IsRunOf : {S : Type 0} → Outcome → Left S → Type 0
-IsRunOf answer l = MatchBool l.out.failed
+IsRunOf answer l = MatchBool l.out.told.failed
     (IsStopped fault.Write answer l)
     (IsGiven answer l ⊎ IsStopped (fault.Panic NoRoom) answer l)
 
--- Only this fault was reported: the output sink is as it was, with neither a put nor a flush, and tells so; its line went to
--- standard error unless that failed, and its status was returned.
-pub record IsReported {S : Type 0} (f : Fault) (l : Left S) : Type 0 where
-  pub left : l.new ≡ l.old
-  pub untouched : l.out.after ≡ l.out.before
-  pub sound : l.out.failed ≡ false
-  pub line : AppendsUnlessFailed l.err (fault_line f)
-  pub exit : l.status ≡ status_of f
+-- only a refusal was reported: the output sink is untouched, this line went to standard error unless that failed, and this
+-- status was returned
+pub record IsReportedAs {S : Type 0} (text : List ℕ) (code : ℕ) (l : Left S) : Type 0 where
+  pub out : IsUntouched l.out
+  pub line : AppendsUnlessFailed l.err text
+  pub exit : l.status ≡ code
+
+-- only this fault was reported
+abbrev pub IsReported : {S : Type 0} → Fault → Left S → Type 0
+IsReported f l = IsReportedAs (fault_line f) (status_of f) l
 
 -- what a run leaves: where standard input was read and failed, this was reported and nothing else done; where the request
 -- is refused the output sink is as it was, also out of memory
 abbrev pub IsRunFrom : {S : Type 0} → Bool → Result (List ℕ) Fault → Left S → Type 0
 IsRunFrom failed answer l = MatchBool failed
     (IsReported fault.Read l)
-    (IsRunOf (outcome_of answer) l × IfErr answer (λ f. l.new ≡ l.old))
+    (IsRunOf (outcome_of answer) l × IfErr answer (λ f. l.out.new ≡ l.out.old))
 
 -- the bytes that standard input tells before a run, and whether it has failed afterwards
 pub record Input : Type 0 where
@@ -67,13 +67,17 @@ IsRunOn r source l =
     (held : List ℕ) × IfSome source.bytes (λ bytes. held ≡ bytes)
     × (answer : Result (List ℕ) Fault) × IsAnswered r held answer × IsRunFrom (reads_input r && source.failed) answer l
 
--- a program that answers leaves this: of standard input these first bytes count, and for each answer on them it was answered so
+-- of standard input these bytes count for an answer: those that are kept, or none where it reads none
+abbrev pub AreUsed : Bool → Option (List ℕ) → List ℕ → Type 0
+AreUsed reads told used = (reads ≡ true → IsKeptOfInput told used) × (reads ≡ false → used ≡ [])
+
+-- a program that answers leaves this: for each answer on the bytes that count it was answered so
 abbrev pub IsAnswerRun : {S : Type 0} → Bool → (List ℕ → Result (List ℕ) Fault → Type 0) → Input → Left S → Type 0
 IsAnswerRun reads answers source l =
-    (kept : List ℕ) × (reads ≡ true → IsKeptOfInput source.bytes kept)
-    × ((a : Result (List ℕ) Fault) → answers kept a → IsRunFrom (reads && source.failed) a l)
+    (used : List ℕ) × AreUsed reads source.bytes used
+    × ((a : Result (List ℕ) Fault) → answers used a → IsRunFrom (reads && source.failed) a l)
 
--- a program that reads no input has answered in full where the output sink is sound: so for each answer on some bytes
+-- a program that reads no input has answered in full where the output sink is sound: so for each answer on no bytes
 abbrev pub IsAnswerGiven : {S : Type 0} → (List ℕ → Result (List ℕ) Fault → Type 0) → Left S → Type 0
 IsAnswerGiven answers l =
-    l.out.failed ≡ false → (kept : List ℕ) × ((a : Result (List ℕ) Fault) → answers kept a → IsGiven (outcome_of a) l)
+    l.out.told.failed ≡ false → (a : Result (List ℕ) Fault) → answers [] a → IsGiven (outcome_of a) l

@@ -3,7 +3,7 @@ use Rattle.std.specs.Prelude.{◌≡◌, ◌⊎◌, ℕ, ◌++◌, Bool, true, f
 use Rattle.std.specs.Bool.{MatchBool}
 use Rattle.std.specs.Io.KnownBytes.{Appends}
 use Rattle.sgb_vec.specs.declared.panics.Panic.TheVariants.{NoRoom}
-use Rattle.sgb_file.specs.Devices.{AppendsPrefix, Change}
+use Rattle.sgb_file.specs.Devices.{AppendsPrefix, Change, change}
 use Rattle.sgb_requests.specs.declared.faults.Fault.{Fault}
 use Rattle.sgb_requests.specs.declared.faults.Fault.TheVariants as fault
 
@@ -26,21 +26,32 @@ abbrev pub IsWritten : {T : Type 0} → List ℕ → Change → Result T Fault �
 IsWritten text out (Ok x) = IsWhole text out
 IsWritten text out (Err f) = IsCutOff text out f
 
--- a sink is as it was, which `same` says, or of the bytes that it tells it took this text at least
-abbrev pub IsLeftOrBegun : Type 0 → List ℕ → Option (List ℕ) → Option (List ℕ) → Type 0
-IsLeftOrBegun same text old new = same ⊎ ((more : List ℕ) × Appends old new (text ++ more))
+-- what was done to a sink: the sink before and after, and what it tells of its bytes
+pub record Effect (S : Type 0) : Type 0 where
+  pub old : S
+  pub new : S
+  pub told : Change
 
--- nothing was written
-abbrev pub IsUnwritten : Change → Type 0
-IsUnwritten out = (out.after ≡ out.before) × (out.failed ≡ false)
+-- that of a sink that was old where it is new, by what it tells and whether it has failed
+abbrev pub effect : {S : Type 0} → (S → Option (List ℕ)) → (S → Bool) → S → S → Effect S
+effect written has_failed old new = record { old = old; new = new; told = change written has_failed old new }
 
--- the request was answered, or cut off, or refused with nothing written and the sink as it was, which `same` says, by its
--- own fault or out of memory
-abbrev pub IsEnded : {T : Type 0} → Result (List ℕ) Fault → Type 0 → Change → Result T Fault → Type 0
-IsEnded (Ok text) same out r = IsWritten text out r
-IsEnded (Err g) same out (Ok x) = ⊥
-IsEnded (Err g) same out (Err f) = ((f ≡ g) ⊎ (f ≡ fault.Panic NoRoom)) × IsWhole [] out × same
+-- the sink is as it was, with neither a put nor a flush, and tells so; it has not failed
+pub record IsUntouched {S : Type 0} (out : Effect S) : Type 0 where
+  pub same : out.new ≡ out.old
+  pub told : out.told.after ≡ out.told.before
+  pub sound : out.told.failed ≡ false
 
--- so a request ended, where reading standard input failed with nothing written and the sink as it was, or did not
-abbrev pub IsEndedFrom : {T : Type 0} → Bool → Result (List ℕ) Fault → Type 0 → Change → Result T Fault → Type 0
-IsEndedFrom failed answer same out r = MatchBool failed (IsUnwritten out × (r ≡ Err fault.Read) × same) (IsEnded answer same out r)
+-- a sink is as it was, or of the bytes that it tells it took this text at least
+abbrev pub IsLeftOrBegun : {S : Type 0} → List ℕ → Effect S → Type 0
+IsLeftOrBegun text out = (out.new ≡ out.old) ⊎ ((more : List ℕ) × Appends out.told.before out.told.after (text ++ more))
+
+-- the request was answered, or cut off, or refused with the sink untouched, by its own fault or out of memory
+abbrev pub IsEnded : {T S : Type 0} → Result (List ℕ) Fault → Effect S → Result T Fault → Type 0
+IsEnded (Ok text) out r = IsWritten text out.told r
+IsEnded (Err g) out (Ok x) = ⊥
+IsEnded (Err g) out (Err f) = ((f ≡ g) ⊎ (f ≡ fault.Panic NoRoom)) × IsUntouched out
+
+-- so a request ended, where reading standard input failed with the sink untouched, or did not
+abbrev pub IsEndedFrom : {T S : Type 0} → Bool → Result (List ℕ) Fault → Effect S → Result T Fault → Type 0
+IsEndedFrom failed answer out r = MatchBool failed (IsUntouched out × (r ≡ Err fault.Read)) (IsEnded answer out r)

@@ -4,10 +4,10 @@ ghost use Rattle.std.specs.Io.KnownBytes.{Keeps};
 ghost use Rattle.sgb_file.specs.Devices.{change};
 ghost use Rattle.sgb_vec.specs.declared.panics.Panic.TheVariants.{NoRoom};
 ghost use Rattle.sgb_requests.specs.declared.faults.Fault.{Fault};
-ghost use Rattle.sgb.specs.Inputs.{IsKeptOfInput, IsReadFrom, LosesAtMost};
-ghost use Rattle.sgb.specs.Runs.{IsAnswerGiven, IsAnswerRun};
+ghost use Rattle.sgb.specs.Inputs.{IsReadFrom, LosesAtMost};
+ghost use Rattle.sgb.specs.Runs.{AreUsed, IsAnswerGiven, IsAnswerRun};
 ghost use Rattle.sgb_values.specs.Values.{most_input};
-ghost use Rattle.sgb.specs.Writing.{IsEnded, IsEndedFrom};
+ghost use Rattle.sgb.specs.Writing.{IsEnded, IsEndedFrom, effect};
 
 use crate::input::read_input;
 use sgb_file::{Sink, Source};
@@ -36,8 +36,7 @@ pub trait Answer {
     fn write<W: Sink>(&self, alloc: Global, input: Vec<u8>, out: &mut W) -> Result<(), Fault>
         requires { W.has_failed out.old ≡ false }
         ensures ended { (a : Result (List ℕ) Fault) → answers self.now input.items a
-            → IsEnded a (out.new ≡ out.old)
-            (change W.written W.has_failed out.old out.new) result }
+            → IsEnded a (effect W.written W.has_failed out.old out.new) result }
         ensures memory { certain self.now → IfErr result (λ f. f ≢ Fault.Panic NoRoom) };
 }
 
@@ -57,18 +56,14 @@ pub fn run_answer<A: Answer, R: Source, W: Sink, E: Sink>(
     ensures answers { IsAnswerRun (A.reads answer.now) (A.answers answer.now)
         (record { bytes = R.remaining source.old; failed = R.has_failed source.new })
         (record {
-          old = out.old;
-          new = out.new;
-          out = change W.written W.has_failed out.old out.new;
+          out = effect W.written W.has_failed out.old out.new;
           err = change E.written E.has_failed errors.old errors.new;
           status = result;
         }) }
     // Where no input is read and writing takes no memory, the answer is never cut off for want of it.
     ensures certain { A.reads answer.now ≡ false → A.certain answer.now → IsAnswerGiven (A.answers answer.now)
         (record {
-          old = out.old;
-          new = out.new;
-          out = change W.written W.has_failed out.old out.new;
+          out = effect W.written W.has_failed out.old out.new;
           err = change E.written E.has_failed errors.old errors.new;
           status = result;
         }) }
@@ -91,11 +86,11 @@ fn give<A: Answer, R: Source, W: Sink>(
     out: &mut W,
 ) -> Result<(), Fault>
     requires { W.has_failed out.old ≡ false }
-    ensures ended { (kept : List ℕ)
-        × (A.reads answer.now ≡ true → IsKeptOfInput (R.remaining source.old) kept)
-        × ((a : Result (List ℕ) Fault) → A.answers answer.now kept a
-        → IsEndedFrom (A.reads answer.now && R.has_failed source.new) a (out.new ≡ out.old)
-        (change W.written W.has_failed out.old out.new) result) }
+    ensures ended { (used : List ℕ)
+        × AreUsed (A.reads answer.now) (R.remaining source.old) used
+        × ((a : Result (List ℕ) Fault) → A.answers answer.now used a
+        → IsEndedFrom (A.reads answer.now && R.has_failed source.new) a
+        (effect W.written W.has_failed out.old out.new) result) }
     ensures certain { A.reads answer.now ≡ false → A.certain answer.now
         → IfErr result (λ f. f ≢ Fault.Panic NoRoom) }
     ensures flushed { OnOk result (W.held out.new ≡ []) }
@@ -108,14 +103,14 @@ fn give<A: Answer, R: Source, W: Sink>(
     pass_on(out)
 }
 
-// The bytes of standard input that are kept for an answer: none where it does not read them.
+// The bytes of standard input that count for an answer: none where it does not read them.
 fn input_for<A: Answer, R: Source>(
     alloc: Global,
     answer: &A,
     source: &mut R,
 ) -> Result<Vec<u8>, Fault>
-    ensures kept { IfOk result (λ bytes. A.reads answer.now ≡ true
-        → IsKeptOfInput (R.remaining source.old) bytes.items) }
+    ensures used { IfOk result (λ bytes.
+        AreUsed (A.reads answer.now) (R.remaining source.old) bytes.items) }
     ensures ended { IsReadFrom (A.reads answer.now && R.has_failed source.new) result }
     ensures unread { A.reads answer.now ≡ false → source.new ≡ source.old }
     ensures none { A.reads answer.now ≡ false → IsOk result }

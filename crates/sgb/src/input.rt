@@ -12,8 +12,8 @@ use sgb_values::MOST_INPUT;
 use sgb_vec::Panic;
 use std::alloc::Global;
 
-// At most this many bytes are read at once.
-const MOST_AT_ONCE: usize = 65_536;
+// The buffer that is read into has this many bytes.
+const BUFFER_BYTES: usize = 65_536;
 
 /// The bytes of a source to its end, or up to the first that is too many for a file: 2^30 and one.
 ///
@@ -25,7 +25,7 @@ pub fn read_input<R: Source>(alloc: Global, source: &mut R) -> Result<Vec<u8>, F
         (R.remaining source.new) }
 {
     let mut kept = Vec::new(alloc);
-    let mut buffer = [0; MOST_AT_ONCE];
+    let mut buffer = [0; BUFFER_BYTES];
     while kept.len() <= MOST_INPUT {
         let count = read_more(source, &mut buffer, &mut kept)?;
         if count == 0 {

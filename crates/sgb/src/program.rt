@@ -8,6 +8,7 @@ ghost use Rattle.sgb.specs.Program.{AskForNoInput, IsProgramRun, unread_fault};
 ghost use Rattle.sgb_requests.specs.Requests.{IsCommandLineReadAs};
 ghost use Rattle.sgb.specs.Runs.{IsReported};
 ghost use Rattle.sgb_values.specs.Values.{most_input};
+ghost use Rattle.sgb.specs.Writing.{effect};
 
 use crate::runs::run;
 use sgb_file::{Sink, Source};
@@ -34,16 +35,12 @@ pub fn run_program<R: Source, W: Sink, E: Sink>(
         (λ words. IsProgramRun (map string_bytes words.items)
         (record { bytes = R.remaining source.old; failed = R.has_failed source.new })
         (record {
-          old = out.old;
-          new = out.new;
-          out = change W.written W.has_failed out.old out.new;
+          out = effect W.written W.has_failed out.old out.new;
           err = change E.written E.has_failed errors.old errors.new;
           status = result;
         }))
         (λ error. IsReported (unread_fault (error_kind error)) (record {
-          old = out.old;
-          new = out.new;
-          out = change W.written W.has_failed out.old out.new;
+          out = effect W.written W.has_failed out.old out.new;
           err = change E.written E.has_failed errors.old errors.new;
           status = result;
         })) }

@@ -16,7 +16,7 @@ ghost use Rattle.sgb.specs.Runs.{IsRunOn};
 ghost use Rattle.sgb.specs.Texts.{blocks, head};
 ghost use Rattle.sgb_gen.specs.Generators.{generator_value, made};
 ghost use Rattle.sgb_values.specs.Values.{IsValueOn, most_input, value_of};
-ghost use Rattle.sgb.specs.Writing.{IsEnded};
+ghost use Rattle.sgb.specs.Writing.{IsEnded, effect};
 
 use crate::answers::{Answer, run_answer};
 use crate::queens::queen_moves;
@@ -51,17 +51,13 @@ pub fn run<R: Source, W: Sink, E: Sink>(
     ensures answers { IsRunOn request.now
         (record { bytes = R.remaining source.old; failed = R.has_failed source.new })
         (record {
-          old = out.old;
-          new = out.new;
-          out = change W.written W.has_failed out.old out.new;
+          out = effect W.written W.has_failed out.old out.new;
           err = change E.written E.has_failed errors.old errors.new;
           status = result;
         }) }
     // What needs no memory is never out of memory.
     ensures certain { IsCertain request.now (record {
-      old = out.old;
-      new = out.new;
-      out = change W.written W.has_failed out.old out.new;
+      out = effect W.written W.has_failed out.old out.new;
       err = change E.written E.has_failed errors.old errors.new;
       status = result;
     }) }
@@ -106,8 +102,8 @@ fn write_answer<W: Sink>(
 ) -> Result<(), Fault>
     requires { W.has_failed out.old ≡ false }
     ensures ended { (answer : Result (List ℕ) Fault) × IsAnswered request.now input.items answer
-        × IsEnded answer (out.new ≡ out.old)
-        (change W.written W.has_failed out.old out.new) result }
+        × IsEnded answer
+        (effect W.written W.has_failed out.old out.new) result }
     ensures certain { NeedsNoMemory request.now
         → IfErr result (λ f. f ≢ Fault.Panic NoRoom) }
 {
@@ -132,7 +128,7 @@ fn answer_names<W: Sink>(
     ensures ended { (value : Result GraphData Panic)
         × IsValueOn input.items (expression_of expression.now) value
         × IsEnded (answer_from value (λ g. names_answer (names_of g) resume.now))
-        (out.new ≡ out.old) (change W.written W.has_failed out.old out.new) result }
+        (effect W.written W.has_failed out.old out.new) result }
     ensures certain { IsBoard expression.now ⊎ IsRefusedAtOnce (expression_of expression.now)
         → IfErr result (λ f. f ≢ Fault.Panic NoRoom) }
 {
@@ -152,8 +148,8 @@ fn answer_generator_names<W: Sink>(
 ) -> Result<(), Fault>
     requires { W.has_failed out.old ≡ false }
     ensures ended { IsEnded (answer_from (made (generator_value generator.now))
-        (λ g. names_answer (names_of g) resume.now)) (out.new ≡ out.old)
-        (change W.written W.has_failed out.old out.new) result }
+        (λ g. names_answer (names_of g) resume.now))
+        (effect W.written W.has_failed out.old out.new) result }
     ensures certain { HasNamesAtOnce generator.now
         → IfErr result (λ f. f ≢ Fault.Panic NoRoom) }
 {
@@ -172,8 +168,8 @@ fn answer_list<W: Sink>(
     requires { W.has_failed out.old ≡ false }
     ensures ended { (value : Result GraphData Panic)
         × IsValueOn input.items (expression_of expression.now) value
-        × IsEnded (answer_from value (λ g. list_answer g resume.now)) (out.new ≡ out.old)
-        (change W.written W.has_failed out.old out.new) result }
+        × IsEnded (answer_from value (λ g. list_answer g resume.now))
+        (effect W.written W.has_failed out.old out.new) result }
     ensures certain { BeginsNowhere expression.now resume.now
         ⊎ IsRefusedAtOnce (expression_of expression.now)
         → IfErr result (λ f. f ≢ Fault.Panic NoRoom) }
@@ -194,8 +190,8 @@ fn answer_generator_list<W: Sink>(
 ) -> Result<(), Fault>
     requires { W.has_failed out.old ≡ false }
     ensures ended { IsEnded (answer_from (made (generator_value generator.now))
-        (λ g. list_answer g resume.now)) (out.new ≡ out.old)
-        (change W.written W.has_failed out.old out.new) result }
+        (λ g. list_answer g resume.now))
+        (effect W.written W.has_failed out.old out.new) result }
     ensures certain { HasListingAtOnce generator.now resume.now
         → IfErr result (λ f. f ≢ Fault.Panic NoRoom) }
 {
@@ -218,8 +214,8 @@ fn answer_save<W: Sink>(
     requires { W.has_failed out.old ≡ false }
     ensures ended { (value : Result GraphData Panic)
         × IsValueOn input.items (expression_of expression.now) value
-        × IsEnded (answer_from value (λ g. Ok (text_of_graph g))) (out.new ≡ out.old)
-        (change W.written W.has_failed out.old out.new) result }
+        × IsEnded (answer_from value (λ g. Ok (text_of_graph g)))
+        (effect W.written W.has_failed out.old out.new) result }
     ensures certain { IsRefusedAtOnce (expression_of expression.now)
         → IfErr result (λ f. f ≢ Fault.Panic NoRoom) }
 {
@@ -232,7 +228,7 @@ fn answer_queen<W: Sink>(alloc: Global, out: &mut W) -> Result<(), Fault>
     requires { W.has_failed out.old ≡ false }
     ensures { IsEnded (answer_from (value_of (Err Early) queen_moves)
         (λ g. Ok (queen_title ++ (head g ++ blocks g 0))))
-        (out.new ≡ out.old) (change W.written W.has_failed out.old out.new) result }
+        (effect W.written W.has_failed out.old out.new) result }
 {
     let graph = queen_moves(alloc)?;
     write_titled_listing(b"Queen Moves on a 3x4 Board\n\n", &graph, out)

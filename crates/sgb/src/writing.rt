@@ -3,10 +3,14 @@ ghost use Rattle.std.specs.Prelude.{◌≡◌, false, IfErr};
 ghost use Rattle.sgb_file.specs.Devices.{change};
 ghost use Rattle.sgb.specs.Writing.{IsWritten};
 
+// The lines of arcs.
+mod arc_lines;
 // Listings from a generator's vectors.
 pub mod families;
 // `.gb` files.
 pub(crate) mod files;
+// Texts put together in place.
+mod filled;
 // Random numbers.
 pub(crate) mod flips;
 // Names of vectors that are kept.

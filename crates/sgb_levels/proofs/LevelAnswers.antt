@@ -5,7 +5,6 @@ use Rattle.std.proofs.lemmas.List.{ext_get_or}
 use Rattle.sgb_vec.specs.declared.panics.Panic.{Panic}
 use Rattle.sgb_graph.specs.Graphs.{GraphData}
 use Rattle.sgb_graph.specs.Vertices.{names_of}
-use Rattle.sgb_file.specs.Devices.{Change}
 use Rattle.sgb_requests.specs.declared.faults.Fault.{Fault}
 use Rattle.sgb_requests.specs.declared.faults.Fault.TheVariants as fault
 use Rattle.sgb_vec.specs.Results.{IsValue}
@@ -13,8 +12,8 @@ use Rattle.sgb_expr.specs.Expression.{Expression}
 use Rattle.sgb_values.specs.Values.{IsValueOn}
 use Rattle.sgb_values.proofs.StdinValues.{value_only}
 use Rattle.sgb_levels.specs.Program.{AreLevelsOn}
-use Rattle.sgb.specs.Writing.{IsEnded, IsWritten}
-use Rattle.sgb.proofs.Endings.{change_of, memory_at_once, refused_at_once}
+use Rattle.sgb.specs.Writing.{Effect, IsEnded, IsWritten}
+use Rattle.sgb.proofs.Endings.{change_of, effect_of, memory_at_once, refused_at_once}
 use Rattle.sgb_vec.proofs.Lists.{range-first, range-none}
 use Rattle.sgb_levels.specs.Distances.{AreDistances, IsDistanceIfAny}
 use Rattle.sgb_levels.specs.Lines.{IsLevelsAnswer, level_line, level_lines}
@@ -45,17 +44,17 @@ distances_only g u xs ys x y =
     one_distance g u v (get_or xs v None) (get_or ys v None) (x.each v inside) (y.each v inside))
 
 -- the lines of the distances that were found are the answer
-pub written_is : {T : Type 0} (g : GraphData) (found : List (Option ℕ)) (a : Result (List ℕ) Fault) (same : Type 0) (out : Change) (r : Result T Fault)
-    → AreDistances g 0 found → IsWritten (level_lines (names_of g) found 0) out r → IsLevelsAnswer (Ok g) a → IsEnded a same out r
-written_is g found (Ok text) same out r are written (distances, also, is) = rw (is, ← distances_only g 0 found distances are also) written
-written_is g found (Err f) same out r are written answer = absurd answer
+pub written_is : {T S : Type 0} (g : GraphData) (found : List (Option ℕ)) (a : Result (List ℕ) Fault) (out : Effect S) (r : Result T Fault)
+    → AreDistances g 0 found → IsWritten (level_lines (names_of g) found 0) out.told r → IsLevelsAnswer (Ok g) a → IsEnded a out r
+written_is g found (Ok text) out r are written (distances, also, is) = rw (is, ← distances_only g 0 found distances are also) written
+written_is g found (Err f) out r are written answer = absurd answer
 
 -- a graph that is refused is the answer
-pub answer_refused : (T : Type 0) (v : Result GraphData Panic) (p : Panic) (a : Result (List ℕ) Fault) (same : Type 0) (w : Option (List ℕ)) (failed : Bool) → IsValue v (Err p) → failed ≡ false → same
-    → IsLevelsAnswer v a → IsEnded {T = T} a same (change_of w w failed) (Err (fault.Panic p))
-answer_refused T v p (Ok text) same w failed (inl is) sound left answer = absurd (rw is at answer)
-answer_refused T v p (Err f) same w failed (inl is) sound left answer = refused_at_once T (Err f) same (fault.Panic p) w failed (ap Err (rw is at answer)) sound left
-answer_refused T v p a same w failed (inr is) sound left answer = rw is (memory_at_once T a same w failed sound left)
+pub answer_refused : (T : Type 0) {S : Type 0} (v : Result GraphData Panic) (p : Panic) (a : Result (List ℕ) Fault) (s : S) (w : Option (List ℕ)) (failed : Bool) → IsValue v (Err p) → failed ≡ false
+    → IsLevelsAnswer v a → IsEnded {T = T} a (effect_of s s (change_of w w failed)) (Err (fault.Panic p))
+answer_refused T v p (Ok text) s w failed (inl is) sound answer = absurd (rw is at answer)
+answer_refused T v p (Err f) s w failed (inl is) sound answer = refused_at_once T (Err f) s (fault.Panic p) w failed (ap Err (rw is at answer)) sound
+answer_refused T v p a s w failed (inr is) sound answer = rw is (memory_at_once T a s w failed sound)
 
 -- so it is with the value of an expression, of which there is one
 pub answer_on : (input : List ℕ) (e : Expression) (v : Result GraphData Panic) (a : Result (List ℕ) Fault) → IsValueOn input e v → AreLevelsOn input e a → IsLevelsAnswer v a

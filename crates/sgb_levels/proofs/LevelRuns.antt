@@ -1,5 +1,5 @@
 -- What a call of the program leaves, by what its words ask for and how the answer ended.
-use Rattle.std.proofs.Common.{◌≡◌, ◌&&◌, ℕ, true, List, MatchResult, Result, Ok, Err, subst, inl, inr}
+use Rattle.std.proofs.Common.{◌≡◌, ◌&&◌, ℕ, List, MatchResult, Result, Ok, Err, subst, inl, inr}
 use Rattle.std.specs.declared.io.ErrorKind.{ErrorKind}
 use Rattle.sgb_vec.specs.declared.panics.Panic.{Panic}
 use Rattle.sgb_graph.specs.Graphs.{GraphData}
@@ -7,9 +7,8 @@ use Rattle.sgb_expr.specs.Expression.{Expression, expression_of}
 use Rattle.sgb_expr.specs.StdinUses.{has_stdin}
 use Rattle.sgb_expr.specs.declared.expressions.Expr.{Expr}
 use Rattle.sgb_requests.specs.declared.faults.Fault.{Fault}
-use Rattle.sgb.specs.Inputs.{IsKeptOfInput}
 use Rattle.sgb.specs.Program.{unread_fault}
-use Rattle.sgb.specs.Runs.{Input, IsRunFrom, Left}
+use Rattle.sgb.specs.Runs.{AreUsed, Input, IsRunFrom, Left}
 use Rattle.sgb.proofs.StdinValues.{kept_value}
 use Rattle.sgb_values.proofs.StdinValues.{value_only}
 use Rattle.sgb_levels.specs.Lines.{IsLevelsAnswer}
@@ -25,7 +24,7 @@ levels_ran (Ok w) texts kind (Err f) source l asked refused = inr (f, asked, ref
 levels_ran (Err x) texts kind read source l asked refused = rw asked at refused
 
 -- what is kept of standard input is as good as all of it
-pub levels_written : {S : Type 0} (e : Expression) (source : Input) (kept : List ℕ) (l : Left S) → (has_stdin e ≡ true → IsKeptOfInput source.bytes kept)
+pub levels_written : {S : Type 0} (e : Expression) (source : Input) (kept : List ℕ) (l : Left S) → AreUsed (has_stdin e) source.bytes kept
     → ((a : Result (List ℕ) Fault) → AreLevelsOn kept e a → IsRunFrom (has_stdin e && source.failed) a l)
     → AreLevelsWritten e source l
 levels_written e source kept l is run =

@@ -2,7 +2,6 @@
 use Rattle.std.specs.Prelude.{◌≡◌, ◌⊎◌, ◌&&◌, ℕ, false, List, [], ◌∷◌, codes, IfSome, Result, Ok, Err}
 use Rattle.sgb_vec.specs.declared.panics.Panic.{Panic}
 use Rattle.sgb_graph.specs.Graphs.{GraphData}
-use Rattle.sgb_file.specs.Devices.{AppendsUnlessFailed}
 use Rattle.sgb_expr.specs.Expression.{Expression, expression_of}
 use Rattle.sgb_expr.specs.StdinUses.{has_stdin}
 use Rattle.sgb_expr.specs.declared.expressions.Expr.{Expr}
@@ -10,7 +9,7 @@ use Rattle.sgb_requests.specs.Faults.{fault_line, status_of}
 use Rattle.sgb_requests.specs.Reading.{IsReadAs}
 use Rattle.sgb_requests.specs.declared.faults.Fault.{Fault}
 use Rattle.sgb_requests.specs.declared.faults.Fault.TheVariants as fault
-use Rattle.sgb.specs.Runs.{Input, IsRunFrom, Left}
+use Rattle.sgb.specs.Runs.{Input, IsReportedAs, IsRunFrom, Left}
 use Rattle.sgb_values.specs.Values.{IsValueOn}
 use Rattle.sgb_levels.specs.Lines.{IsLevelsAnswer}
 
@@ -33,14 +32,9 @@ abbrev pub refusal_line : Fault → List ℕ
 refusal_line fault.Usage = levels_usage_line
 refusal_line f = fault_line f
 
--- Only this refusal of the words was reported: the output sink is as it was, with neither a put nor a flush, and tells so; its
--- line went to standard error unless that failed, and its status was returned.
-pub record IsRefused {S : Type 0} (f : Fault) (l : Left S) : Type 0 where
-  pub left : l.new ≡ l.old
-  pub untouched : l.out.after ≡ l.out.before
-  pub sound : l.out.failed ≡ false
-  pub line : AppendsUnlessFailed l.err (refusal_line f)
-  pub exit : l.status ≡ status_of f
+-- only this refusal of the words was reported
+abbrev pub IsRefused : {S : Type 0} → Fault → Left S → Type 0
+IsRefused f l = IsReportedAs (refusal_line f) (status_of f) l
 
 -- the answer of the program where standard input has these bytes
 abbrev pub AreLevelsOn : List ℕ → Expression → Result (List ℕ) Fault → Type 0

@@ -1,6 +1,5 @@
 //! The program: the graph of an expression, and the lines of its vertices.
-ghost use Rattle.std.specs.Prelude.{◌≡◌, ◌<◌, ◌+◌, None, [], false, length, map, Err, MatchResult};
-ghost use Rattle.std.specs.List.{slice_index_or};
+ghost use Rattle.std.specs.Prelude.{◌≡◌, ◌<◌, ◌+◌, [], false, length, map, Err, MatchResult};
 ghost use Rattle.std.specs.IoError.{error_kind};
 ghost use Rattle.std.specs.String.{string_bytes};
 ghost use Rattle.sgb_file.specs.Devices.{AppendsUnlessFailed, change};
@@ -11,9 +10,12 @@ ghost use Rattle.sgb_requests.specs.Faults.{status_of};
 ghost use Rattle.sgb.specs.Inputs.{LosesAtMost};
 ghost use Rattle.sgb.specs.Program.{unread_fault};
 ghost use Rattle.sgb_values.specs.Values.{most_input};
-ghost use Rattle.sgb.specs.Writing.{IsWritten};
+ghost use Rattle.sgb.specs.Writing.{IsWritten, effect};
 ghost use Rattle.sgb_levels.specs.Lines.{distance_text, level_line, level_lines, line_of_level};
 ghost use Rattle.sgb_levels.specs.Program.{AreLevelsOn, AskFor, AskForNoStdin, IsLevelsRun, IsRefused, refusal_line, levels_usage_line};
+// For the search alone.
+ghost use Rattle.std.specs.Prelude.{None};
+ghost use Rattle.std.specs.List.{slice_index_or};
 
 use crate::levels::levels;
 use itoa::Buffer;
@@ -44,16 +46,12 @@ pub fn run_levels<R: Source, W: Sink, E: Sink>(
         (λ words. IsLevelsRun (map string_bytes words.items)
         (record { bytes = R.remaining source.old; failed = R.has_failed source.new })
         (record {
-          old = out.old;
-          new = out.new;
-          out = change W.written W.has_failed out.old out.new;
+          out = effect W.written W.has_failed out.old out.new;
           err = change E.written E.has_failed errors.old errors.new;
           status = result;
         }))
         (λ error. IsRefused (unread_fault (error_kind error)) (record {
-          old = out.old;
-          new = out.new;
-          out = change W.written W.has_failed out.old out.new;
+          out = effect W.written W.has_failed out.old out.new;
           err = change E.written E.has_failed errors.old errors.new;
           status = result;
         })) }

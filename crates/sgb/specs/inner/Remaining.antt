@@ -4,7 +4,7 @@ use Rattle.std.specs.List.{Contains}
 use Rattle.std.specs.Option.{MatchOption}
 use Rattle.sgb_vec.specs.Names.{name_of_vector}
 use Rattle.sgb_gen.specs.VectorGraphs.{vertex_among}
-use Rattle.sgb.specs.Locals.{start_after}
+use Rattle.sgb.specs.Locals.{left_out_after}
 use Rattle.sgb.specs.Outcomes.{left_out, vertex_named}
 use Rattle.sgb_requests.specs.declared.requests.Resume.{Resume}
 
@@ -12,7 +12,7 @@ use Rattle.sgb_requests.specs.declared.requests.Resume.{Resume}
 abbrev pub BeginsAfter : List (List ℕ) → Resume → Option (List ℕ) → Type 0
 BeginsAfter members resume start =
     IfSome start (λ x. Contains members x)
-    × ((k : ℕ) × (left_out (map name_of_vector members) resume ≡ Ok k) × (drop k members ≡ drop (start_after members start) members))
+    × ((k : ℕ) × (left_out (map name_of_vector members) resume ≡ Ok k) × (drop k members ≡ drop (left_out_after members start) members))
 
 -- the last of the first so many members, or of all; or there is none
 abbrev pub IsLastSkipped : List (List ℕ) → ℕ → Option (List ℕ) → Type 0

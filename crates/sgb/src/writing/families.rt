@@ -18,7 +18,7 @@ ghost use Rattle.sgb_graph.specs.Made.{graph_described};
 ghost use Rattle.sgb_graph.specs.Vertices.{names_of};
 ghost use Rattle.sgb_requests.specs.declared.faults.Fault.TheVariants as fault;
 ghost use Rattle.sgb_gen.specs.Generators.{vectors_of};
-ghost use Rattle.sgb.specs.Locals.{family_text, head_if, start_after};
+ghost use Rattle.sgb.specs.Locals.{family_text, head_if, left_out_after};
 ghost use Rattle.sgb.specs.inner.Locals.{local_block, local_line};
 ghost use Rattle.sgb.specs.inner.Pages.{IsPaged, page_bytes};
 ghost use Rattle.sgb.specs.inner.Remaining.{IsRest};
@@ -26,8 +26,9 @@ ghost use Rattle.sgb.specs.inner.Texts.{most_line_bytes};
 ghost use Rattle.sgb.specs.Texts.{head, name_line};
 ghost use Rattle.sgb_gen.specs.Generators.{described};
 ghost use Rattle.sgb.specs.Outcomes.{left_out, list_answer};
-ghost use Rattle.sgb.specs.Writing.{IsEnded, IsLeftOrBegun, IsWritten};
+ghost use Rattle.sgb.specs.Writing.{IsEnded, IsLeftOrBegun, IsWritten, effect};
 
+use super::arc_lines::{begin_arc, end_counted_arc};
 use super::kept_names::KeptName;
 use super::listing::push_head_of;
 use super::pages::{Page, make_room, put_page};
@@ -54,11 +55,11 @@ pub fn list_family<W: Sink>(
     requires member { IfSome after (λ x. Contains (vectors_of local.now) x.now) }
     requires sound { W.has_failed out.old ≡ false }
     ensures written { IsWritten (family_text (graph_described (described local.now)) head
-        (start_after (vectors_of local.now) (option_map (λ x. x.now) after.entry)))
+        (left_out_after (vectors_of local.now) (option_map (λ x. x.now) after.entry)))
         (change W.written W.has_failed out.old out.new) result }
-    ensures head { IfErr result (λ f. f ≢ Fault.Write → IsLeftOrBegun (out.new ≡ out.old)
+    ensures head { IfErr result (λ f. f ≢ Fault.Write → IsLeftOrBegun
         (head_if head (graph_described (described local.now)))
-        (W.written out.old) (W.written out.new)) }
+        (effect W.written W.has_failed out.old out.new)) }
 {
     local.visit(FamilyListing { head, after, links }, out)
 }
@@ -81,10 +82,10 @@ impl<'l, W: Sink> Visitor<W> for FamilyListing<'l> {
         × (W.has_failed old ≡ false) };
 
     ghost gives = { λ v g old new result. IsWritten (family_text (graph_described (described_by g))
-        v.head (start_after g.vectors (option_map (λ x. x.now) v.after)))
+        v.head (left_out_after g.vectors (option_map (λ x. x.now) v.after)))
         (change W.written W.has_failed old new) result
-        × IfErr result (λ f. f ≢ fault.Write → IsLeftOrBegun (new ≡ old)
-        (head_if v.head (graph_described (described_by g))) (W.written old) (W.written new)) };
+        × IfErr result (λ f. f ≢ fault.Write → IsLeftOrBegun
+        (head_if v.head (graph_described (described_by g))) (effect W.written W.has_failed old new)) };
 }
 
 impl<'a, 'l, L: Listed<'a>, W: Sink> Visit<'a, L, W> for FamilyListing<'l> {
@@ -112,8 +113,8 @@ impl<'l, W: Sink> Visitor<W> for ListAnswer<'l> {
     ghost needs = { λ _ _ old. W.has_failed old ≡ false };
 
     ghost gives = { λ v g old new result.
-        IsEnded (list_answer (graph_described (described_by g)) v.resume.now) (new ≡ old)
-        (change W.written W.has_failed old new) result
+        IsEnded (list_answer (graph_described (described_by g)) v.resume.now)
+        (effect W.written W.has_failed old new) result
         × (left_out (names_of (graph_described (described_by g))) v.resume.now ≡ Err fault.NoVertex
         → result ≡ Err fault.NoVertex) };
 }
@@ -144,11 +145,11 @@ fn list_vectors<'a, L: Listed<'a>, W: Sink>(
     requires sound { W.has_failed out.old ≡ false }
     ensures written { IsWritten
         (family_text (graph_described (described_by (L.graph listed.old))) head
-        (start_after (L.graph listed.old).vectors (option_map (λ x. x.now) after.entry)))
+        (left_out_after (L.graph listed.old).vectors (option_map (λ x. x.now) after.entry)))
         (change W.written W.has_failed out.old out.new) result }
-    ensures head { IfErr result (λ f. f ≢ Fault.Write → IsLeftOrBegun (out.new ≡ out.old)
+    ensures head { IfErr result (λ f. f ≢ Fault.Write → IsLeftOrBegun
         (head_if head (graph_described (described_by (L.graph listed.old))))
-        (W.written out.old) (W.written out.new)) }
+        (effect W.written W.has_failed out.old out.new)) }
 {
     let vectors = vectors_after(listed.family(), after);
     let mut page = Page::new();
@@ -340,9 +341,9 @@ fn push_moved_arc<W: Sink>(
         parts.now l)) page.new (change W.written W.has_failed out.old out.new) result }
 {
     make_room(page, out)?;
-    page.begin_arc();
+    begin_arc(page);
     name.push_moved(runs, parts, l, page);
-    page.end_counted_arc(l);
+    end_counted_arc(page, l);
     Ok(())
 }
 
@@ -388,8 +389,8 @@ fn push_arc<W: Sink>(
         (change W.written W.has_failed out.old out.new) result }
 {
     make_room(page, out)?;
-    page.begin_arc();
+    begin_arc(page);
     name.push_other(tip, page);
-    page.end_counted_arc(len);
+    end_counted_arc(page, len);
     Ok(())
 }

@@ -4,7 +4,7 @@ ghost use Rattle.sgb_file.specs.Devices.{change};
 ghost use Rattle.sgb_graph.specs.Draws.{IsAtDraw, modulus, seed_of};
 ghost use Rattle.sgb.specs.FlipAnswers.{accepted_draws, drawn, drawn_from, flip_answer, number_lines, number_within};
 ghost use Rattle.sgb.specs.inner.Texts.{number_line};
-ghost use Rattle.sgb.specs.Writing.{IsEnded, IsWritten};
+ghost use Rattle.sgb.specs.Writing.{IsEnded, IsWritten, effect};
 ghost use Rattle.sgb.specs.inner.Pages.{IsPaged};
 
 use super::pages::{Page, make_room, put_page};
@@ -36,8 +36,8 @@ pub(crate) struct Draws {
 /// `Bad` where `skip` or `count` is not from 0 to 1,000,000,000, or `m` is not from 0 to 2^31.
 pub(crate) fn write_flip<W: Sink>(params: &FlipParams, out: &mut W) -> Result<(), Fault>
     requires { W.has_failed out.old ≡ false }
-    ensures ended { IsEnded (flip_answer params.now) (out.new ≡ out.old)
-        (change W.written W.has_failed out.old out.new) result }
+    ensures ended { IsEnded (flip_answer params.now)
+        (effect W.written W.has_failed out.old out.new) result }
     ensures certain { IfErr result (λ f. f ≢ Fault.Panic Panic.NoRoom) }
 {
     let draws = accepted_draws(params)?;

@@ -15,8 +15,9 @@ ghost use Rattle.sgb.specs.Texts.{name_line};
 ghost use Rattle.sgb.specs.inner.Pages.{IsPaged, page_bytes};
 ghost use Rattle.sgb.specs.inner.Texts.{entries_text, entry_text};
 
+use super::filled::Filled;
 use super::numerals::Numerals;
-use super::pages::{Filled, Page, make_room};
+use super::pages::{Page, make_room};
 use sgb_file::Sink;
 use sgb_gen::Runs;
 use sgb_requests::Fault;

@@ -4,10 +4,11 @@ ghost use Rattle.sgb_file.specs.Devices.{change};
 ghost use Rattle.sgb_graph.specs.Vertices.{names_of};
 ghost use Rattle.sgb.specs.Outcomes.{head_for, left_out, list_answer};
 ghost use Rattle.sgb.specs.Texts.{arc_line, block, blocks, head, head_text};
-ghost use Rattle.sgb.specs.Writing.{IsEnded, IsWritten};
+ghost use Rattle.sgb.specs.Writing.{IsEnded, IsWritten, effect};
 ghost use Rattle.sgb.specs.inner.Pages.{IsPaged, page_bytes};
 ghost use Rattle.sgb.specs.inner.Texts.{most_line_bytes};
 
+use super::arc_lines::{begin_arc, end_arc};
 use super::pages::{Page, make_room, put_page};
 use super::vertices::{push_name_line, vertices_left_out};
 use sgb_file::Sink;
@@ -25,7 +26,7 @@ pub(crate) fn write_listing<W: Sink>(
 ) -> Result<(), Fault>
     requires { W.has_failed out.old ≡ false }
     ensures ended { IsEnded (list_answer graph.now resume.now)
-        (out.new ≡ out.old) (change W.written W.has_failed out.old out.new) result }
+        (effect W.written W.has_failed out.old out.new) result }
     ensures nowhere { left_out (names_of graph.now) resume.now ≡ Err Fault.NoVertex
         → result ≡ Err Fault.NoVertex }
 {
@@ -128,8 +129,8 @@ fn push_arc<W: Sink>(graph: &Graph, link: Link, page: &mut Page, out: &mut W) ->
         (change W.written W.has_failed out.old out.new) result }
 {
     make_room(page, out)?;
-    page.begin_arc();
+    begin_arc(page);
     page.push_text(graph.name(link.tip).bytes());
-    page.end_arc(link.len);
+    end_arc(page, link.len);
     Ok(())
 }

@@ -7,7 +7,7 @@ ghost use Rattle.sgb_vec.specs.Names.{name_of_vector};
 ghost use Rattle.sgb_requests.specs.declared.faults.Fault.TheVariants as fault;
 ghost use Rattle.sgb.specs.Outcomes.{names_answer};
 ghost use Rattle.sgb.specs.Texts.{name_line};
-ghost use Rattle.sgb.specs.Writing.{IsEnded, IsWritten};
+ghost use Rattle.sgb.specs.Writing.{IsEnded, IsWritten, effect};
 
 use super::kept_names::KeptName;
 use super::pages::{Page, put_page};
@@ -23,7 +23,7 @@ use sgb_vec::{Family, Vectors};
 fn write_names<F: Family, W: Sink>(family: &F, resume: &Resume, out: &mut W) -> Result<(), Fault>
     requires { W.has_failed out.old ≡ false }
     ensures ended { IsEnded (names_answer (map name_of_vector (F.members family.now)) resume.now)
-        (out.new ≡ out.old) (change W.written W.has_failed out.old out.new) result }
+        (effect W.written W.has_failed out.old out.new) result }
     ensures certain { IfErr result (λ f. f ≢ Fault.Panic NoRoom) }
 {
     let start = start_of(family, resume)?;
@@ -43,8 +43,8 @@ impl<'r, W: Sink> Visitor<W> for NamesAnswer<'r> {
     ghost needs = { λ _ _ old. W.has_failed old ≡ false };
 
     ghost gives = { λ v g old new result.
-        IsEnded (names_answer (map name_of_vector g.vectors) v.resume.now) (new ≡ old)
-        (change W.written W.has_failed old new) result
+        IsEnded (names_answer (map name_of_vector g.vectors) v.resume.now)
+        (effect W.written W.has_failed old new) result
         × IfErr result (λ f. f ≢ fault.Panic NoRoom) };
 }
 

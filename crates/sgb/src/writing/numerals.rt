@@ -6,7 +6,7 @@
 ghost use Rattle.std.specs.Prelude.{◌≡◌, ◌≤◌, ◌<◌, decimal, length, take, IfSome};
 ghost use Rattle.sgb.specs.inner.Numerals.{IsNumeral};
 
-use super::pages::Filled;
+use super::filled::Filled;
 use std::marker::Model;
 
 // The texts of so many numbers are kept, those from 0 on.

@@ -6,7 +6,7 @@ ghost use Rattle.std.specs.Prelude.{◌≡◌, drop, map, option_map, Contains, 
 ghost use Rattle.std.specs.Result.{MatchResult};
 ghost use Rattle.sgb_graph.specs.Graphs.{GraphData};
 ghost use Rattle.sgb_vec.specs.Names.{name_of_vector};
-ghost use Rattle.sgb.specs.Locals.{head_if, start_after};
+ghost use Rattle.sgb.specs.Locals.{head_if, left_out_after};
 ghost use Rattle.sgb.specs.Outcomes.{head_for, left_out};
 ghost use Rattle.sgb.specs.Texts.{head};
 ghost use Rattle.sgb.specs.inner.Remaining.{BeginsAfter, IsLastSkipped, IsMemberNamed};
@@ -86,7 +86,7 @@ pub(super) fn slice_of(vector: &Option<Vector>) -> Option<&[u32]>
 /// The vectors of the family after this member, or all.
 pub(super) fn vectors_after<'a, F: Family>(family: &'a F, after: Option<&[u32]>) -> Vectors<'a, F>
     requires { IfSome after (λ x. Contains (F.members family.now) x.now) }
-    ensures { result ≡ drop (start_after (F.members family.now)
+    ensures { result ≡ drop (left_out_after (F.members family.now)
         (option_map (λ x. x.now) after.entry)) (F.members family.now) }
 {
     match after {

@@ -5,7 +5,7 @@ ghost use Rattle.sgb_file.specs.Devices.{change};
 ghost use Rattle.sgb_graph.specs.Vertices.{names_of};
 ghost use Rattle.sgb.specs.Outcomes.{left_out, names_answer, vertex_named};
 ghost use Rattle.sgb.specs.Texts.{name_line, name_lines};
-ghost use Rattle.sgb.specs.Writing.{IsEnded, IsWritten};
+ghost use Rattle.sgb.specs.Writing.{IsEnded, IsWritten, effect};
 ghost use Rattle.sgb.specs.inner.Pages.{IsPaged};
 
 use super::pages::{Page, make_room, put_page};
@@ -23,7 +23,7 @@ pub(crate) fn write_vertex_names<W: Sink>(
 ) -> Result<(), Fault>
     requires { W.has_failed out.old ≡ false }
     ensures ended { IsEnded (names_answer (names_of graph.now) resume.now)
-        (out.new ≡ out.old) (change W.written W.has_failed out.old out.new) result }
+        (effect W.written W.has_failed out.old out.new) result }
     ensures nowhere { left_out (names_of graph.now) resume.now ≡ Err Fault.NoVertex
         → result ≡ Err Fault.NoVertex }
 {

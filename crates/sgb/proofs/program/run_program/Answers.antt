@@ -1,4 +1,4 @@
-use Rattle.std.proofs.Common.{rules, ◌∙◌, sym, ◌≡◌, ℕ, List, MatchResult, Result, Ok, Err, arith}
+use Rattle.std.proofs.Common.{◌∙◌, refl, sym, ◌≡◌, ℕ, List, MatchResult, Result, Ok, Err, arith}
 use Rattle.sgb.proofs.Endings.{fault_status}
 use Rattle.sgb.proofs.program.run_program.Goals as goal
 use Rattle.std.specs.declared.io.ErrorKind.{ErrorKind}
@@ -27,7 +27,9 @@ pub returns-in-Ok-clause-read : goal.returns-in-Ok-clause-read
 returns-in-Ok-clause-read g c = program_ran c.args.words _ _ c.in-Ok.request _ _ c.in-Ok.ensures c.run.ensures.answers c.run.ensures.certain
 
 pub returns-in-Err-clause-read : goal.returns-in-Err-clause-read
-returns-in-Err-clause-read g c = search (rules, program_refused)
+returns-in-Err-clause-read g c =
+    program_refused c.args.words _ _ c.in-Err.fault _ _ c.in-Err.ensures
+    (record { out = record { same = refl; told = refl; sound = c.requires }; line = c.report.ensures.line; exit = c.report.ensures.status })
 
 pub returns-in-Err-clause-flushed : goal.returns-in-Err-clause-flushed
 returns-in-Err-clause-flushed g c = λ none. absurd (fault_status c.in-Err.fault (sym c.report.ensures.status ∙ none))

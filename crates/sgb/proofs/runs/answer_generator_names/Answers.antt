@@ -4,7 +4,7 @@ use Rattle.sgb.proofs.LocalListings.{named_local}
 use Rattle.sgb.proofs.runs.answer_generator_names.Goals as goal
 
 pub returns-clause-ended : goal.returns-clause-ended
-returns-clause-ended g c = named_local _ _ _ _ _ _ _ c.in_ok-local.ensures.value refl c.visit.ensures.0
+returns-clause-ended g c = named_local _ _ _ _ _ _ c.in_ok-local.ensures.value refl c.visit.ensures.0
 
 pub returns-in_err-local-clause-certain : goal.returns-in_err-local-clause-certain
 returns-in_err-local-clause-certain g c = λ needs.

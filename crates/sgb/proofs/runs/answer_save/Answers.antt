@@ -1,4 +1,3 @@
-use Rattle.std.proofs.Common.{refl}
 use Rattle.sgb.proofs.CertainAnswers.{at_once_other, at_once_unmade, exit_panic}
 use Rattle.sgb.proofs.Endings.{ended_value, refused_value}
 use Rattle.sgb.proofs.runs.answer_save.Goals as goal
@@ -6,12 +5,12 @@ use Rattle.sgb.proofs.runs.answer_save.Goals as goal
 pub returns-in_err-graph-clause-ended : goal.returns-in_err-graph-clause-ended
 returns-in_err-graph-clause-ended g c =
     let (value, on, is) = c.in_err-graph.ensures.value in
-    (value, on, refused_value _ _ _ _ _ _ _ c.from_residual.ensures.1 is c.requires refl)
+    (value, on, refused_value _ _ _ _ _ _ _ c.from_residual.ensures.1 is c.requires)
 
 pub returns-clause-ended : goal.returns-clause-ended
 returns-clause-ended g c =
     let (value, on, is) = c.in_ok-graph.ensures.value in
-    (value, on, ended_value _ c.in_ok-graph.graph _ _ _ _ is c.write_file.ensures)
+    (value, on, ended_value _ c.in_ok-graph.graph _ _ _ is c.write_file.ensures)
 
 pub returns-in_err-graph-clause-certain : goal.returns-in_err-graph-clause-certain
 returns-in_err-graph-clause-certain g c = λ needs.

@@ -3,7 +3,7 @@ use Rattle.sgb.proofs.Refusals.{answer_own}
 use Rattle.sgb.proofs.StdinValues.{kept_answer}
 use Rattle.sgb_values.proofs.StdinValues.{stdin_given}
 use Rattle.sgb.specs.Outcomes.{answer_of}
-use Rattle.std.proofs.Common.{refl}
+use Rattle.std.proofs.Common.{[], refl}
 use Rattle.sgb.proofs.runs.run.Goals as goal
 
 pub returns-clause-answers : goal.returns-clause-answers
@@ -15,9 +15,8 @@ returns-clause-answers g c =
 pub returns-clause-certain : goal.returns-clause-certain
 returns-clause-certain g c =
     certain_run c.args.request.now _ (λ unread needs sound.
-    let (kept, each) = c.run_answer.ensures.certain unread needs sound in
     let (stdin, gives) = stdin_given in
-    (stdin kept, each (answer_of c.args.request.now (stdin kept)) (stdin kept, gives kept, refl)))
+    (stdin [], c.run_answer.ensures.certain unread needs sound (answer_of c.args.request.now (stdin [])) (stdin [], gives [], refl)))
 
 pub returns-clause-apart : goal.returns-clause-apart
 returns-clause-apart g c = answer_own c.args.request.now

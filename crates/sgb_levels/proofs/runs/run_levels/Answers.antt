@@ -13,7 +13,7 @@ returns-in-Ok-clause-read g c =
 pub returns-in-Err-clause-read : goal.returns-in-Err-clause-read
 returns-in-Err-clause-read g c =
     levels_ran c.args.words _ _ (Err c.in-Err.fault) _ _ c.in-Err.ensures
-    (record { left = refl; untouched = refl; sound = c.requires; line = c.report_refusal.ensures.line; exit = c.report_refusal.ensures.status })
+    (record { out = record { same = refl; told = refl; sound = c.requires }; line = c.report_refusal.ensures.line; exit = c.report_refusal.ensures.status })
 
 pub returns-in-Err-clause-flushed : goal.returns-in-Err-clause-flushed
 returns-in-Err-clause-flushed g c = λ none. absurd (fault_status c.in-Err.fault (sym c.report_refusal.ensures.status ∙ none))

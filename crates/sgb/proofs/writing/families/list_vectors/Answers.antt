@@ -19,7 +19,7 @@ returns-in_err-put_page-clause-written g c =
 
 pub returns-in_err-put_page-clause-head : goal.returns-in_err-put_page-clause-head
 returns-in_err-put_page-clause-head g c =
-    exit_uncut _ _ _ _ _ _ c.from_residual-in_err-put_page.ensures.1 (λ other. absurd (other c.in_err-put_page.ensures.fault))
+    exit_uncut _ _ _ _ _ _ _ c.from_residual-in_err-put_page.ensures.1 (λ other. absurd (other c.in_err-put_page.ensures.fault))
 
 pub returns : goal.returns
 returns g c =
@@ -29,5 +29,5 @@ returns g c =
     let put = rw (c.in_ok-push_head_if.ensures.text, c.new-page.ensures) at c.in_ok-put_page.ensures.written.output in
     record {
       written = rw (blocks_of_rest graph rise c.family.ensures.ends _ _ rest) (written_after _ _ _ _ _ _ _ put c.write_blocks.ensures);
-      head = begun_by _ _ _ _ _ _ _ _ put c.write_blocks.ensures;
+      head = begun_by _ _ _ _ _ _ _ _ _ put c.write_blocks.ensures;
     }

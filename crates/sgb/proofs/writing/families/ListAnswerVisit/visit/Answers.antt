@@ -28,6 +28,6 @@ returns g c =
     let from = left_out_of_graph vectors c.args.self.resume.now (Ok begins.0) begins.1 in
     let after = blocks_after vectors begins.0 (option_map (λ vector. vector.items) c.in_ok-start.start) (option_map (λ x. x.now) c.slice_of.result) begins.2 c.slice_of.ensures in
     let written = rw c.prepare.ensures at c.list_vectors.ensures.written in (
-      ended_after (left_out (names_of graph) c.args.self.resume.now) begins.0 text _ _ _ from (rw (after, sym (c.has_head.ensures graph)) written),
+      ended_after (left_out (names_of graph) c.args.self.resume.now) begins.0 text _ _ from (rw (after, sym (c.has_head.ensures graph)) written),
       not_nowhere (left_out (names_of graph) c.args.self.resume.now) _ from,
     )

@@ -1,6 +1,6 @@
 use Rattle.std.proofs.Common.{◌≡◌, ◌≤◌, ◌+◌, ◌*◌, ◌-◌, ◌++◌, drop, length, nat_lt, take}
 use Rattle.sgb.specs.inner.Texts.{entries_text}
-use Rattle.sgb.proofs.writing.pages.Filled.push_entries.Given as goal
+use Rattle.sgb.proofs.writing.filled.Filled.push_entries.Given as goal
 
 -- the entries before this place have been put
 abbrev pub invariant-loop-place : goal.invariant-loop-place

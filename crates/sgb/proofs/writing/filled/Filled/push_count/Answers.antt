@@ -1,6 +1,6 @@
 use Rattle.std.proofs.Common.{length, length-append, decimal, ap, arith}
 use Rattle.std.proofs.lemmas.Fmt.{length-decimal-le}
-use Rattle.sgb.proofs.writing.pages.Filled.push_count.Goals as goal
+use Rattle.sgb.proofs.writing.filled.Filled.push_count.Goals as goal
 
 pub returns-else-number-lt10000-clause-short : goal.returns-else-number-lt10000-clause-short
 returns-else-number-lt10000-clause-short g c =

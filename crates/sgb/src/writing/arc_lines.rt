@@ -1,0 +1,77 @@
+//! The lines of arcs, put together in place.
+ghost use Rattle.std.specs.Prelude.{◌≡◌, ◌≤◌, ◌<◌, ◌+◌, ◌++◌, codes, decimal, length};
+ghost use Rattle.std.specs.Fmt.{signed_decimal};
+// For the search alone.
+ghost use Rattle.std.specs.Prelude.{[], ◌∷◌};
+
+use super::filled::Filled;
+
+/// Begins the line of an arc: what stands before the name of the vertex where it leads.
+#[inline(always)]
+pub(super) fn begin_arc<const N: usize>(line: &mut Filled<N>)
+    requires { length line.old + 5 ≤ N }
+    ensures put { line.new ≡ line.old ++ codes "  -> " }
+    ensures size { length line.new ≡ length line.old + 5 }
+{
+    line.push_text(b"  -> ");
+}
+
+/// Ends the line of an arc: what stands after that name.
+pub(super) fn end_arc<const N: usize>(line: &mut Filled<N>, len: i64)
+    requires { length line.old + 50 ≤ N }
+    ensures { line.new ≡ line.old
+        ++ (codes ", length " ++ (signed_decimal len ++ codes "\n")) }
+{
+    line.push_text(b", length ");
+    push_length(line, len);
+    line.push_text(b"\n");
+}
+
+/// Ends the line of an arc of a length that no file brought.
+#[inline(always)]
+pub(super) fn end_counted_arc<const N: usize>(line: &mut Filled<N>, len: u32)
+    requires { length line.old + 50 ≤ N }
+    ensures { line.new ≡ line.old ++ (codes ", length " ++ (decimal len ++ codes "\n")) }
+{
+    if len < 10 {
+        end_short_arc(line, len);
+    } else {
+        end_long_arc(line, len);
+    }
+}
+
+// Ends the line of an arc whose length has one digit.
+#[inline(always)]
+fn end_short_arc<const N: usize>(line: &mut Filled<N>, len: u32)
+    requires few { len < 10 }
+    requires room { length line.old + 11 ≤ N }
+    ensures { line.new ≡ line.old ++ (codes ", length " ++ (decimal len ++ codes "\n")) }
+{
+    let digit = b'0' + len as u8;
+    line.push_text(&[
+        b',', b' ', b'l', b'e', b'n', b'g', b't', b'h', b' ', digit, b'\n',
+    ]);
+}
+
+// Ends the line of an arc of any length.
+#[inline(never)]
+fn end_long_arc<const N: usize>(line: &mut Filled<N>, len: u32)
+    requires { length line.old + 50 ≤ N }
+    ensures { line.new ≡ line.old ++ (codes ", length " ++ (decimal len ++ codes "\n")) }
+{
+    line.push_text(b", length ");
+    line.push_count(len);
+    line.push_text(b"\n");
+}
+
+// Appends the length of an arc in decimal.
+fn push_length<const N: usize>(line: &mut Filled<N>, len: i64)
+    requires { length line.old + 40 ≤ N }
+    ensures text { line.new ≡ line.old ++ signed_decimal len }
+    ensures short { length line.new ≤ length line.old + 40 }
+{
+    match u32::try_from(len) {
+        Ok(count) => line.push_count(count),
+        Err(_) => line.push_number(len),
+    }
+}
