@@ -25,6 +25,10 @@ use Rattle.sgb_c.specs.inner.Causes.{IsValueRefusal}
 use Rattle.sgb_c.specs.declared.answers.Answer.{Answer}
 use Rattle.sgb_c.specs.declared.answers.Answer.TheVariants as answer
 
+-- a refusal of something of this type
+abbrev failed : (T : Type 0) {V : Type 0} → V → Result T V
+failed T why = Err why
+
 -- a graph that is built
 pub built_value : (input : List ℕ) (e : Expression) (g : GraphData) (r : Result OpenGraph Answer) → (v : Result GraphData Panic) × IsValueOn input e v × IsValue v (Ok g)
     → IfOk r (λ o. graph_open o ≡ g) → IfOk r (λ o. IsValueOn input e (Ok (graph_open o)))
@@ -76,7 +80,7 @@ unread_first text input unread.TooLarge r is read x p word small first = absurd 
 unread_first text input (unread.At k) r is read x p word small first = absurd (read.1 x word)
 unread_first text input unread.NoRoom r is read x p word small first = inr is
 
-pub unread_large : {T U : Type 0} (cause : Unread) (why : Answer) → why ≡ answer_of_unread cause → Err {T} cause ≡ Err unread.TooLarge → Err {U} why ≡ Err answer.TooLarge
+pub unread_large : {T U : Type 0} (cause : Unread) (why : Answer) → why ≡ answer_of_unread cause → failed T cause ≡ Err unread.TooLarge → failed U why ≡ Err answer.TooLarge
 unread_large cause why is large =
     let same : cause ≡ unread.TooLarge = cc in
     ap Err (is ∙ ap answer_of_unread same)
@@ -86,12 +90,12 @@ pub not_refused : {T U V : Type 0} (x : T) (a b : U) → (Ok x ≡ Err a) ⊎ (O
 not_refused x a b (inl e) = absurd cc
 not_refused x a b (inr e) = absurd cc
 
-pub refusal_kept : {T U V : Type 0} (a b : V) → Err {T} a ≡ Err b → Err {U} a ≡ Err b
+pub refusal_kept : {T U V : Type 0} (a b : V) → failed T a ≡ Err b → failed U a ≡ Err b
 refusal_kept a b is =
     let same : a ≡ b = cc in
     ap Err same
 
-pub either_kept : {T U V : Type 0} (a b d : V) → (Err {T} a ≡ Err b) ⊎ (Err {T} a ≡ Err d) → (Err {U} a ≡ Err b) ⊎ (Err {U} a ≡ Err d)
+pub either_kept : {T U V : Type 0} (a b d : V) → (failed T a ≡ Err b) ⊎ (failed T a ≡ Err d) → (failed U a ≡ Err b) ⊎ (failed U a ≡ Err d)
 either_kept a b d (inl is) = inl (refusal_kept a b is)
 either_kept a b d (inr is) = inr (refusal_kept a d is)
 
@@ -127,16 +131,16 @@ none_listed shown None none listed = absurd listed
 none_listed shown (Some h) none listed = absurd cc
 
 pub open_some : {T V : Type 0} (shown : T → GraphData) (held : Option T) → is_some held ≡ true → option_map shown held ≡ None → V
-open_some shown None open none = absurd cc
-open_some shown (Some h) open none = absurd cc
+open_some shown None some none = absurd cc
+open_some shown (Some h) some none = absurd cc
 
 -- the number of a refusal
-pub refusal_told : {T : Type 0} (a b : Answer) (number : ℕ) → number ≡ number_of a → Err {T} a ≡ Err b → number ≡ number_of b
+pub refusal_told : {T : Type 0} (a b : Answer) (number : ℕ) → number ≡ number_of a → failed T a ≡ Err b → number ≡ number_of b
 refusal_told a b number told is =
     let same : a ≡ b = cc in
     told ∙ ap number_of same
 
-pub either_told : {T : Type 0} (a b d : Answer) (number : ℕ) → number ≡ number_of a → (Err {T} a ≡ Err b) ⊎ (Err {T} a ≡ Err d) → (number ≡ number_of b) ⊎ (number ≡ number_of d)
+pub either_told : {T : Type 0} (a b d : Answer) (number : ℕ) → number ≡ number_of a → (failed T a ≡ Err b) ⊎ (failed T a ≡ Err d) → (number ≡ number_of b) ⊎ (number ≡ number_of d)
 either_told a b d number told (inl is) = inl (refusal_told a b number told is)
 either_told a b d number told (inr is) = inr (refusal_told a d number told is)
 

@@ -57,8 +57,8 @@ fn boxed(alloc: Global, graph: OpenGraph) -> Result<Box<Held>, Answer>
 // The graph of the expression that the text is, where `input` is standard input; or why there is none.
 fn graph_named(alloc: Global, text: &[u8], input: &[u8]) -> Result<OpenGraph, Answer>
     ensures named { IfOk result
-        (λ open. IsGraphNamed text.now input.now (Ok (graph_open open))) }
-    ensures built { IfOk result (λ open. IsListed open
+        (λ held. IsGraphNamed text.now input.now (Ok (graph_open held))) }
+    ensures built { IfOk result (λ held. IsListed held
         → (f : Generator) × IsExpression text.now (Generated f)) }
     ensures refused { IfErr result (λ answer. IsGraphNamed text.now input.now (Err answer)) }
     ensures large { IsTooLarge text.now → result ≡ Err answer.TooLarge }
@@ -75,8 +75,8 @@ fn graph_named(alloc: Global, text: &[u8], input: &[u8]) -> Result<OpenGraph, An
 // The graph of an expression: of a generator's call its accepted parameters, else the graph, built.
 fn graph_opened(alloc: Global, expression: &Expr, input: &[u8]) -> Result<OpenGraph, Answer>
     ensures value { IfOk result
-        (λ open. IsValueOn input.now (expression_of expression.now) (Ok (graph_open open))) }
-    ensures built { IfOk result (λ open. IsListed open
+        (λ held. IsValueOn input.now (expression_of expression.now) (Ok (graph_open held))) }
+    ensures built { IfOk result (λ held. IsListed held
         → (f : Generator) × (expression_of expression.now ≡ Generated f)) }
     ensures other { IfErr result (IsValueRefusal input.now (expression_of expression.now)) }
     ensures refused { (p : Panic) → IsRefusedFirst input.now (expression_of expression.now) p
@@ -91,7 +91,7 @@ fn graph_opened(alloc: Global, expression: &Expr, input: &[u8]) -> Result<OpenGr
 // The graph of a generator's call, which is not built.
 fn listed(alloc: Global, generator: &Generator) -> Result<OpenGraph, Answer>
     ensures value { IfOk result
-        (λ open. made (generator_value generator.now) ≡ Ok (graph_open open)) }
+        (λ held. made (generator_value generator.now) ≡ Ok (graph_open held)) }
     ensures other { IfErr result (λ why. (p : Panic) × (why ≡ answer.Panic p)
         × IsValue (made (generator_value generator.now)) (Err p)) }
     ensures refused { (p : Panic) → IsGeneratorRefused generator.now p
@@ -106,8 +106,8 @@ fn listed(alloc: Global, generator: &Generator) -> Result<OpenGraph, Answer>
 // The graph of an expression, built, with its lists as arrays.
 fn built(alloc: Global, expression: &Expr, input: &[u8]) -> Result<OpenGraph, Answer>
     ensures value { IfOk result
-        (λ open. IsValueOn input.now (expression_of expression.now) (Ok (graph_open open))) }
-    ensures built { IfOk result (λ open. IsListed open → ⊥) }
+        (λ held. IsValueOn input.now (expression_of expression.now) (Ok (graph_open held))) }
+    ensures built { IfOk result (λ held. IsListed held → ⊥) }
     ensures other { IfErr result (IsValueRefusal input.now (expression_of expression.now)) }
     ensures refused { (p : Panic) → IsRefusedFirst input.now (expression_of expression.now) p
         → result ≡ Err (answer.Panic p) }
@@ -120,8 +120,8 @@ fn built(alloc: Global, expression: &Expr, input: &[u8]) -> Result<OpenGraph, An
 
 // A graph with its lists as arrays.
 fn packed(alloc: Global, graph: Graph) -> Result<OpenGraph, Answer>
-    ensures graph { IfOk result (λ open. graph_open open ≡ graph) }
-    ensures built { IfOk result (λ open. IsListed open → ⊥) }
+    ensures graph { IfOk result (λ held. graph_open held ≡ graph) }
+    ensures built { IfOk result (λ held. IsListed held → ⊥) }
     ensures memory { IfErr result (λ why. why ≡ answer.Panic panic.NoRoom) }
 {
     match PackedGraph::new(alloc, graph) {
