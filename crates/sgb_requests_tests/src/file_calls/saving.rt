@@ -138,8 +138,8 @@ enum Saved {
     CutOff,
 }
 
-// Writes the file of the graph. It says nothing of what it writes, so that a function that calls it is proved with no more than
-// what it does itself.
+// Writes the file of the graph. It says nothing of what it writes, so that a function that calls it is proved with no
+// more than what it does itself.
 fn is_put<S: Sink>(graph: &Graph, sink: &mut S) -> bool {
     write_gb(graph, sink).is_ok()
 }
@@ -167,8 +167,8 @@ fn is_cut_off(graph: &Graph, text: &[u8], each: usize, limit: usize) -> bool
     is_whole == (most == text.len()) && sink.bytes() == &text[..most]
 }
 
-// Whether a sink that takes seven bytes a call has the first bytes of the text and fails, for each number of bytes below
-// those of the text.
+// Whether a sink that takes seven bytes a call has the first bytes of the text and fails, for each number of bytes
+// below those of the text.
 fn is_cut_off_anywhere(graph: &Graph, text: &[u8]) -> bool {
     for limit in 0..text.len() {
         if !is_cut_off(graph, text, 7, limit) {

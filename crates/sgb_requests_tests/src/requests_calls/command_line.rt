@@ -97,8 +97,8 @@ fn is_read(alloc: Global, begun: &str, rest: &str, wanted: Wanted<'_>) -> bool {
         && make(alloc, &words, wanted)
 }
 
-// The words after a command's name, each with where the answer begins: whole, with so many names or vertices left out, or
-// after a name.
+// The words after a command's name, each with where the answer begins: whole, with so many names or vertices left out,
+// or after a name.
 static VALID: [(&str, Start); 14] = [
     ("board(2,3,0,0,1,0,0)", Start::Whole),
     ("--|board(2,3,0,0,1,0,0)", Start::Whole),
