@@ -154,7 +154,10 @@ fn files_are_accepted_or_refused(rt: HostRuntime) {
 fn a_file_is_cut_after_each_byte(rt: HostRuntime) {
     for count in 0..TWO_JOINED.len() + 1 {
         let code = Seen::Code(refusal_of_first(count));
-        assert!(rt; is_read(rt.alloc(), &TWO_JOINED[..count], code), "at {count}");
+        assert!(rt;
+            is_read(rt.alloc(), &TWO_JOINED[..count], code),
+            "at {count}"
+        );
     }
 }
 

@@ -114,7 +114,10 @@ static VALID: [(&str, Start); 14] = [
     ("board(2,3,0,0,1,0,0)|--after|1", Start::After("1")),
     ("--after|0.2|board(2,3,0,0,1,0,0)", Start::After("0.2")),
     ("board(2,3,0,0,1,0,0)|--after=-x", Start::After("-x")),
-    ("--after=--skip|board(2,3,0,0,1,0,0)", Start::After("--skip")),
+    (
+        "--after=--skip|board(2,3,0,0,1,0,0)",
+        Start::After("--skip"),
+    ),
     ("board(2,3,0,0,1,0,0)|--after|", Start::After("")),
     ("board(2,3,0,0,1,0,0)|--after=", Start::After("")),
 ];
