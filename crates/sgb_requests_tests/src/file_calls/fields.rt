@@ -1,12 +1,12 @@
 //! Fields of lines, each in a file of three vertices and two arc records.
-use sgb_file::read_gb;
+use super::files::{Seen, is_read};
 use sgb_graph::{Graph, Ref, UtilRef};
 use std::alloc::{AllocError, Global};
 use std::process::Abort;
 
-// What is to be read.
+/// What is to be read.
 #[derive(Clone, Copy)]
-enum Wanted<'a> {
+pub(crate) enum Wanted<'a> {
     // No file.
     Refusal,
     // An integer of the first vertex.
@@ -186,8 +186,8 @@ fn holds_text(field: UtilRef<'_>, text: &[u8]) -> bool {
     matches!(field, UtilRef::Str(held) if held.bytes() == text)
 }
 
-// Whether the graph has this.
-fn has(graph: &Graph, wanted: Wanted<'_>) -> bool {
+/// Whether the graph has this.
+pub(crate) fn has(graph: &Graph, wanted: Wanted<'_>) -> bool {
     if graph.n() == 0 || graph.records_len() == 0 {
         return false;
     }
@@ -202,14 +202,6 @@ fn has(graph: &Graph, wanted: Wanted<'_>) -> bool {
     }
 }
 
-// Whether the file is read so.
-fn is_read(alloc: Global, file: &[u8], wanted: Wanted<'_>) -> bool {
-    match read_gb(alloc, file) {
-        Ok(graph) => has(&graph, wanted),
-        Err(_) => matches!(wanted, Wanted::Refusal),
-    }
-}
-
 // Appends a file with this text in the field.
 fn push_file(file: &mut String, field: Field, text: &str) -> Result<(), AllocError> {
     let Field(before, after) = field;
@@ -221,7 +213,8 @@ fn push_file(file: &mut String, field: Field, text: &str) -> Result<(), AllocErr
 // Whether a file with this text in the field is read so.
 fn is_field(alloc: Global, field: Field, text: &str, wanted: Wanted<'_>) -> bool {
     let mut file = String::new(alloc);
-    push_file(&mut file, field, text).is_ok() && is_read(alloc, file.as_bytes(), wanted)
+    push_file(&mut file, field, text).is_ok()
+        && is_read(alloc, file.as_bytes(), Seen::Field(wanted))
 }
 
 // An id of 160 bytes.

@@ -1,7 +1,10 @@
 //! Files read: what is refused with which code, what is accepted, and files that are cut.
+use super::fields::{Wanted, has};
 use super::sample_files::{LINES_OF_ALL_LENGTHS, TWO_JOINED};
 use super::saving::is_written;
 use sgb_file::read_gb;
+use sgb_graph::Graph;
+use sgb_vec::Panic;
 use std::alloc::Global;
 
 // The letters ZZZZZZZZZZZZZZ, 0 vertices and no arcs: the files from the second line on.
@@ -85,15 +88,46 @@ static REFUSED: [(&[u8], u8); 18] = [
     ),
 ];
 
-// The code with which the text is refused, or 0 where it is not.
-fn refusal(alloc: Global, text: &[u8]) -> u8 {
-    match read_gb(alloc, text).err() {
-        Some(panic) => panic.code(),
-        None => 0,
+/// What is to be seen where a file is read.
+#[derive(Clone, Copy)]
+pub(crate) enum Seen<'a> {
+    /// The code with which it is refused, or 0 where it is not.
+    Code(u8),
+    /// A graph that is written as it was read.
+    Again,
+    /// What a field is read as.
+    Field(Wanted<'a>),
+}
+
+impl<'a> Seen<'a> {
+    // Whether it is seen of the graph that was read.
+    fn is_of(self, alloc: Global, graph: &Graph, file: &[u8]) -> bool {
+        match self {
+            Seen::Code(code) => code == 0,
+            Seen::Again => is_written(alloc, graph, file),
+            Seen::Field(wanted) => has(graph, wanted),
+        }
+    }
+
+    // Whether the refusal is.
+    fn is_refusal(self, panic: Panic) -> bool {
+        match self {
+            Seen::Code(code) => panic.code() == code,
+            Seen::Again => false,
+            Seen::Field(wanted) => matches!(wanted, Wanted::Refusal),
+        }
     }
 }
 
-// That of the first bytes of the file of two joined vertices, so many of them.
+/// Whether that is seen of the file. It alone owns the graph.
+pub(crate) fn is_read(alloc: Global, file: &[u8], seen: Seen<'_>) -> bool {
+    match read_gb(alloc, file) {
+        Ok(graph) => seen.is_of(alloc, &graph, file),
+        Err(panic) => seen.is_refusal(panic),
+    }
+}
+
+// The code with which so many first bytes of the file of two joined vertices are refused, or 0.
 fn refusal_of_first(count: usize) -> u8 {
     if count <= 50 {
         10
@@ -109,30 +143,26 @@ fn refusal_of_first(count: usize) -> u8 {
 #[test]
 fn files_are_accepted_or_refused(rt: HostRuntime) {
     for text in &ACCEPTED {
-        assert!(rt; refusal(rt.alloc(), text) == 0);
+        assert!(rt; is_read(rt.alloc(), text, Seen::Code(0)));
     }
     for (text, code) in &REFUSED {
-        assert!(rt; refusal(rt.alloc(), text) == *code);
+        assert!(rt; is_read(rt.alloc(), text, Seen::Code(*code)));
     }
 }
 
 #[test]
 fn a_file_is_cut_after_each_byte(rt: HostRuntime) {
     for count in 0..TWO_JOINED.len() + 1 {
-        assert!(rt; refusal(rt.alloc(), &TWO_JOINED[..count]) == refusal_of_first(count));
-    }
-}
-
-// Whether the graph of the file is written as it was read.
-fn is_written_again(alloc: Global, file: &[u8]) -> bool {
-    match read_gb(alloc, file) {
-        Ok(graph) => is_written(alloc, &graph, file),
-        Err(_) => false,
+        let code = Seen::Code(refusal_of_first(count));
+        assert!(rt;
+            is_read(rt.alloc(), &TWO_JOINED[..count], code),
+            "at {count}"
+        );
     }
 }
 
 #[test]
 fn a_file_is_written_again_as_it_was_read(rt: HostRuntime) {
-    assert!(rt; is_written_again(rt.alloc(), TWO_JOINED));
-    assert!(rt; is_written_again(rt.alloc(), LINES_OF_ALL_LENGTHS));
+    assert!(rt; is_read(rt.alloc(), TWO_JOINED, Seen::Again));
+    assert!(rt; is_read(rt.alloc(), LINES_OF_ALL_LENGTHS, Seen::Again));
 }

@@ -3,7 +3,7 @@ ghost use Rattle.std.specs.Prelude.{◌<◌};
 ghost use Rattle.sgb_graph.specs.Growth.{HasPlainArcs};
 
 use super::sample_files::TWO_JOINED;
-use sgb_file::{CutSink, MemSink, write_gb};
+use sgb_file::{CutSink, MemSink, Sink, write_gb};
 use sgb_graph::{Graph, Id, Names};
 use sgb_vec::{Panic, Text};
 use std::alloc::Global;
@@ -138,16 +138,22 @@ enum Saved {
     CutOff,
 }
 
+// Writes the file of the graph. It says nothing of what it writes, so that a function that calls it is proved with no
+// more than what it does itself.
+fn is_put<S: Sink>(graph: &Graph, sink: &mut S) -> bool {
+    write_gb(graph, sink).is_ok()
+}
+
 // Whether the file of the graph begins with this text.
 fn begins(alloc: Global, graph: &Graph, text: &[u8]) -> bool {
     let mut sink = MemSink::new(alloc);
-    write_gb(graph, &mut sink).is_ok() && sink.bytes().starts_with(text)
+    is_put(graph, &mut sink) && sink.bytes().starts_with(text)
 }
 
 /// Whether the file of the graph is this text.
 pub(crate) fn is_written(alloc: Global, graph: &Graph, text: &[u8]) -> bool {
     let mut sink = MemSink::new(alloc);
-    write_gb(graph, &mut sink).is_ok() && sink.bytes() == text
+    is_put(graph, &mut sink) && sink.bytes() == text
 }
 
 // Whether a sink that takes so many bytes a call, and at most so many, has the text or its first bytes, and fails where
@@ -156,13 +162,13 @@ fn is_cut_off(graph: &Graph, text: &[u8], each: usize, limit: usize) -> bool
     requires { 0 < each }
 {
     let mut sink = CutSink::<200>::new(each, limit, false);
-    let is_whole = write_gb(graph, &mut sink).is_ok();
+    let is_whole = is_put(graph, &mut sink);
     let most = limit.min(text.len());
     is_whole == (most == text.len()) && sink.bytes() == &text[..most]
 }
 
-// Whether a sink that takes seven bytes a call has the first bytes of the text and fails, for each number of bytes below
-// those of the text.
+// Whether a sink that takes seven bytes a call has the first bytes of the text and fails, for each number of bytes
+// below those of the text.
 fn is_cut_off_anywhere(graph: &Graph, text: &[u8]) -> bool {
     for limit in 0..text.len() {
         if !is_cut_off(graph, text, 7, limit) {
