@@ -1,5 +1,5 @@
 //! A program's answer: standard input is read where it is wanted, the answer written and passed on, a fault reported.
-ghost use Rattle.std.specs.Prelude.{◌≡◌, ◌≢◌, ◌+◌, ◌&&◌, ℕ, Bool, List, [], Result, IfOk, IsOk, IfErr, OnOk, is_err, true, false};
+ghost use Rattle.std.specs.Prelude.{◌≡◌, ◌≢◌, ◌+◌, ◌&&◌, ℕ, Bool, List, [], Result, IfOk, IsOk, IfErr, OnOk, is_err, false};
 ghost use Rattle.std.specs.Io.KnownBytes.{Keeps};
 ghost use Rattle.sgb_file.specs.Devices.{change};
 ghost use Rattle.sgb_vec.specs.declared.panics.Panic.TheVariants.{NoRoom};
@@ -8,6 +8,8 @@ ghost use Rattle.sgb.specs.Inputs.{IsReadFrom, LosesAtMost};
 ghost use Rattle.sgb.specs.Runs.{AreUsed, IsAnswerGiven, IsAnswerRun};
 ghost use Rattle.sgb_values.specs.Values.{most_input};
 ghost use Rattle.sgb.specs.Writing.{IsEnded, IsEndedFrom, effect};
+// For the search alone.
+ghost use Rattle.std.specs.Prelude.{true};
 
 use crate::input::read_input;
 use sgb_file::{Sink, Source};

@@ -1,10 +1,12 @@
 //! Standard input, read whole.
 //!
 //! It is kept whole: the definition of an answer reads it before anything is written.
-ghost use Rattle.std.specs.Prelude.{◌≡◌, ◌≤◌, ◌<◌, ◌+◌, ◌-◌, ◌++◌, ℕ, List, true, length, nat_le, Result, Err, IfOk};
+ghost use Rattle.std.specs.Prelude.{◌≡◌, ◌≤◌, ◌<◌, ◌+◌, ◌-◌, ◌++◌, ℕ, List, length, IfOk};
 ghost use Rattle.std.specs.Io.KnownBytes.{Consumes, IsAtEnd};
 ghost use Rattle.sgb.specs.Inputs.{IsKeptOfInput, IsReadFrom, LosesAtMost};
 ghost use Rattle.sgb_values.specs.Values.{most_input};
+// For the search alone.
+ghost use Rattle.std.specs.Prelude.{true, nat_le, Result, Err};
 
 use sgb_file::Source;
 use sgb_requests::Fault;

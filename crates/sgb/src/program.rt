@@ -1,5 +1,5 @@
 //! A call of the program, from its words to its bytes and its exit status.
-ghost use Rattle.std.specs.Prelude.{◌≡◌, ◌+◌, [], Ok, Err, MatchResult, false, map};
+ghost use Rattle.std.specs.Prelude.{◌≡◌, ◌+◌, [], Err, MatchResult, false, map};
 ghost use Rattle.std.specs.IoError.{error_kind};
 ghost use Rattle.std.specs.String.{string_bytes};
 ghost use Rattle.sgb_file.specs.Devices.{change};
@@ -9,6 +9,8 @@ ghost use Rattle.sgb_requests.specs.Requests.{IsCommandLineReadAs};
 ghost use Rattle.sgb.specs.Runs.{IsReported};
 ghost use Rattle.sgb_values.specs.Values.{most_input};
 ghost use Rattle.sgb.specs.Writing.{effect};
+// For the search alone.
+ghost use Rattle.std.specs.Prelude.{Ok};
 
 use crate::runs::run;
 use sgb_file::{Sink, Source};

@@ -10,13 +10,15 @@ ghost use Rattle.sgb_file.specs.Saving.{text_of_graph};
 ghost use Rattle.sgb_graph.specs.Vertices.{names_of};
 ghost use Rattle.sgb.specs.Certain.{BeginsNowhere, IsBoard, IsCertain, IsRefusedAtOnce, NeedsNoMemory};
 ghost use Rattle.sgb.specs.inner.Certain.{HasListingAtOnce, HasNamesAtOnce};
-ghost use Rattle.sgb.specs.Outcomes.{IsAnswered, answer_from, answer_of, list_answer, names_answer, queen_moves, queen_title, reads_input};
+ghost use Rattle.sgb.specs.Outcomes.{IsAnswered, answer_from, list_answer, names_answer, queen_moves, queen_title, reads_input};
 ghost use Rattle.sgb.specs.Inputs.{LosesAtMost};
 ghost use Rattle.sgb.specs.Runs.{IsRunOn};
 ghost use Rattle.sgb.specs.Texts.{blocks, head};
 ghost use Rattle.sgb_gen.specs.Generators.{generator_value, made};
 ghost use Rattle.sgb_values.specs.Values.{IsValueOn, most_input, value_of};
 ghost use Rattle.sgb.specs.Writing.{IsEnded, effect};
+// For the search alone.
+ghost use Rattle.sgb.specs.Outcomes.{answer_of};
 
 use crate::answers::{Answer, run_answer};
 use crate::queens::queen_moves;

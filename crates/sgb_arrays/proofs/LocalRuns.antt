@@ -97,9 +97,13 @@ refusal_answered g members first count (Err why) same said =
 -- how many arcs a run by a displacement has
 pub run_length : (d : RunsData) (ahead : List (ℕ × ℤ)) (farthest : ℕ) (back : List (ℕ × ℤ)) (farthest_back : ℕ) → length (arcs_of_run d ahead farthest back farthest_back) ≡ farthest + farthest_back
 run_length d ahead farthest back farthest_back =
-    omega (arith, length-append (reverse (arcs_along d.sizes d.wrap d.x ahead farthest)) (arcs_along d.sizes d.wrap d.x back farthest_back),
-    length-reverse (arcs_along d.sizes d.wrap d.x ahead farthest),
-    length-map-range_with_len (arc_along d.sizes d.wrap d.x ahead) 1 farthest, length-map-range_with_len (arc_along d.sizes d.wrap d.x back) 1 farthest_back)
+    omega (
+      arith,
+      length-append (reverse (arcs_along d.sizes d.wrap d.x ahead farthest)) (arcs_along d.sizes d.wrap d.x back farthest_back),
+      length-reverse (arcs_along d.sizes d.wrap d.x ahead farthest),
+      length-map-range_with_len (arc_along d.sizes d.wrap d.x ahead) 1 farthest,
+      length-map-range_with_len (arc_along d.sizes d.wrap d.x back) 1 farthest_back,
+    )
 
 -- a vector's list is as long as that of its vertex
 pub list_length : (g : VectorGraph) (members : List (List ℕ)) → IsRising members → members ≡ g.vectors → All (HasEnds g.vectors) g.moves → (place : ℕ) (x : List ℕ) → slice_get g.vectors place ≡ Some x

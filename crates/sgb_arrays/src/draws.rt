@@ -1,8 +1,11 @@
 //! Random numbers, put into an array.
-ghost use Rattle.std.specs.Prelude.{◌≡◌, ◌≤◌, ℕ, ℤ, length, OnOk, IfErr};
-ghost use Rattle.sgb_graph.specs.Draws.{IsAtDraw, modulus, plain_draws, seed_of, uniform_draws};
-ghost use Rattle.sgb_arrays.specs.inner.Puts.{put_from};
+ghost use Rattle.std.specs.Prelude.{◌≡◌, ◌≤◌, length, OnOk, IfErr};
+ghost use Rattle.sgb_graph.specs.Draws.{modulus, plain_draws, seed_of, uniform_draws};
 ghost use Rattle.sgb_arrays.specs.declared.refusals.Wrong.TheVariants as wrong;
+// For the search alone.
+ghost use Rattle.std.specs.Prelude.{ℕ, ℤ};
+ghost use Rattle.sgb_graph.specs.Draws.{IsAtDraw};
+ghost use Rattle.sgb_arrays.specs.inner.Puts.{put_from};
 
 use crate::refusals::Wrong;
 use sgb_graph::Flip;

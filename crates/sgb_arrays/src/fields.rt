@@ -1,5 +1,5 @@
 //! The utility fields of a run of vertices as arrays: of a graph, and of a generator's graph that is not built.
-ghost use Rattle.std.specs.Prelude.{◌≡◌, ◌<◌, ◌≤◌, ◌+◌, drop, length, map, pos, slice_get, slice_index, take, Some, OnOk, IfErr};
+ghost use Rattle.std.specs.Prelude.{◌≡◌, ◌<◌, ◌≤◌, ◌+◌, drop, length, map, pos, slice_index, take, OnOk, IfErr};
 ghost use Rattle.std.specs.Bool.{OnTrue, OnFalse};
 ghost use Rattle.sgb_arrays.specs.Fields.{HoldsInts, IsIntsRefusal, int_at, int_of, ints_of};
 ghost use Rattle.sgb_arrays.specs.Runs.{IsThere};
@@ -7,6 +7,8 @@ ghost use Rattle.sgb_arrays.specs.inner.Kinds.{HoldIntsAt, IsMisfitOfInts, is_in
 ghost use Rattle.sgb_graph.specs.Columns.{util_seen, vertex_seen};
 ghost use Rattle.sgb_graph.specs.Made.{graph_described};
 ghost use Rattle.sgb_gen.specs.Generators.{described, vectors_of};
+// For the search alone.
+ghost use Rattle.std.specs.Prelude.{slice_get, Some};
 
 use crate::refusals::Wrong;
 use crate::runs::{is_there, vectors_from};
@@ -52,8 +54,21 @@ pub(crate) fn fill_local_ints(
     ensures refused { IfErr result (λ why. IsIntsRefusal (graph_described (described local.now))
         field first count (length values.old) why × (values.new ≡ values.old)) }
 {
-    are_ints(local.size(), &local.kinds(), field, first, count, values.len())?;
-    put_entries(local, (field as usize).saturating_sub(3), first, count, values);
+    are_ints(
+        local.size(),
+        &local.kinds(),
+        field,
+        first,
+        count,
+        values.len(),
+    )?;
+    put_entries(
+        local,
+        (field as usize).saturating_sub(3),
+        first,
+        count,
+        values,
+    );
     Ok(())
 }
 

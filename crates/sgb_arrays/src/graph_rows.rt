@@ -1,10 +1,12 @@
 //! The lists of arcs of a run of a graph's vertices, put into arrays one after another.
-ghost use Rattle.std.specs.Prelude.{◌≡◌, ◌≤◌, ◌<◌, ◌+◌, ◌^◌, length, map, IfErr, IfOk, OnOk};
+ghost use Rattle.std.specs.Prelude.{◌≡◌, ◌≤◌, ◌<◌, ◌+◌, length, map, IfErr, IfOk, OnOk};
 ghost use Rattle.sgb_graph.specs.Graphs.{chain_of};
 ghost use Rattle.sgb_arrays.specs.Runs.{AreRows, AreTips, HaveRowLengths, HaveTipLengths, IsFillRefusal, IsThere, parts_of};
 ghost use Rattle.sgb_arrays.specs.inner.Puts.{put_from};
 ghost use Rattle.sgb_arrays.specs.inner.Sizes.{AreSizesFrom};
 ghost use Rattle.sgb_arrays.specs.declared.refusals.Wrong.TheVariants as wrong;
+// For the search alone.
+ghost use Rattle.std.specs.Prelude.{◌^◌};
 
 use crate::refusals::Wrong;
 use crate::runs::{have_places, have_row_places, is_there};

@@ -112,11 +112,7 @@ fn sum_of(arcs: u128, more: u128) -> Result<u128, Panic>
 }
 
 // The number of the arcs of a vector: by runs where they are had, else by its list.
-fn arcs_from<'a, L: Listed<'a>>(
-    listed: &mut L,
-    x: &[u32],
-    links: &mut Links,
-) -> Result<u128, Panic>
+fn arcs_from<'a, L: Listed<'a>>(listed: &mut L, x: &[u32], links: &mut Links) -> Result<u128, Panic>
     requires { Contains (L.graph listed.old).vectors x.now }
     ensures arcs { IfOk result (λ m. m ≡ length (list_in (L.graph listed.old) x.now)) }
     ensures memory { IsOkUnless result Panic.NoRoom }

@@ -1,10 +1,11 @@
 //! The arguments of each generator's form, and the graph that they name.
 ghost use Rattle.std.specs.Prelude.{◌≡◌, ◌<◌, ◌^◌, IfOk, [], ◌∷◌, codes, nat_abs};
-ghost use Rattle.sgb_gen.specs.Shorthands.{complete, transitive, empty, circuit, cycle, disjoint_subsets, petersen};
 ghost use Rattle.sgb_expr.specs.Forms.{board_params, simplex_params, subsets_params};
 ghost use Rattle.sgb_expr.specs.inner.Gives.{Finds};
 ghost use Rattle.sgb_expr.specs.inner.Reading.{generator_at, subsets_at};
 ghost use Rattle.sgb_expr.specs.inner.Readings.{integers_at};
+// For the search alone.
+ghost use Rattle.sgb_gen.specs.Shorthands.{complete, transitive, empty, circuit, cycle, disjoint_subsets, petersen};
 
 use crate::names::GeneratorName;
 use crate::numbers::{bits, integers};

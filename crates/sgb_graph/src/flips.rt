@@ -1,9 +1,11 @@
 //! The random number generator of GB_FLIP.
 //!
 //! Of any 1760 draws in a row one is not thrown away (`uniform_draw_law`), so the search for a uniform draw is bounded.
-ghost use Rattle.std.specs.Prelude.{◌≡◌, ℕ, ℤ, ◌+◌, ◌%◌, ◌<◌, ◌≤◌};
+ghost use Rattle.std.specs.Prelude.{◌≡◌, ℕ, ℤ, ◌+◌, ◌<◌, ◌≤◌};
 ghost use Rattle.sgb_graph.specs.Draws.{IsUniformDraw, IsAtDraw, difference, draw, modulus, seed_of};
 ghost use Rattle.sgb_graph.specs.inner.Flips.{HandsOut, IsCycle, IsFirstCycle, IsNextCycle, rotated_once};
+// For the search alone.
+ghost use Rattle.std.specs.Prelude.{◌%◌};
 
 use jumps::jump;
 use std::marker::Model;

@@ -1,7 +1,6 @@
 //! The union of two graphs on the vertices of the first (GB_BASIC, gunion).
 ghost use Rattle.std.specs.Prelude.{◌≡◌, ◌<◌, ◌++◌, [], ◌∷◌, length, map, filter, nat_lt, OnOk, IfOk, IsOkUnless, if◌then◌else◌};
 ghost use Rattle.sgb_graph.specs.Descriptions.{IsAnswerOf};
-ghost use Rattle.sgb_graph.specs.declared.fields.Link.{Link};
 ghost use Rattle.sgb_graph.specs.Growth.{AddsEvents, HasPlainArcs};
 ghost use Rattle.sgb_ops.specs.inner.Ends.{event_of};
 ghost use Rattle.sgb_ops.specs.Gunion.{gunion_of, union_events};
@@ -9,6 +8,8 @@ ghost use Rattle.sgb_ops.specs.Merged.{merged_unless};
 ghost use Rattle.sgb_ops.specs.Taken.{taken};
 ghost use Rattle.sgb_ops.specs.inner.Compounds.{gunion_id};
 ghost use Rattle.sgb_ops.specs.inner.Gunion.{union_arcs};
+// For the search alone.
+ghost use Rattle.sgb_graph.specs.declared.fields.Link.{Link};
 
 use crate::compounds::flag_byte;
 use crate::events::{Event, add_events};

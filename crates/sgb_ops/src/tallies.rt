@@ -1,8 +1,10 @@
 //! How many arcs lead to each vertex, and the least of their lengths.
-ghost use Rattle.std.specs.Prelude.{◌≡◌, ◌<◌, ◌+◌, ◌^◌, ℕ, nat_eq, Some, IfOk, IsOkUnless};
+ghost use Rattle.std.specs.Prelude.{◌≡◌, ◌<◌, ◌+◌, ◌^◌, ℕ, nat_eq, IfOk, IsOkUnless};
 ghost use Rattle.std.specs.Option.{option_map_or};
 ghost use Rattle.indexmap.specs.IndexMap.{get};
 ghost use Rattle.sgb_ops.specs.inner.Tallies.{one_more, tally_to};
+// For the search alone.
+ghost use Rattle.std.specs.Prelude.{Some};
 
 use indexmap::IndexMap;
 use sgb_graph::Link;

@@ -1,4 +1,5 @@
 //! Calls that read standard input, and calls that leave it alone.
+// For the search alone.
 ghost use Rattle.std.specs.Prelude.{◌<◌};
 
 use crate::calls::{

@@ -7,7 +7,7 @@
 //!
 //! What puts the line of an arc together is inlined in one place (`push_arc`): a simplex takes a twentieth less time
 //! so.
-ghost use Rattle.std.specs.Prelude.{◌≡◌, ◌≢◌, ◌≤◌, ◌+◌, [], ◌++◌, false, pos, drop, length, option_map, reverse, Contains, Err, IfErr, IfOk, IfSome, IsOkUnless, OnOk};
+ghost use Rattle.std.specs.Prelude.{◌≡◌, ◌≢◌, ◌≤◌, ◌+◌, [], ◌++◌, false, pos, length, option_map, reverse, Contains, Err, IfErr, IfSome, IsOkUnless, OnOk};
 ghost use Rattle.std.specs.List.{flat_map};
 ghost use Rattle.sgb_file.specs.Devices.{change};
 ghost use Rattle.sgb_vec.specs.Limits.{most_dimensions};
@@ -27,6 +27,8 @@ ghost use Rattle.sgb.specs.Texts.{head, name_line};
 ghost use Rattle.sgb_gen.specs.Generators.{described};
 ghost use Rattle.sgb.specs.Outcomes.{left_out, list_answer};
 ghost use Rattle.sgb.specs.Writing.{IsEnded, IsLeftOrBegun, IsWritten, effect};
+// For the search alone.
+ghost use Rattle.std.specs.Prelude.{drop, IfOk};
 
 use super::arc_lines::{begin_arc, end_counted_arc};
 use super::kept_names::KeptName;

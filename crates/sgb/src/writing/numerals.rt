@@ -3,8 +3,10 @@
 //! That saves a tenth of the time of a knights' listing: how many digits a number has is then no branch. Ten thousand
 //! of them would be 50 KB, more than a page and the rest leave of the first cache; a greater number is put digit by
 //! digit.
-ghost use Rattle.std.specs.Prelude.{◌≡◌, ◌≤◌, ◌<◌, decimal, length, take, IfSome};
+ghost use Rattle.std.specs.Prelude.{◌≡◌, ◌≤◌, ◌<◌, length, take, IfSome};
 ghost use Rattle.sgb.specs.inner.Numerals.{IsNumeral};
+// For the search alone.
+ghost use Rattle.std.specs.Prelude.{decimal};
 
 use super::filled::Filled;
 use std::marker::Model;

@@ -5,11 +5,13 @@
 //! leaves 64 bits before it. Any other record goes field by field: one with `0` or `1` for a vertex, with a number of
 //! more than 18 digits, on two lines, or longer. No clause says when a function here has something to say of a line:
 //! one that never had would read the same graph.
-ghost use Rattle.std.specs.Prelude.{◌≡◌, ◌+◌, ◌%◌, ◌++◌, ◌∷◌, [], IfSome, IsTrue};
+ghost use Rattle.std.specs.Prelude.{◌≡◌, ◌%◌, ◌++◌, ◌∷◌, [], IfSome, IsTrue};
 ghost use Rattle.sgb_file.specs.Checksum.{checksum_prime};
 ghost use Rattle.sgb_file.specs.inner.Layouts.{checksum_from, counted_bytes, value_after};
 ghost use Rattle.sgb_file.specs.inner.LinesLeft.{has_no_newline};
 ghost use Rattle.sgb_file.specs.inner.LineRecords.{AreFieldsOf, IsArcLine, IsNamedAt, IsVertexLine};
+// For the search alone.
+ghost use Rattle.std.specs.Prelude.{◌+◌};
 
 use super::heads::Counts;
 use super::plain::{after_comma, counted_integer, counted_record_number, counted_ref};

@@ -2,12 +2,14 @@
 //!
 //! A record whose own fields are not used ends its line at once. Else a comma stands after a field where another one in
 //! use follows.
-ghost use Rattle.std.specs.Prelude.{◌≡◌, ◌≤◌, Some, length, map, decimal, true, false};
+ghost use Rattle.std.specs.Prelude.{◌≡◌, ◌≤◌, length, map, decimal};
 ghost use Rattle.std.specs.Fmt.{signed_decimal};
 ghost use Rattle.std.specs.List.{flat_map};
 ghost use Rattle.sgb_graph.specs.Columns.{util_seen};
 ghost use Rattle.sgb_file.specs.inner.Layouts.{AreLaidOut, IsNextPlaced, IsPlaced, comma_of, has_any, piece_of, stage};
 ghost use Rattle.sgb_file.specs.Saving.{field_texts, quoted, record_number_text, ref_text};
+// For the search alone.
+ghost use Rattle.std.specs.Prelude.{Some, true, false};
 
 use super::layouts::Layout;
 use crate::devices::{Failed, Sink};

@@ -3,12 +3,14 @@
 //! Four kilobytes of them leave in one put, some 250 lines. A digit's place in the checksum is its value, so a digit
 //! takes no look into the table. What is called short no clause says: a body that never did so would lay out the same
 //! bytes, in more time.
-ghost use Rattle.std.specs.Prelude.{◌≡◌, ◌+◌, ◌*◌, ◌/◌, ◌%◌, ◌^◌, ◌<◌, ◌≤◌, ◌∷◌, [], Some, IfSome, decimal, length};
+ghost use Rattle.std.specs.Prelude.{◌≡◌, ◌+◌, ◌/◌, ◌%◌, ◌^◌, ◌<◌, ◌≤◌, ◌∷◌, [], Some, IfSome, decimal, length};
 ghost use Rattle.std.specs.Bool.{OnTrue};
 ghost use Rattle.sgb_file.specs.Checksum.{checksum_prime};
 ghost use Rattle.sgb_file.specs.Saving.{quoted, record_lines, record_number_text};
 ghost use Rattle.sgb_file.specs.inner.Layouts.{HasLaid, place_of};
 ghost use Rattle.sgb_file.specs.inner.ShortLines.{AreShort, AreShortFields, field_texts_of, line_of, name_piece, put_after, short_stage, short_texts};
+// For the search alone.
+ghost use Rattle.std.specs.Prelude.{◌*◌};
 
 use crate::checksums::{place_of, remainder, value_with};
 use std::marker::Model;

@@ -26,11 +26,11 @@ use crate::steps::{Parts, Step, put_parts_of};
 use crate::vector_graphs::{put_coordinates, vector_names};
 pub use board_lists::BoardLists;
 pub use runs::{Run, Runs};
-pub use strides::{Stride, Strides};
 use sgb_graph::{Graph, Id, IdWriter};
 use sgb_vec::{BoxFamily, Family, Panic, Shape, Vector, Vectors, board_sizes};
 use std::alloc::Global;
 use std::marker::Model;
+pub use strides::{Stride, Strides};
 
 // The piece of a board is at most this number, and at least its negative.
 const MOST_PIECE: u64 = 2_147_483_647;

@@ -1,9 +1,11 @@
 //! The utility fields of all vertices, each by its kind.
-ghost use Rattle.std.specs.Prelude.{◌≡◌, ◌+◌, ◌++◌, List, [], ◌∷◌, length, map, slice_get, Some, OnOk};
+ghost use Rattle.std.specs.Prelude.{◌≡◌, ◌++◌, List, [], ◌∷◌, length, map, slice_get, Some, OnOk};
 ghost use Rattle.std.specs.Bool.{OnTrue};
 ghost use Rattle.sgb_graph.specs.Columns.{util_seen};
 ghost use Rattle.sgb_graph.specs.inner.Columns.{util_kind, values};
 ghost use Rattle.sgb_graph.specs.inner.KeptVertices.{AreKept, HoldNumbers, columns_fit, field_columns, field_kinds, ints_inside};
+// For the search alone.
+ghost use Rattle.std.specs.Prelude.{◌+◌};
 
 use super::numbers::{Numbers, take_numbers};
 use super::plain::PlainVertex;

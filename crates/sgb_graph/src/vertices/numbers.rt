@@ -1,5 +1,5 @@
 //! A utility field x, y or z of all vertices: its integers stand in the vertices, all other values beside them.
-ghost use Rattle.std.specs.Prelude.{◌≡◌, ◌<◌, ◌+◌, ◌++◌, ℕ, List, [], ◌∷◌, length, slice_get, Some, OnOk};
+ghost use Rattle.std.specs.Prelude.{◌≡◌, ◌<◌, ◌++◌, ℕ, List, [], ◌∷◌, length, slice_get, Some, OnOk};
 ghost use Rattle.std.specs.Bool.{OnTrue};
 ghost use Rattle.std.specs.List.{list_all};
 ghost use Rattle.sgb_graph.specs.Columns.{util_seen};
@@ -9,6 +9,8 @@ ghost use Rattle.sgb_graph.specs.Growth.{number_or_zero};
 ghost use Rattle.sgb_graph.specs.inner.KeptVertices.{TakeNumbers, numbers_values};
 ghost use Rattle.sgb_graph.specs.declared.fields.Util.TheVariants.{Int};
 ghost use Rattle.sgb_graph.specs.declared.vertices.numbers.Numbers.TheVariants.{Inside};
+// For the search alone.
+ghost use Rattle.std.specs.Prelude.{◌+◌};
 
 use super::plain::PlainVertex;
 use crate::columns::Column;

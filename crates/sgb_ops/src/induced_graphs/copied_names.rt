@@ -1,11 +1,13 @@
 //! The names of the vertices that stand in the places of others (GB_BASIC, induced).
-ghost use Rattle.std.specs.Prelude.{◌≡◌, ◌<◌, ◌++◌, length, map, OnOk, IfOk, IsOkUnless};
+ghost use Rattle.std.specs.Prelude.{◌≡◌, ◌++◌, length, map, OnOk, IfOk, IsOkUnless};
 ghost use Rattle.std.specs.List.{range_with_len};
 ghost use Rattle.sgb_ops.specs.declared.induced_graphs.entries.Entry.TheVariants as entry;
 ghost use Rattle.sgb_ops.specs.Entries.{merged_count, names_by_entries, names_of_copies};
 ghost use Rattle.sgb_graph.specs.Vertices.{names_of};
 ghost use Rattle.sgb_ops.specs.inner.Compounds.{merged_name, numbered_name};
 ghost use Rattle.sgb_ops.specs.inner.Entries.{own_names};
+// For the search alone.
+ghost use Rattle.std.specs.Prelude.{◌<◌};
 
 use super::entries::Entry;
 use crate::compounds::{ended_name, joined_name, name_of_parts};

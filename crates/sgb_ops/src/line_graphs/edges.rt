@@ -1,10 +1,12 @@
 //! The edges of a line graph that is not directed (GB_BASIC, lines).
-ghost use Rattle.std.specs.Prelude.{◌≡◌, ℕ, false, ◌≤◌, ◌<◌, ◌+◌, ◌++◌, ◌==◌, [], ◌∷◌, length, filter, take, slice_index_or, All, OnOk, IfOk, IsOkUnless, if◌then◌else◌};
+ghost use Rattle.std.specs.Prelude.{◌≡◌, ℕ, false, ◌≤◌, ◌<◌, ◌++◌, ◌==◌, [], ◌∷◌, length, filter, take, slice_index_or, All, OnOk, IfOk, IsOkUnless, if◌then◌else◌};
 ghost use Rattle.sgb_vec.specs.Limits.{most_vertices};
 ghost use Rattle.sgb_graph.specs.Growth.{AddsEvents, HasPlainArcs};
 ghost use Rattle.sgb_ops.specs.Lines.{line_events};
 ghost use Rattle.sgb_ops.specs.inner.Lines.{DescendFrom, LeadsUp, LineWithin, events_to_numbers, no_line, events_to};
 ghost use Rattle.sgb_ops.specs.inner.LineLists.{counts, list_at, numbers_at, touches};
+// For the search alone.
+ghost use Rattle.std.specs.Prelude.{◌+◌};
 
 use super::line::Line;
 use sgb_graph::Graph;

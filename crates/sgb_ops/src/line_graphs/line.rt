@@ -1,5 +1,5 @@
 //! The lines of a graph: its arcs or edges as the vertices of its line graph (GB_BASIC, lines).
-ghost use Rattle.std.specs.Prelude.{◌≡◌, false, ◌<◌, ◌+◌, ◌/◌, ◌++◌, Ok, Err, length, map, All, OnOk, IfOk, IfErr, IsOkUnless, if◌then◌else◌};
+ghost use Rattle.std.specs.Prelude.{◌≡◌, false, ◌<◌, ◌/◌, ◌++◌, Ok, Err, length, map, All, OnOk, IfOk, IfErr, IsOkUnless, if◌then◌else◌};
 ghost use Rattle.std.specs.List.{list_all};
 ghost use Rattle.sgb_ops.specs.Lines.{accepted_lines, has_way_back, is_of_edges, lines_of_graph};
 ghost use Rattle.sgb_ops.specs.inner.Lines.{DescendFrom, LeadsUp, LineWithin, line_of, points_to};
@@ -7,6 +7,8 @@ ghost use Rattle.sgb_graph.specs.Vertices.{name_at};
 ghost use Rattle.sgb_ops.specs.Taken.{taken};
 ghost use Rattle.sgb_ops.specs.Compounds.{line_name};
 ghost use Rattle.sgb_ops.specs.inner.Compounds.{line_sign};
+// For the search alone.
+ghost use Rattle.std.specs.Prelude.{◌+◌};
 
 use crate::compounds::joined_name;
 use crate::taken::taken;

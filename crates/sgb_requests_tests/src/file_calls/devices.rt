@@ -1,4 +1,5 @@
 //! Devices over memory and cut short, on worked examples and on long texts.
+// For the search alone.
 ghost use Rattle.std.specs.Prelude.{◌<◌};
 
 use super::adapters::{is_given_by_reader, is_read_once, is_taken_by_counts, is_taken_by_writer};

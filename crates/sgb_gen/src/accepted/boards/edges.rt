@@ -1,13 +1,16 @@
 //! The arcs of a board's vector by the edges of one displacement, in the order of their starts.
 //!
 //! The starts are the vector itself and those where the opposite displacement leads: for a rider they are sorted.
-ghost use Rattle.std.specs.Prelude.{◌≡◌, ◌<◌, ◌++◌, ◌==◌, false, length, reverse, Some, OnOk, IsOkUnless};
+ghost use Rattle.std.specs.Prelude.{◌≡◌, ◌++◌, false, length, reverse, OnOk, IsOkUnless};
 ghost use Rattle.sgb_vec.specs.Boxes.{box};
 ghost use Rattle.sgb_vec.specs.Lexicographic.{IsBelow};
 ghost use Rattle.sgb_gen.specs.inner.LocalBoards.{edge_arcs, own_starts, other_starts, starts_of, arcs_of_starts, arcs_onward, moves_by};
 ghost use Rattle.sgb_gen.specs.Moves.{moves_from, sides_of, opposite};
-ghost use Rattle.sgb_gen.specs.inner.Moves.{destination, longest_move};
+ghost use Rattle.sgb_gen.specs.inner.Moves.{destination};
 ghost use Rattle.sgb_gen.specs.VectorGraphs.{vertex_among};
+// For the search alone.
+ghost use Rattle.std.specs.Prelude.{◌<◌, ◌==◌, Some};
+ghost use Rattle.sgb_gen.specs.inner.Moves.{longest_move};
 
 use super::Board;
 use crate::links::Links;

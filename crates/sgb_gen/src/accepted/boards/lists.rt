@@ -6,7 +6,7 @@
 //! comparison (`push_leaps`), those of a rider by a sort (`push_sorted`).
 //!
 //! Displacements come in order and not backwards. So a list without a table is made oldest arc first, and turned round.
-ghost use Rattle.std.specs.Prelude.{◌≡◌, ◌<◌, [], ◌++◌, ◌==◌, ℕ, List, true, false, length, map, reverse, None, Some, Contains, OnOk, OnErr, IsOkUnless};
+ghost use Rattle.std.specs.Prelude.{◌≡◌, ◌<◌, [], ◌++◌, ℕ, List, true, false, length, map, reverse, None, Some, Contains, OnOk, OnErr, IsOkUnless};
 ghost use Rattle.std.specs.Bool.{OnTrue, OnFalse};
 ghost use Rattle.sgb_vec.specs.Boxes.{box};
 ghost use Rattle.sgb_vec.specs.Lexicographic.{IsBelow};
@@ -15,6 +15,8 @@ ghost use Rattle.sgb_gen.specs.LocalLists.{list_at};
 ghost use Rattle.sgb_gen.specs.inner.LocalBoards.{move_arc, arcs_onward, moves_by};
 ghost use Rattle.sgb_gen.specs.Moves.{moves_from, sides_of, place, opposite};
 ghost use Rattle.sgb_gen.specs.inner.Moves.{destination, leads_onward, longest_move};
+// For the search alone.
+ghost use Rattle.std.specs.Prelude.{◌==◌};
 
 use super::{Board, BoardLists};
 use crate::displacements::{Displacement, put_opposite};
