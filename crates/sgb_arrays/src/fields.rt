@@ -52,8 +52,21 @@ pub(crate) fn fill_local_ints(
     ensures refused { IfErr result (λ why. IsIntsRefusal (graph_described (described local.now))
         field first count (length values.old) why × (values.new ≡ values.old)) }
 {
-    are_ints(local.size(), &local.kinds(), field, first, count, values.len())?;
-    put_entries(local, (field as usize).saturating_sub(3), first, count, values);
+    are_ints(
+        local.size(),
+        &local.kinds(),
+        field,
+        first,
+        count,
+        values.len(),
+    )?;
+    put_entries(
+        local,
+        (field as usize).saturating_sub(3),
+        first,
+        count,
+        values,
+    );
     Ok(())
 }
 

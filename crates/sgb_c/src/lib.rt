@@ -204,7 +204,9 @@ pub extern "C" fn sgb_rows(
 {
     match graph.lend() {
         Some(held) => {
-            let filling = held.graph.fill_rows(alloc, first, count, starts, tips, lengths);
+            let filling = held
+                .graph
+                .fill_rows(alloc, first, count, starts, tips, lengths);
             Answer::of_filling(filling).number()
         }
         None => Answer::NotOpen.number(),
