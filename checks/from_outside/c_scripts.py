@@ -29,20 +29,29 @@ uint64_t sgb_open(const char *text, size_t text_len, const char *input, size_t i
 }
 void sgb_close(sgb_graph *graph) { graph->is_open = false; }
 uint64_t sgb_sizes(sgb_graph *graph, sgb_graph_sizes *sizes) {
-    *sizes = (sgb_graph_sizes){1, 0, 0, strlen(name), 0};
+    *sizes = (sgb_graph_sizes){1, 0};
     return !graph->is_open;
 }
-uint64_t sgb_rows(sgb_graph *graph, uint64_t *starts, size_t n, uint32_t *tips, size_t m, int64_t *lengths, size_t l) {
-    starts[0] = starts[1] = 0;
-    return !graph->is_open || n != 2 || m != l || !tips || !lengths;
+static bool is_all(uint32_t first, uint32_t count) { return first == 0 && count == 1; }
+uint64_t sgb_arcs(sgb_graph *graph, uint64_t *arcs) { return *arcs = 0, !graph->is_open; }
+uint64_t sgb_rows_size(sgb_graph *graph, uint32_t first, uint32_t count, uint64_t *arcs) {
+    return *arcs = 0, !graph->is_open || !is_all(first, count);
 }
-uint64_t sgb_names(sgb_graph *graph, uint64_t *starts, size_t n, char *bytes, size_t len) {
+uint64_t sgb_names_size(sgb_graph *graph, uint32_t first, uint32_t count, uint64_t *bytes) {
+    return *bytes = strlen(name), !graph->is_open || !is_all(first, count);
+}
+uint64_t sgb_rows(sgb_graph *graph, uint32_t first, uint32_t count, uint64_t *starts, size_t n, uint32_t *tips, size_t m,
+                  int64_t *lengths, size_t l) {
+    starts[0] = starts[1] = 0;
+    return !graph->is_open || !is_all(first, count) || n != 2 || m != l || !tips || !lengths;
+}
+uint64_t sgb_names(sgb_graph *graph, uint32_t first, uint32_t count, uint64_t *starts, size_t n, char *bytes, size_t len) {
     starts[0] = 0, starts[1] = len;
     memcpy(bytes, name, len);
-    return !graph->is_open || n != 2;
+    return !graph->is_open || !is_all(first, count) || n != 2;
 }
-uint64_t sgb_ints(sgb_graph *graph, uint32_t field, int64_t *values, size_t n) {
-    return graph->is_open && field < 6 && values && n == 1 ? SGB_NO_INTEGERS : 1;
+uint64_t sgb_ints(sgb_graph *graph, uint32_t field, uint32_t first, uint32_t count, int64_t *values, size_t n) {
+    return graph->is_open && field < 6 && is_all(first, count) && values && n == 1 ? SGB_NO_INTEGERS : 1;
 }
 uint64_t sgb_id(sgb_graph *graph, char *bytes, size_t len) { return !graph->is_open || !bytes || len; }
 """
