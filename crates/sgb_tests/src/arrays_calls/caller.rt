@@ -37,7 +37,7 @@ fn the_tips_of_a_triangle(rt: HostRuntime) -> Result<(), Fail> {
 #[test]
 fn a_line_has_fewer(rt: HostRuntime) -> Result<(), Fail> {
     let line = complete(2).graph(rt.alloc())?;
-    assert!(rt; tips_of_a_triangle(&line) == Err(Wrong::Length));
+    assert!(rt; tips_of_a_triangle(&line) == Err(Wrong::Vertices));
     Ok(())
 }
 
