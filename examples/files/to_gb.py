@@ -7,10 +7,9 @@
 
 The forms:
 
-    edges       A line for each edge: two names and perhaps a length, with tabs between them, or blanks where there is
-    no
-                tab. A name alone is a vertex. Lines without a tab that begin with # are not looked at. Vertices are in
-                the order in which they are met.
+    edges       A line for each edge: two names and perhaps a length, with tabs between them, or blanks where there
+                is no tab. A name alone is a vertex. Lines without a tab that begin with # are not looked at. Vertices
+                are in the order in which they are met.
     dimacs      "p edge N M" and lines "e 1 2", which are edges, or "p sp N M" and lines "a 1 2 7", which are arcs.
     graph6, sparse6   Of nauty, one graph.
     mtx         Matrix Market, coordinates: symmetric entries are edges, general ones arcs from row to column.
