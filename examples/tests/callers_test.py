@@ -86,7 +86,8 @@ def rust(folder):
 
 
 def python():
-    """The package's tests, by each python3 on the path and Debian's."""
+    """The package's tests, and the recipes of its page, by each python3 on the path and Debian's."""
+    recipes = os.path.join(TOP, "examples/tests/recipes_test.py")
     tests = os.path.join(TOP, "python/tests.py")
     more = {"SGB_LIBRARY": os.path.join(TOP, "libsgb.so"), "PYTHONDONTWRITEBYTECODE": "1", "SGB_WITHOUT_NUMPY": ""}
     paths = (sys.executable, shutil.which("python3"), "/usr/bin/python3")
@@ -94,6 +95,8 @@ def python():
         absent = [name for name in ("numpy", "scipy", "networkx", "igraph") if run(path, "-c", f"import {name}")[0] != 0]
         status, out, err = run(path, tests, SGB, **more)
         must(status == 0 and re.search(rb"^Ran [1-9]", err, re.M), path, "python/tests.py gave", status, out, err)
+        status, out, err = run(path, recipes, **more)
+        must(status == 0 and re.search(rb"^[1-9][0-9]* passed, 0 failed\n\Z", out, re.M), path, "recipes_test.py gave", status, out, err)
         if absent:
             skip(f"by {path}, without: {' '.join(absent)}")
 
