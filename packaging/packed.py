@@ -62,7 +62,7 @@ def shared_part():
         add_file(tree, "include/" + name, "include/" + name)
     add_file(tree, "share/man/man1/sgb.1", "man/sgb.1")
     add_file(tree, "share/bash-completion/completions/sgb", "completions/sgb.bash")
-    for name in "INSTALL.md", "CALLING_FROM_C.md", "COOKBOOK.md":
+    for name in "INSTALL.md", "CALLING_FROM_C.md", "COOKBOOK.md", "RECIPES.md":
         add_file(tree, "share/doc/sgb/" + name, "docs/" + name)
     for path in tracked("examples") + tracked("conformance"):
         if not LEFT_OUT.match(path):

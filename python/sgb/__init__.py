@@ -22,6 +22,8 @@ which the expression `stdin` stands for:
     sgb.graph("lines(stdin,0)", "own.gb")
     sgb.graph("lines(stdin,0)", sgb.from_edges([(0, 1), (1, 2), (2, 0)]))
 
+`sgb.convert(g, "dimacs")` is the graph as text of another program: DOT, DIMACS, METIS, Matrix Market and others.
+
 It calls the library for C, libsgb.so, which `make lib` leaves: the file that the variable SGB_LIBRARY names, else the
 one beside this file, else the one in the repository that this file stands in, else the one that the system finds. It
 needs Python's own library alone; where numpy is installed, arrays are numpy's, else memory views. Both look at memory
@@ -29,10 +31,6 @@ that C has filled, nothing is copied, and cannot be changed.
 
 A refusal is a GraphError, which is a ValueError, want of memory a MemoryError; a vertex that is not there is an
 IndexError, and what is no text, vertex or input at all a TypeError.
-
-Until version 1.0 generators' graphs had functions of their own: for `sgb.vertices(text)`, `sgb.arcs(text)`,
-`sgb.chunks(text, ..)` and `sgb.Chunk(text, first, n)` one now has `n`, `m`, `chunks(..)` and `rows(first, n)` of
-`sgb.graph(text)`; `names` is called, as `g.names()`; and the length of an arc is `weight` in igraph, too.
 """
 
 from __future__ import annotations
@@ -42,6 +40,7 @@ import types
 from typing import TYPE_CHECKING, Any, SupportsIndex
 
 from . import _library
+from ._convert import convert
 from ._graph import Graph
 from ._library import GraphError
 from ._rows import Rows
@@ -53,7 +52,7 @@ if TYPE_CHECKING:
 
 __version__ = "1.0.0"
 __all__ = [
-    "Graph", "GraphError", "Rows", "flip", "from_csr", "from_edges", "from_igraph", "from_networkx", "from_scipy", "graph",
+    "Graph", "GraphError", "Rows", "convert", "flip", "from_csr", "from_edges", "from_igraph", "from_networkx", "from_scipy", "graph",
 ]
 
 
