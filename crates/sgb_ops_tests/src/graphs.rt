@@ -75,6 +75,26 @@ fn subsets_of(
     subsets(alloc, n, n0, n1, n2, 0, 0, size_bits, directed)
 }
 
+// The complete graph of so many vertices.
+fn complete_of(alloc: Global, n: i64) -> Result<Graph, Panic> {
+    complete(n).graph(alloc)
+}
+
+// The petersen graph.
+fn petersen_graph(alloc: Global) -> Result<Graph, Panic> {
+    petersen().graph(alloc)
+}
+
+// bi_complete of these numbers, with edges.
+fn bi_complete_of(alloc: Global, n1: i64, n2: i64) -> Result<Graph, Panic> {
+    bi_complete(alloc, n1, n2, false)
+}
+
+// The wheel of these numbers, with edges.
+fn wheel_of(alloc: Global, n: i64, n1: i64) -> Result<Graph, Panic> {
+    wheel(alloc, n, n1, false)
+}
+
 impl Made {
     /// The graph itself.
     pub(crate) fn graph(&self, alloc: Global) -> Result<Graph, Panic> {
@@ -82,10 +102,10 @@ impl Made {
             Made::Board(numbers, directed) => board_of(alloc, numbers, *directed),
             Made::Simplex(numbers, directed) => simplex_of(alloc, numbers, *directed),
             Made::Subsets(numbers, bits, directed) => subsets_of(alloc, numbers, *bits, *directed),
-            Made::Complete(n) => complete(*n).graph(alloc),
-            Made::Petersen => petersen().graph(alloc),
-            Made::BiComplete(n1, n2) => bi_complete(alloc, *n1, *n2, false),
-            Made::Wheel(n, n1) => wheel(alloc, *n, *n1, false),
+            Made::Complete(n) => complete_of(alloc, *n),
+            Made::Petersen => petersen_graph(alloc),
+            Made::BiComplete(n1, n2) => bi_complete_of(alloc, *n1, *n2),
+            Made::Wheel(n, n1) => wheel_of(alloc, *n, *n1),
         }
     }
 }
@@ -97,8 +117,8 @@ pub(crate) type Block = (u32, &'static str, &'static [(u32, i64)]);
 pub(crate) enum Expected {
     /// A graph with this id, so many vertices and arcs, and the lists of some vertices.
     Graph(&'static str, u32, u64, &'static [Block]),
-    /// A graph with this id, so many vertices and arcs, and the lists of some vertices, that keeps the coordinates of its
-    /// vertices as numbers.
+    /// A graph with this id, so many vertices and arcs, and the lists of some vertices, that keeps the coordinates of
+    /// its vertices as numbers.
     Generated(&'static str, u32, u64, &'static [Block]),
     /// A graph of so many arcs.
     Arcs(u64),

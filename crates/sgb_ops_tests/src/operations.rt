@@ -57,21 +57,96 @@ pub(crate) enum Operation {
     Product(Made, i64, bool),
 }
 
-// What the entries of the places induce, with the flags self_loops, multi and directed, where they are lent or handed over.
+// What these entries induce, with the flags self_loops, multi and directed.
+fn induced_of(
+    alloc: Global,
+    graph: &Graph,
+    entries: &[Entry],
+    flags: &[bool; 3],
+) -> Result<Graph, Panic> {
+    let [self_loops, multi, directed] = *flags;
+    induced(alloc, graph, entries, self_loops, multi, directed)
+}
+
+// What they induce where they are handed over.
+fn induced_of_own(
+    alloc: Global,
+    graph: &Graph,
+    entries: Vec<Entry>,
+    flags: &[bool; 3],
+) -> Result<Graph, Panic> {
+    let [self_loops, multi, directed] = *flags;
+    induced_from(alloc, graph, entries, self_loops, multi, directed)
+}
+
+// What the entries of the places induce.
 fn induced_by(
     alloc: Global,
     graph: &Graph,
     places: &[Place],
     flags: &[bool; 3],
-    handed_over: bool,
 ) -> Result<Graph, Panic> {
-    let [self_loops, multi, directed] = *flags;
+    let mut entries = Vec::new(alloc);
+    match push_entries(&mut entries, alloc, places) {
+        Ok(()) => induced_of(alloc, graph, &entries, flags),
+        Err(panic) => Err(panic),
+    }
+}
+
+// What they induce where they are handed over.
+fn induced_from_by(
+    alloc: Global,
+    graph: &Graph,
+    places: &[Place],
+    flags: &[bool; 3],
+) -> Result<Graph, Panic> {
     let mut entries = Vec::new(alloc);
     push_entries(&mut entries, alloc, places)?;
-    if handed_over {
-        return induced_from(alloc, graph, entries, self_loops, multi, directed);
-    }
-    induced(alloc, graph, &entries, self_loops, multi, directed)
+    induced_of_own(alloc, graph, entries, flags)
+}
+
+// The complement of the graph, with the flags copy, self_loops and directed.
+fn complement_of(alloc: Global, graph: &Graph, flags: &[bool; 3]) -> Result<Graph, Panic> {
+    let [copy, self_loops, directed] = *flags;
+    complement(alloc, graph, copy, self_loops, directed)
+}
+
+// Its line graph.
+fn lines_of(alloc: Global, graph: &Graph, directed: bool) -> Result<Graph, Panic> {
+    lines(alloc, graph, directed)
+}
+
+// The union of two graphs, with the flags multi and directed.
+fn gunion_of(
+    alloc: Global,
+    first: &Graph,
+    second: &Graph,
+    flags: &[bool; 2],
+) -> Result<Graph, Panic> {
+    let [multi, directed] = *flags;
+    gunion(alloc, first, second, multi, directed)
+}
+
+// Their intersection, with these flags.
+fn intersection_of(
+    alloc: Global,
+    first: &Graph,
+    second: &Graph,
+    flags: &[bool; 2],
+) -> Result<Graph, Panic> {
+    let [multi, directed] = *flags;
+    intersection(alloc, first, second, multi, directed)
+}
+
+// Their product of this kind.
+fn product_of(
+    alloc: Global,
+    first: &Graph,
+    second: &Graph,
+    kind: i64,
+    directed: bool,
+) -> Result<Graph, Panic> {
+    product(alloc, first, second, kind, directed)
 }
 
 impl Operation {
@@ -88,21 +163,17 @@ impl Operation {
     // What it answers of this graph and a second one.
     fn of_two(&self, alloc: Global, first: &Graph, second: &Graph) -> Result<Graph, Panic> {
         match self {
-            Operation::Complement([copy, self_loops, directed]) => {
-                complement(alloc, first, *copy, *self_loops, *directed)
+            Operation::Complement(flags) => complement_of(alloc, first, flags),
+            Operation::Lines(directed) => lines_of(alloc, first, *directed),
+            Operation::Induced(places, flags) => induced_by(alloc, first, places, flags),
+            Operation::InducedFrom(places, flags) => {
+                induced_from_by(alloc, first, places, flags)
             }
-            Operation::Lines(directed) => lines(alloc, first, *directed),
-            Operation::Induced(places, flags) => induced_by(alloc, first, places, flags, false),
-            Operation::InducedFrom(places, flags) => induced_by(alloc, first, places, flags, true),
-            Operation::Twins => gunion(alloc, first, second, false, false),
-            Operation::Gunion(_, [multi, directed]) => {
-                gunion(alloc, first, second, *multi, *directed)
-            }
-            Operation::Intersection(_, [multi, directed]) => {
-                intersection(alloc, first, second, *multi, *directed)
-            }
+            Operation::Twins => gunion_of(alloc, first, second, &[false, false]),
+            Operation::Gunion(_, flags) => gunion_of(alloc, first, second, flags),
+            Operation::Intersection(_, flags) => intersection_of(alloc, first, second, flags),
             Operation::Product(_, kind, directed) => {
-                product(alloc, first, second, *kind, *directed)
+                product_of(alloc, first, second, *kind, *directed)
             }
         }
     }

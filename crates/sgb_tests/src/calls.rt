@@ -6,12 +6,11 @@ use sgb::run_program;
 use sgb_file::{CutSource, Sink, Source};
 use sgb_vec::Panic;
 use std::alloc::Global;
+use std::io;
 use std::process::Abort;
 
 pub(crate) const USAGE: &str =
     "usage: sgb (names|list) EXPR [--after NAME|--skip K], sgb save EXPR, sgb queen, sgb flip EXPR\n";
-
-pub(crate) const TOO_LARGE: &str = "sgb: expression too large\n";
 
 pub(crate) const NO_VERTEX: &str = "sgb: no such vertex\n";
 
@@ -29,21 +28,22 @@ pub(crate) const CODE_20: &str = "Something went wrong (panic code 20)!\n";
 
 pub(crate) const CODE_30: &str = "Something went wrong (panic code 30)!\n";
 
-pub(crate) const CODE_40: &str = "Something went wrong (panic code 40)!\n";
-
 pub(crate) const CODE_60: &str = "Something went wrong (panic code 60)!\n";
 
-// The words of a call after the program's name.
-pub(crate) fn words_of(alloc: Global, words: &[&str]) -> Result<Vec<String>, Panic> {
+// The words of a call: the program's name, and after it these, with a `|` between each two.
+pub(crate) fn words_of(alloc: Global, words: &str) -> Result<Vec<String>, Panic> {
     let mut all = Vec::new(alloc);
     push_word(alloc, &mut all, "sgb")?;
-    for word in words {
+    if words.is_empty() {
+        return Ok(all);
+    }
+    for word in words.split('|') {
         push_word(alloc, &mut all, word)?;
     }
     Ok(all)
 }
 
-pub(crate) fn push_word(alloc: Global, all: &mut Vec<String>, word: &str) -> Result<(), Panic> {
+fn push_word(alloc: Global, all: &mut Vec<String>, word: &str) -> Result<(), Panic> {
     let owned = String::from_str(alloc, word)?;
     all.push(owned)?;
     Ok(())
@@ -52,28 +52,29 @@ pub(crate) fn push_word(alloc: Global, all: &mut Vec<String>, word: &str) -> Res
 // Makes a call, and returns its exit status. Standard input would fail: no such call reads it.
 pub(crate) fn call<W: Sink, E: Sink>(
     alloc: Global,
-    words: &[&str],
-    out: &mut W,
-    errors: &mut E,
-) -> Result<u8, Panic>
-    requires { W.has_failed out.old ≡ false }
-{
-    let mut source = CutSource::new(b"", 1, 0);
-    call_on(alloc, words, &mut source, out, errors)
-}
-
-// Makes a call on this standard input, and returns its exit status.
-pub(crate) fn call_on<R: Source, W: Sink, E: Sink>(
-    alloc: Global,
-    words: &[&str],
-    source: &mut R,
+    words: &str,
     out: &mut W,
     errors: &mut E,
 ) -> Result<u8, Panic>
     requires { W.has_failed out.old ≡ false }
 {
     let words = words_of(alloc, words)?;
-    Ok(run_program(alloc, Ok(words), source, out, errors))
+    let mut source = CutSource::new(b"", 1, 0);
+    Ok(call_on(alloc, Ok(words), &mut source, out, errors))
+}
+
+// Makes a call with these words, if they could be read, on this standard input, and returns its exit status. It says
+// nothing of what the call leaves, so that a function that makes one is proved with no more than what it does itself.
+fn call_on<R: Source, W: Sink, E: Sink>(
+    alloc: Global,
+    words: io::Result<Vec<String>>,
+    source: &mut R,
+    out: &mut W,
+    errors: &mut E,
+) -> u8
+    requires { W.has_failed out.old ≡ false }
+{
+    run_program(alloc, words, source, out, errors)
 }
 
 // What a call leaves: its exit status, and what came to its sinks.
@@ -127,8 +128,8 @@ impl Left {
 }
 
 // Says which call it is where something is not as it is to be.
-pub(crate) fn check_call(rt: &impl Abort, words: &[&str], is_well: bool) {
-    assert!(rt; is_well, "{words:?}");
+pub(crate) fn check_call(rt: &impl Abort, words: &str, is_well: bool) {
+    assert!(rt; is_well, "{words}");
 }
 
 // Which sinks fail: the output at its first put, or at its first flush; standard error at its first put.
@@ -145,21 +146,30 @@ pub(crate) const NONE: Faults = Faults {
     deaf: false,
 };
 
-// Makes a call on this standard input, into sinks that fail there. A flush of standard error always fails.
-fn left_on<R: Source>(
+// Makes a call with these words, if they could be read, on this standard input, into sinks that fail there. A flush of
+// standard error always fails.
+pub(crate) fn left_by<R: Source>(
     alloc: Global,
-    words: &[&str],
+    words: io::Result<Vec<String>>,
     source: &mut R,
     faults: Faults,
-) -> Result<Left, Panic> {
+) -> Left {
     let mut out = Counted::new(alloc, faults.put, faults.flush);
     let mut errors = Counted::new(alloc, faults.deaf, true);
-    let status = call_on(alloc, words, source, &mut out, &mut errors)?;
-    Ok(Left {
+    let status = call_on(alloc, words, source, &mut out, &mut errors);
+    Left {
         status,
         out,
         errors,
-    })
+    }
+}
+
+// Whether an output has so many lines, and begins and ends so.
+fn has_parts(output: &[u8], lines: usize, start: &str, end: &str) -> bool {
+    let ends = output.iter().filter(|byte| **byte == b'\n');
+    output.starts_with(start.as_bytes())
+        && output.ends_with(end.as_bytes())
+        && ends.count() == lines
 }
 
 // What is expected of what a call leaves.
@@ -167,8 +177,8 @@ fn left_on<R: Source>(
 pub(crate) enum Wanted<'a> {
     // An answer in full, with this output.
     Output(&'a [u8]),
-    // An answer in full, with these parts.
-    Parts(&'a Parts),
+    // An answer in full, with so many lines, that begins and ends so.
+    Parts(usize, &'a str, &'a str),
     // An answer in full, in so many puts.
     Puts(u32),
     // This output, this line and this status.
@@ -186,7 +196,9 @@ impl<'a> Wanted<'a> {
     fn is(&self, left: &Left) -> bool {
         match self {
             Wanted::Output(output) => left.is_answer() && left.out.bytes() == *output,
-            Wanted::Parts(parts) => left.is_answer() && parts.are_of(left.out.bytes()),
+            Wanted::Parts(lines, start, end) => {
+                left.is_answer() && has_parts(left.out.bytes(), *lines, start, end)
+            }
             Wanted::Puts(puts) => left.is_answer() && left.out.puts() == *puts,
             Wanted::Ending(output, line, status) => left.is(output, line, *status),
             Wanted::Refusal(line, status) => left.is_refusal(line, *status),
@@ -199,68 +211,109 @@ impl<'a> Wanted<'a> {
 // Whether a call on this standard input, into sinks that fail there, leaves what is expected.
 pub(crate) fn leaves_on<R: Source>(
     alloc: Global,
-    words: &[&str],
+    words: &str,
     source: &mut R,
     faults: Faults,
     wanted: &Wanted<'_>,
 ) -> bool {
-    let Ok(left) = left_on(alloc, words, source, faults) else {
-        return false;
-    };
-    wanted.is(&left)
+    match words_of(alloc, words) {
+        Ok(words) => wanted.is(&left_by(alloc, Ok(words), source, faults)),
+        Err(_) => false,
+    }
 }
 
 // Whether a call into sinks that fail there leaves what is expected. Standard input would fail: no such call reads it.
-pub(crate) fn leaves(alloc: Global, words: &[&str], faults: Faults, wanted: &Wanted<'_>) -> bool {
+pub(crate) fn leaves(alloc: Global, words: &str, faults: Faults, wanted: &Wanted<'_>) -> bool {
     let mut source = CutSource::new(b"", 1, 0);
     leaves_on(alloc, words, &mut source, faults, wanted)
 }
 
 // The output of a call that is answered in full. `None` where it is not.
-pub(crate) fn answer_of(alloc: Global, words: &[&str]) -> Option<Counted> {
+pub(crate) fn answer_of(alloc: Global, words: &str) -> Option<Counted> {
+    let words = words_of(alloc, words).ok()?;
     let mut source = CutSource::new(b"", 1, 0);
-    let Ok(left) = left_on(alloc, words, &mut source, NONE) else {
-        return None;
+    let left = left_by(alloc, Ok(words), &mut source, NONE);
+    if left.is_answer() {
+        Some(left.out)
+    } else {
+        None
+    }
+}
+
+// What stands in a transcript of calls after the words of each.
+#[derive(Clone, Copy)]
+pub(crate) enum Kind {
+    // The output, which is an answer in full.
+    Answers,
+    // Its number of lines, and then how it begins and how it ends, with a `~` between them.
+    Parts,
+    // The status of a refusal, and its line.
+    Refusals,
+}
+
+// Whether the output of a call has so many lines, and begins and ends so.
+fn has_text(alloc: Global, words: &str, lines: &str, text: &str) -> bool {
+    let Ok(count) = lines.parse::<usize>() else {
+        return false;
     };
-    if !left.is_answer() {
-        return None;
+    let Some((start, end)) = text.split_once('~') else {
+        return false;
+    };
+    leaves(alloc, words, NONE, &Wanted::Parts(count, start, end))
+}
+
+const OUTPUT_FAILS: Faults = Faults {
+    put: true,
+    flush: true,
+    deaf: false,
+};
+
+const BOTH_FAIL: Faults = Faults {
+    put: true,
+    flush: true,
+    deaf: true,
+};
+
+// Whether a call is refused so. It makes no call of the output, and its line is one put of standard error; where that
+// fails the status is the same.
+fn is_refused(alloc: Global, words: &str, status: &str, line: &str) -> bool {
+    let Ok(status) = status.parse::<u8>() else {
+        return false;
+    };
+    leaves(alloc, words, OUTPUT_FAILS, &Wanted::Refusal(line, status))
+        && leaves(alloc, words, BOTH_FAIL, &Wanted::Refusal("", status))
+}
+
+// Whether a call leaves what stands there.
+fn is_left(alloc: Global, kind: Kind, words: &str, left: &str) -> bool {
+    match kind {
+        Kind::Answers => leaves(alloc, words, NONE, &Wanted::Output(left.as_bytes())),
+        Kind::Parts => match left.split_once('\n') {
+            Some((lines, text)) => has_text(alloc, words, lines, text),
+            None => false,
+        },
+        Kind::Refusals => match left.split_once(' ') {
+            Some((status, line)) => is_refused(alloc, words, status, line),
+            None => false,
+        },
     }
-    Some(left.out)
 }
 
-// Makes each call, and compares its output with the text beside it.
-pub(crate) fn answers_are(rt: &impl Abort, alloc: Global, calls: &[(&[&str], &str)]) {
-    for (words, output) in calls {
-        let wanted = Wanted::Output(output.as_bytes());
-        check_call(rt, words, leaves(alloc, words, NONE, &wanted));
+// Whether a call of a transcript leaves what stands after its words. Before the first call nothing stands.
+fn is_so(alloc: Global, kind: Kind, part: &str) -> bool {
+    let Some((_title, call)) = part.split_once('\n') else {
+        return part.is_empty();
+    };
+    match call.split_once('\n') {
+        Some((words, left)) => is_left(alloc, kind, words, left),
+        None => false,
     }
 }
 
-// How an output begins and ends, and its number of lines.
-pub(crate) struct Parts {
-    pub(crate) words: &'static [&'static str],
-    pub(crate) start: &'static str,
-    pub(crate) end: &'static str,
-    pub(crate) lines: usize,
-}
-
-impl Parts {
-    // Whether these are parts of an output.
-    pub(crate) fn are_of(&self, output: &[u8]) -> bool {
-        let ends = output.iter().filter(|byte| **byte == b'\n');
-        output.starts_with(self.start.as_bytes())
-            && output.ends_with(self.end.as_bytes())
-            && ends.count() == self.lines
-    }
-}
-
-// Makes each call, and compares its output with these parts of it.
-pub(crate) fn answers_have(rt: &impl Abort, alloc: Global, calls: &[Parts]) {
-    for parts in calls {
-        check_call(
-            rt,
-            parts.words,
-            leaves(alloc, parts.words, NONE, &Wanted::Parts(parts)),
-        );
+// Makes the calls of a transcript, and says which one leaves something else than stands there. Each call begins with a
+// `$`, after which a title may stand; the next line has its words, with a `|` between each two.
+pub(crate) fn check_calls(rt: &impl Abort, alloc: Global, kind: Kind, transcript: &str) {
+    for part in transcript.split('$') {
+        assert!(rt; is_so(alloc, kind, part), "{part}");
     }
 }

@@ -9,18 +9,16 @@ use std::io::{self, Error, ErrorKind, Write};
 use std::process::Abort;
 use std::test::Fail;
 
-const SMALL: &str = "board(2,0,0,0,1,0,0)";
-
 // Words that make a request with an answer in full, and whether that is empty.
-static ANSWERED: [(&[&str], bool); 8] = [
-    (&["names", SMALL], false),
-    (&["list", SMALL], false),
-    (&["save", SMALL], false),
-    (&["queen"], false),
-    (&["names", SMALL, "--skip", "2"], true),
-    (&["list", SMALL, "--skip", "2"], true),
-    (&["names", SMALL, "--after", "1"], true),
-    (&["list", SMALL, "--after", "1"], true),
+static ANSWERED: [(&str, bool); 8] = [
+    ("names|board(2,0,0,0,1,0,0)", false),
+    ("list|board(2,0,0,0,1,0,0)", false),
+    ("save|board(2,0,0,0,1,0,0)", false),
+    ("queen", false),
+    ("names|board(2,0,0,0,1,0,0)|--skip|2", true),
+    ("list|board(2,0,0,0,1,0,0)|--skip|2", true),
+    ("names|board(2,0,0,0,1,0,0)|--after|1", true),
+    ("list|board(2,0,0,0,1,0,0)|--after|1", true),
 ];
 
 // A flush that fails is a write fault, also after an empty answer. The first put that fails ends the request: the
@@ -39,7 +37,7 @@ fn check_write_faults(rt: &impl Abort, alloc: Global, put: bool, deaf: bool) {
 }
 
 // Whether, where only the flush fails, the whole output stands.
-fn is_late_fault(alloc: Global, words: &[&str]) -> bool {
+fn is_late_fault(alloc: Global, words: &str) -> bool {
     let faults = Faults {
         put: false,
         flush: true,
@@ -66,10 +64,12 @@ fn a_refusal_comes_before_the_flush(rt: HostRuntime) {
         flush: true,
         deaf: false,
     };
-    for command in ["names", "list"] {
-        let words = [command, SMALL, "--after", "2"];
-        let wanted = Wanted::Refusal(NO_VERTEX, 1);
-        check_call(&rt, &words, leaves(rt.alloc(), &words, faults, &wanted));
+    let wanted = Wanted::Refusal(NO_VERTEX, 1);
+    for words in [
+        "names|board(2,0,0,0,1,0,0)|--after|2",
+        "list|board(2,0,0,0,1,0,0)|--after|2",
+    ] {
+        check_call(&rt, words, leaves(rt.alloc(), words, faults, &wanted));
     }
 }
 
@@ -130,7 +130,7 @@ impl LeftWriter {
 
 fn left_writer(
     alloc: Global,
-    words: &[&str],
+    words: &str,
     failing_write: u32,
     failing_flush: u32,
 ) -> Result<LeftWriter, Fail> {
@@ -156,9 +156,9 @@ fn left_writer(
 #[test]
 fn nothing_is_written_after_a_write_fault(rt: HostRuntime) -> Result<(), Fail> {
     // 5400 names of 16 bytes: three full pages and a part of one, each in a write
-    let words = ["names", "board(2,3,5,-8,1,0,0)"];
+    let words = "names|board(2,3,5,-8,1,0,0)";
     for (failing_write, failing_flush) in [(1, 0), (2, 0), (3, 0), (0, 1)] {
-        let left = left_writer(rt.alloc(), &words, failing_write, failing_flush)?;
+        let left = left_writer(rt.alloc(), words, failing_write, failing_flush)?;
         assert!(rt; left.is_write_fault(failing_write, failing_flush));
     }
     Ok(())
@@ -171,7 +171,7 @@ fn ending(is_cut: bool) -> (&'static str, u8) {
 
 // Whether a call whose sinks take so many bytes at once, and the output only this many in all, leaves there exactly the
 // first bytes of the whole output, and the line and the status that go with them.
-fn is_cut_off(alloc: Global, words: &[&str], whole: &[u8], each: usize, limit: usize) -> bool
+fn is_cut_off(alloc: Global, words: &str, whole: &[u8], each: usize, limit: usize) -> bool
     requires { 0 < each }
 {
     let mut out: CutSink<28_700> = CutSink::new(each, limit, false);
@@ -198,28 +198,28 @@ fn check_short_sinks(rt: &impl Abort, alloc: Global, each: usize)
 }
 
 // Words, output.
-static SHORT_ANSWERS: [(&[&str], &str); 6] = [
+static SHORT_ANSWERS: [(&str, &str); 6] = [
     (
-        &["save", "board(1,0,0,0,1,0,0)"],
+        "save|board(1,0,0,0,1,0,0)",
         "* GraphBase graph (util_types ZZZIIIZZZZZZZZ,1V,0A)\n\"board(1,0,0,0,1,0,0)\",1,0\n\
         * Vertices\n\"0\",0,0,0,0\n* Arcs\n* Checksum 386652336\n",
     ),
     (
-        &["names", "board(2,3,0,0,1,0,0)"],
+        "names|board(2,3,0,0,1,0,0)",
         "0.0\n0.1\n0.2\n1.0\n1.1\n1.2\n",
     ),
     (
-        &["list", SMALL],
+        "list|board(2,0,0,0,1,0,0)",
         "  The graph whose official name is\nboard(2,0,0,0,1,0,0)\n  has 2 vertices and 2 arcs:\n\n\
         0\n  -> 1, length 1\n1\n  -> 0, length 1\n",
     ),
     (
-        &["save", "complete(2)"],
+        "save|complete(2)",
         "* GraphBase graph (util_types ZZZIIIZZZZZZZZ,2V,2A)\n\"board(2,0,0,0,-1,0,0)\",2,2\n\
         * Vertices\n\"0\",A0,0,0,0\n\"1\",A1,1,0,0\n* Arcs\nV1,0,1\nV0,0,1\n* Checksum 1066721325\n",
     ),
     (
-        &["list", "simplex(2,0,0,0,0,0,0)"],
+        "list|simplex(2,0,0,0,0,0,0)",
         "  The graph whose official name is\nsimplex(2,-2,0,0,0,0,0)\n  has 6 vertices and 18 arcs:\n\n\
         0.0.2\n  -> 1.0.1, length 1\n  -> 0.1.1, length 1\n\
         0.1.1\n  -> 1.1.0, length 1\n  -> 1.0.1, length 1\n  -> 0.2.0, length 1\n  -> 0.0.2, length 1\n\
@@ -229,7 +229,7 @@ static SHORT_ANSWERS: [(&[&str], &str); 6] = [
         2.0.0\n  -> 1.0.1, length 1\n  -> 1.1.0, length 1\n",
     ),
     (
-        &["flip", "flip(7,0,4,0)"],
+        "flip|flip(7,0,4,0)",
         "529181769\n719591340\n1610774012\n194604418\n",
     ),
 ];
@@ -244,7 +244,7 @@ fn short_sinks(rt: HostRuntime) {
 
 // Whether a sink that takes so many bytes at once, and fails near this number of bytes, or after any where there is
 // none, has exactly the first bytes of the output.
-pub(crate) fn is_cut_near(alloc: Global, words: &[&str], each: usize, near: Option<usize>) -> bool
+pub(crate) fn is_cut_near(alloc: Global, words: &str, each: usize, near: Option<usize>) -> bool
     requires { 0 < each }
 {
     let Some(whole) = answer_of(alloc, words) else {
@@ -260,7 +260,7 @@ pub(crate) fn is_cut_near(alloc: Global, words: &[&str], each: usize, near: Opti
 // Whether that is so of this output, from one number of bytes on and before another.
 fn are_cut_off(
     alloc: Global,
-    words: &[&str],
+    words: &str,
     whole: &[u8],
     each: usize,
     limits: (usize, usize),
@@ -278,5 +278,5 @@ fn are_cut_off(
 
 #[test]
 fn short_sinks_of_queens(rt: HostRuntime) {
-    assert!(rt; is_cut_near(rt.alloc(), &["queen"], 7, None));
+    assert!(rt; is_cut_near(rt.alloc(), "queen", 7, None));
 }

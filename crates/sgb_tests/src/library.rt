@@ -1,21 +1,19 @@
-//! Each public name of the library once, from outside.
+//! Each public name of the library once, from outside; `run_program` stands in `caller`.
 ghost use Rattle.std.specs.Prelude.{⊤};
 
 use crate::calls::words_of;
 use crate::inputs::EMPTY;
+use crate::listings::is_written;
 use sgb::{
-    Answer, Expr, Fault, Local, Request, answered_once_law, graph_of, input_unread_law,
-    list_family, local_of, parse_expr, read_input, report, request, run, run_answer,
-    run_endings_law, run_program, status, unread_fault, write_bytes,
+    Answer, Expr, Fault, Local, Request, answered_once_law, graph_of, input_unread_law, local_of,
+    parse_expr, read_input, report, request, run, run_answer, run_endings_law, status,
+    unread_fault, write_bytes,
 };
 use sgb_file::{CutSource, MemSink, MemSource};
-use sgb_gen::{Board, BoardParams, Links, Listed, Visit, Visitor};
+use sgb_gen::{Board, BoardParams, Listed, Visit, Visitor};
 use sgb_vec::{Family, Panic};
 use std::alloc::Global;
 use std::io::{Error, ErrorKind};
-use std::test::Fail;
-
-const WORDS: [&str; 2] = ["names", "complete(2)"];
 
 // Whether the text is an expression that is a generator's.
 fn is_generator(alloc: Global, text: &[u8]) -> bool {
@@ -84,43 +82,41 @@ fn gives<A: Answer>(alloc: Global, answer: &A, output: &[u8]) -> bool {
     status == 0 && out.bytes() == output
 }
 
-// Whether the words make a request for names, and a run of it leaves this output and ends well, also where it is an answer.
-fn is_answered(alloc: Global, words: &[&str], output: &[u8]) -> Result<bool, Fail> {
-    let words = words_of(alloc, words)?;
-    let Ok(request) = request(alloc, &words) else {
-        return Ok(false);
-    };
+// Whether a run of the request leaves this output and ends well.
+fn is_run(alloc: Global, request: &Request, output: &[u8]) -> bool {
     let mut source = MemSource::new(b"");
     let mut out = MemSink::new(alloc);
     let mut errors = MemSink::new(alloc);
-    let status = run(alloc, &request, &mut source, &mut out, &mut errors);
-    let is_run = status == 0 && out.bytes() == output;
-    Ok(asks_for_names(&request) && is_run && gives(alloc, &request, output))
+    let status = run(alloc, request, &mut source, &mut out, &mut errors);
+    status == 0 && out.bytes() == output
+}
+
+// Whether the words make a request for names that leaves this output and ends well, also where it is an answer.
+fn is_asked_for(alloc: Global, words: &[String], output: &[u8]) -> bool {
+    match request(alloc, words) {
+        Ok(request) => {
+            asks_for_names(&request)
+                && is_run(alloc, &request, output)
+                && gives(alloc, &request, output)
+        }
+        Err(_) => false,
+    }
+}
+
+// Whether that is so of these words after the program's name.
+fn is_answered(alloc: Global, words: &str, output: &[u8]) -> bool {
+    match words_of(alloc, words) {
+        Ok(words) => is_asked_for(alloc, &words, output),
+        Err(_) => false,
+    }
 }
 
 #[test]
-fn a_request_is_answered(rt: HostRuntime) -> Result<(), Fail> {
-    assert!(rt; is_answered(rt.alloc(), &WORDS, b"0\n1\n")?);
+fn a_request_is_answered(rt: HostRuntime) {
+    assert!(rt; is_answered(rt.alloc(), "names|complete(2)", b"0\n1\n"));
     answered_once_law();
     input_unread_law();
     run_endings_law();
-    Ok(())
-}
-
-// Whether a call with these words leaves this output and ends well.
-fn is_called(alloc: Global, words: &[&str], output: &[u8]) -> Result<bool, Fail> {
-    let words = words_of(alloc, words)?;
-    let mut source = MemSource::new(b"");
-    let mut out = MemSink::new(alloc);
-    let mut errors = MemSink::new(alloc);
-    let status = run_program(alloc, Ok(words), &mut source, &mut out, &mut errors);
-    Ok(status == 0 && out.bytes() == output)
-}
-
-#[test]
-fn a_call_of_the_program(rt: HostRuntime) -> Result<(), Fail> {
-    assert!(rt; is_called(rt.alloc(), &WORDS, b"0\n1\n")?);
-    Ok(())
 }
 
 #[test]
@@ -187,11 +183,8 @@ fn is_listed(alloc: Global, params: &BoardParams, text: &[u8]) -> bool {
     let Ok(board) = Board::from_params(params) else {
         return false;
     };
-    let local = Local::Board(board);
-    let mut links = Links::new(alloc);
     let mut out = MemSink::new(alloc);
-    let is_whole = list_family(&local, true, None, &mut links, &mut out).is_ok();
-    is_whole && out.bytes() == text
+    is_written(alloc, &Local::Board(board), None, &mut out) && out.bytes() == text
 }
 
 #[test]

@@ -1,193 +1,147 @@
 //! Calls that are refused: the line and the exit status of each.
-use crate::calls::{
-    CODE_1, CODE_30, CODE_40, Faults, Left, NO_VERTEX, TOO_LARGE, USAGE, Wanted, check_call, leaves,
-};
+use crate::calls::{CODE_1, Faults, Kind, USAGE, check_calls, left_by};
 use crate::devices::Counted;
-use sgb::{Fault, report, run_program};
+use sgb::{Fault, report};
 use sgb_file::CutSource;
 use sgb_vec::Panic;
 use std::alloc::Global;
 use std::io::{Error, ErrorKind};
-use std::process::Abort;
 
-// Words that are refused or make a request that is, with the line and the status.
-static REFUSED: [(&[&str], &str, u8); 43] = [
-    (&["names", "board(1,-251,0,0,1,0,0)"], CODE_30, 1),
-    (&["names", "board(2,-251,0,0,1,0,0)"], CODE_30, 1),
-    (&["names", "board(2,-30,0,0,1,0,0)"], CODE_40, 1),
-    (&["names", "board(2,-92,0,0,1,0,0)"], CODE_40, 1),
-    (&["names", "board(2,0,0,0,2147483648,0,0)"], CODE_40, 1),
-    (&["names", "board(65536,65536,0,0,1,0,0)"], CODE_40, 1),
-    (
-        &["names", "board(2,3,0,0,1,0,0)", "--after", "01.1"],
-        NO_VERTEX,
-        1,
-    ),
-    (
-        &["names", "board(2,3,0,0,1,0,0)", "--after", "0.3"],
-        NO_VERTEX,
-        1,
-    ),
-    (
-        &["names", "board(2,3,0,0,1,0,0)", "--after", "0.0.0"],
-        NO_VERTEX,
-        1,
-    ),
-    (
-        &["names", "board(2,3,0,0,1,0,0)", "--after", "4294967296.0"],
-        NO_VERTEX,
-        1,
-    ),
-    (
-        &["names", "board(2,3,0,0,1,0,0)", "--after", ""],
-        NO_VERTEX,
-        1,
-    ),
-    (
-        &["names", "board(3,", "--after", "1", "--skip", "1"],
-        USAGE,
-        2,
-    ),
-    (&["names", "board(3,"], "sgb: bad expression at byte 8\n", 2),
-    (&["names", "--", "-x"], "sgb: bad expression at byte 0\n", 2),
-    (
-        &["names", "board(3,", "--skip", "1"],
-        "sgb: bad expression at byte 8\n",
-        2,
-    ),
-    (
-        &["names", "boards(1)"],
-        "sgb: bad expression at byte 5\n",
-        2,
-    ),
-    (&["names", ""], "sgb: bad expression at byte 0\n", 2),
-    (
-        &[
-            "names",
-            "(((((((((((((((((((((((((((((((((((((((((((((((((((((((((((((((((",
-        ],
-        TOO_LARGE,
-        2,
-    ),
-    (&["names", "x", "--skip", "x"], USAGE, 2),
-    (&[], USAGE, 2),
-    (
-        &["list", "board(3,0,0,0,-1,0,0)", "--after", "3"],
-        NO_VERTEX,
-        1,
-    ),
-    (
-        &[
-            "list",
-            "board(2,0,0,0,2147483648,0,0)",
-            "--after",
-            "no vertex",
-        ],
-        CODE_40,
-        1,
-    ),
-    (
-        &["names", "simplex(2,0,0,0,0,0,0)", "--after", "01.0.1"],
-        NO_VERTEX,
-        1,
-    ),
-    (&["list", "simplex(-1,0,0,0,0,0,0)"], CODE_30, 1),
-    (&["list", "simplex(1000000001,1,0,0,0,0,0)"], CODE_40, 1),
-    (&["names", "simplex(30,-30,0,0,0,0,0)"], CODE_40, 1),
-    (&["names", "subsets(30,-251,0,0,0,0,1,0)"], CODE_30, 1),
-    (&["list", "simplex(1,-251,0,0,0,0,0)"], CODE_30, 1),
-    (
-        &[
-            "list",
-            "subsets(64,64,64,0,0,0,0x100000000000000000000000000000000,0)",
-        ],
-        "sgb: bad expression at byte 57\n",
-        2,
-    ),
-    (&["save"], USAGE, 2),
-    (
-        &["list", "petersen()", "--after", "1", "--skip", "1"],
-        USAGE,
-        2,
-    ),
-    (&["save", "petersen()", "--after", "1"], USAGE, 2),
-    (&["save", "petersen()", "--skip", "1"], USAGE, 2),
-    (&["save", "board(3,"], "sgb: bad expression at byte 8\n", 2),
-    (&["save", "board(2,-251,0,0,1,0,0)"], CODE_30, 1),
-    (&["queen", "petersen()"], USAGE, 2),
-    (&["queen", "--skip", "1"], USAGE, 2),
-    (
-        &["names", "gunion(petersen(),"],
-        "sgb: bad expression at byte 18\n",
-        2,
-    ),
-    (
-        &["list", "complement(petersen(),0,0,0)x"],
-        "sgb: bad expression at byte 28\n",
-        2,
-    ),
-    (
-        &[
-            "names",
-            "complement(petersen(),0,0,0)",
-            "--after",
-            "0.0.0.0.0",
-        ],
-        NO_VERTEX,
-        1,
-    ),
-    // operands come from left to right
-    (
-        &[
-            "list",
-            "gunion(board(2,-251,0,0,1,0,0),board(2,-30,0,0,1,0,0),0,0)",
-        ],
-        CODE_30,
-        1,
-    ),
-    (
-        &[
-            "list",
-            "gunion(board(2,-30,0,0,1,0,0),board(2,-251,0,0,1,0,0),0,0)",
-        ],
-        CODE_40,
-        1,
-    ),
-    (
-        &[
-            "names",
-            "complement(intersection(petersen(),board(2,-30,0,0,1,0,0),0,0),0,0,0)",
-        ],
-        CODE_40,
-        1,
-    ),
-];
+// Words that are refused or make a request that is, with the status and the line.
+const REFUSED: &str = "$
+names|board(1,-251,0,0,1,0,0)
+1 Something went wrong (panic code 30)!
+$
+names|board(2,-251,0,0,1,0,0)
+1 Something went wrong (panic code 30)!
+$
+names|board(2,-30,0,0,1,0,0)
+1 Something went wrong (panic code 40)!
+$
+names|board(2,-92,0,0,1,0,0)
+1 Something went wrong (panic code 40)!
+$
+names|board(2,0,0,0,2147483648,0,0)
+1 Something went wrong (panic code 40)!
+$
+names|board(65536,65536,0,0,1,0,0)
+1 Something went wrong (panic code 40)!
+$
+names|board(2,3,0,0,1,0,0)|--after|01.1
+1 sgb: no such vertex
+$
+names|board(2,3,0,0,1,0,0)|--after|0.3
+1 sgb: no such vertex
+$
+names|board(2,3,0,0,1,0,0)|--after|0.0.0
+1 sgb: no such vertex
+$
+names|board(2,3,0,0,1,0,0)|--after|4294967296.0
+1 sgb: no such vertex
+$
+names|board(2,3,0,0,1,0,0)|--after|
+1 sgb: no such vertex
+$
+names|board(3,|--after|1|--skip|1
+2 usage: sgb (names|list) EXPR [--after NAME|--skip K], sgb save EXPR, sgb queen, sgb flip EXPR
+$
+names|board(3,
+2 sgb: bad expression at byte 8
+$
+names|--|-x
+2 sgb: bad expression at byte 0
+$
+names|board(3,|--skip|1
+2 sgb: bad expression at byte 8
+$
+names|boards(1)
+2 sgb: bad expression at byte 5
+$
+names|
+2 sgb: bad expression at byte 0
+$
+names|(((((((((((((((((((((((((((((((((((((((((((((((((((((((((((((((((
+2 sgb: expression too large
+$
+names|x|--skip|x
+2 usage: sgb (names|list) EXPR [--after NAME|--skip K], sgb save EXPR, sgb queen, sgb flip EXPR
+$
 
-// A refused call makes no call of the output, and its line is one put of standard error; where that fails the status
-// is the same.
-pub(crate) fn check_refusals(rt: &impl Abort, alloc: Global, calls: &[(&[&str], &str, u8)]) {
-    for (words, line, status) in calls {
-        let heard = leaves(alloc, words, OUTPUT_FAILS, &Wanted::Refusal(line, *status));
-        let unheard = leaves(alloc, words, BOTH_FAIL, &Wanted::Refusal("", *status));
-        check_call(rt, words, heard && unheard);
-    }
-}
-
-const OUTPUT_FAILS: Faults = Faults {
-    put: true,
-    flush: true,
-    deaf: false,
-};
-
-const BOTH_FAIL: Faults = Faults {
-    put: true,
-    flush: true,
-    deaf: true,
-};
+2 usage: sgb (names|list) EXPR [--after NAME|--skip K], sgb save EXPR, sgb queen, sgb flip EXPR
+$
+list|board(3,0,0,0,-1,0,0)|--after|3
+1 sgb: no such vertex
+$
+list|board(2,0,0,0,2147483648,0,0)|--after|no vertex
+1 Something went wrong (panic code 40)!
+$
+names|simplex(2,0,0,0,0,0,0)|--after|01.0.1
+1 sgb: no such vertex
+$
+list|simplex(-1,0,0,0,0,0,0)
+1 Something went wrong (panic code 30)!
+$
+list|simplex(1000000001,1,0,0,0,0,0)
+1 Something went wrong (panic code 40)!
+$
+names|simplex(30,-30,0,0,0,0,0)
+1 Something went wrong (panic code 40)!
+$
+names|subsets(30,-251,0,0,0,0,1,0)
+1 Something went wrong (panic code 30)!
+$
+list|simplex(1,-251,0,0,0,0,0)
+1 Something went wrong (panic code 30)!
+$
+list|subsets(64,64,64,0,0,0,0x100000000000000000000000000000000,0)
+2 sgb: bad expression at byte 57
+$
+save
+2 usage: sgb (names|list) EXPR [--after NAME|--skip K], sgb save EXPR, sgb queen, sgb flip EXPR
+$
+list|petersen()|--after|1|--skip|1
+2 usage: sgb (names|list) EXPR [--after NAME|--skip K], sgb save EXPR, sgb queen, sgb flip EXPR
+$
+save|petersen()|--after|1
+2 usage: sgb (names|list) EXPR [--after NAME|--skip K], sgb save EXPR, sgb queen, sgb flip EXPR
+$
+save|petersen()|--skip|1
+2 usage: sgb (names|list) EXPR [--after NAME|--skip K], sgb save EXPR, sgb queen, sgb flip EXPR
+$
+save|board(3,
+2 sgb: bad expression at byte 8
+$
+save|board(2,-251,0,0,1,0,0)
+1 Something went wrong (panic code 30)!
+$
+queen|petersen()
+2 usage: sgb (names|list) EXPR [--after NAME|--skip K], sgb save EXPR, sgb queen, sgb flip EXPR
+$
+queen|--skip|1
+2 usage: sgb (names|list) EXPR [--after NAME|--skip K], sgb save EXPR, sgb queen, sgb flip EXPR
+$
+names|gunion(petersen(),
+2 sgb: bad expression at byte 18
+$
+list|complement(petersen(),0,0,0)x
+2 sgb: bad expression at byte 28
+$
+names|complement(petersen(),0,0,0)|--after|0.0.0.0.0
+1 sgb: no such vertex
+$ operands come from left to right
+list|gunion(board(2,-251,0,0,1,0,0),board(2,-30,0,0,1,0,0),0,0)
+1 Something went wrong (panic code 30)!
+$
+list|gunion(board(2,-30,0,0,1,0,0),board(2,-251,0,0,1,0,0),0,0)
+1 Something went wrong (panic code 40)!
+$
+names|complement(intersection(petersen(),board(2,-30,0,0,1,0,0),0,0),0,0,0)
+1 Something went wrong (panic code 40)!
+";
 
 #[test]
 fn a_refused_call_is_one_line(rt: HostRuntime) {
-    check_refusals(&rt, rt.alloc(), &REFUSED);
+    check_calls(&rt, rt.alloc(), Kind::Refusals, REFUSED);
 }
 
 // Each fault's line is one put.
@@ -220,16 +174,15 @@ fn puts_of_line(alloc: Global, fault: &Fault) -> u32 {
 // Whether a call whose words could not be read is refused with this line and this status.
 fn is_unread(alloc: Global, error: Error, line: &str, status: u8) -> bool {
     let mut source = CutSource::new(b"", 1, 0);
-    let mut out = Counted::new(alloc, false, true);
-    let mut errors = Counted::new(alloc, false, false);
-    let left_status = run_program(alloc, Err(error), &mut source, &mut out, &mut errors);
-    let left = Left {
-        status: left_status,
-        out,
-        errors,
-    };
-    left.is_refusal(line, status)
+    left_by(alloc, Err(error), &mut source, FLUSH).is_refusal(line, status)
 }
+
+// The output's flush fails.
+const FLUSH: Faults = Faults {
+    put: false,
+    flush: true,
+    deaf: false,
+};
 
 const UNREAD: [(ErrorKind, &str, u8); 3] = [
     (ErrorKind::InvalidData, USAGE, 2),

@@ -65,11 +65,17 @@ pub(crate) fn board_of(numbers: &[i64; 6], directed: bool) -> Result<Board, Pani
     Board::new(n1, n2, n3, n4, piece, wrap, directed)
 }
 
+/// Puts the list of a vector into the links. `false` where it is no vector of the board, or has no list. It says
+/// nothing of the list, so that a function that calls it is proved with no more than what it does itself.
+pub(crate) fn puts_list(board: &Board, x: &[u32], links: &mut Links) -> bool {
+    board.family().holds(x) && board.arcs_at(x, links).is_ok()
+}
+
 // How many arcs the board's lists have, where a walk meets vectors of the family alone.
 fn arcs_of_lists(board: &Board, links: &mut Links) -> Option<u128> {
     let mut arcs: u128 = 0;
     for x in Vectors::all(board.family()) {
-        if !board.family().holds(x.as_slice()) || board.arcs_at(x.as_slice(), links).is_err() {
+        if !puts_list(board, x.as_slice(), links) {
             return None;
         }
         arcs = arcs.wrapping_add(links.len() as u128);

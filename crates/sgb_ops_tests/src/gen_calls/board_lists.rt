@@ -1,4 +1,4 @@
-use super::board_counts::board_of;
+use super::board_counts::{board_of, puts_list};
 use super::cases::{Params, is_list};
 use sgb_gen::{Board, BoardLists, BoardParams, Links};
 use sgb_graph::Graph;
@@ -38,12 +38,14 @@ fn params_of(numbers: &[i64; 6], directed: bool) -> Params {
     })
 }
 
-// Whether the list of this vector is that of vertex v of the graph, by itself, with no table and with one.
+// Whether the list of this vector is that of vertex v of the graph, by itself, and with no table and with one.
 fn is_list_at(graph: &Graph, v: u32, board: &Board, x: &[u32], links: &mut Links) -> bool {
+    puts_list(board, x, links) && is_list(graph, v, links) && is_list_of(graph, v, board, x, links)
+}
+
+// Whether it is so with no table and with one.
+fn is_list_of(graph: &Graph, v: u32, board: &Board, x: &[u32], links: &mut Links) -> bool {
     if !board.family().holds(x) {
-        return false;
-    }
-    if board.arcs_at(x, links).is_err() || !is_list(graph, v, links) {
         return false;
     }
     let mut lists = BoardLists::new(board);
@@ -114,7 +116,8 @@ fn arcs_of_runs(board: &Board, links: &Links, x: &[u32]) -> Option<u64> {
     Some(count)
 }
 
-// Where coordinate k of a vertex leads at a length, where its list is had run by run. `None` where it is not, or `x` is no vertex.
+// Where coordinate k of a vertex leads at a length, where its list is had run by run. `None` where it is not, or `x` is
+// no vertex.
 fn entry_from(
     board: &Board,
     links: &Links,
@@ -180,8 +183,8 @@ const CIRCLE: [i64; 6] = [5, 0, 0, 0, 1, 1];
 const TORUS: [i64; 6] = [8, 8, 0, 0, 5, 3];
 
 static ROWS: [Row; 15] = [
-    // 19 sides of two: the displacements of four units are too many for a table. From the least place they change four of the
-    // 19 entries, which is C(19,4) places.
+    // 19 sides of two: the displacements of four units are too many for a table. From the least place they change four
+    // of the 19 entries, which is C(19,4) places.
     Row {
         numbers: [2, -19, 0, 0, 4, 0],
         directed: false,

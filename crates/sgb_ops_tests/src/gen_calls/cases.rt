@@ -12,13 +12,29 @@ pub(crate) enum Params {
     Subsets(SubsetsParams),
 }
 
+// The graph of a board. It says nothing of it, so that a function that calls it is proved with no more than what it
+// does itself.
+fn board_graph(alloc: Global, params: &BoardParams) -> Result<Graph, Panic> {
+    params.graph(alloc)
+}
+
+// That of a simplex.
+fn simplex_graph(alloc: Global, params: &SimplexParams) -> Result<Graph, Panic> {
+    params.graph(alloc)
+}
+
+// That of subsets.
+fn subsets_graph(alloc: Global, params: &SubsetsParams) -> Result<Graph, Panic> {
+    params.graph(alloc)
+}
+
 impl Params {
     // The graph itself.
     fn graph(&self, alloc: Global) -> Result<Graph, Panic> {
         match self {
-            Params::Board(params) => params.graph(alloc),
-            Params::Simplex(params) => params.graph(alloc),
-            Params::Subsets(params) => params.graph(alloc),
+            Params::Board(params) => board_graph(alloc, params),
+            Params::Simplex(params) => simplex_graph(alloc, params),
+            Params::Subsets(params) => subsets_graph(alloc, params),
         }
     }
 
@@ -40,7 +56,8 @@ impl Params {
     }
 }
 
-/// Whether the links are the list of vertex `v` of the graph: the same lengths, to the vectors that the tips' names tell.
+/// Whether the links are the list of vertex `v` of the graph: the same lengths, to the vectors that the tips' names
+/// tell.
 pub(crate) fn is_list(graph: &Graph, v: u32, links: &Links) -> bool {
     if v >= graph.n() {
         return false;

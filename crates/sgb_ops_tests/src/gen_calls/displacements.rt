@@ -1,7 +1,6 @@
 //! The displacements of pieces, seen by where they lead on directed boards.
-use super::board_counts::board_of;
+use super::board_counts::{board_of, puts_list};
 use sgb_gen::{Board, Links};
-use sgb_vec::Family;
 use std::alloc::Global;
 
 // The numbers of a directed board, a place, and where the piece moves from there.
@@ -43,10 +42,7 @@ const ROWS: &[Row] = &[
 
 // Whether the board's piece moves from this place to these alone.
 fn moves_to(board: &Board, place: &[u32], tips: &[&[u32]], links: &mut Links) -> bool {
-    if !board.family().holds(place) {
-        return false;
-    }
-    board.arcs_at(place, links).is_ok() && are_tips(links, tips)
+    puts_list(board, place, links) && are_tips(links, tips)
 }
 
 // Whether the piece moves from this place to these alone.

@@ -34,11 +34,17 @@ fn simplex_of(alloc: Global, numbers: &[i64; 6], directed: bool) -> Result<Simpl
     Simplex::new(alloc, n, n0, n1, n2, n3, n4, directed)
 }
 
+/// Puts the list of a vector into the links. `false` where it is no vector of the simplex, or has no list. It says
+/// nothing of the list, so that a function that calls it is proved with no more than what it does itself.
+pub(crate) fn puts_list(simplex: &Simplex, x: &[u32], links: &mut Links) -> bool {
+    simplex.family().holds(x) && simplex.arcs_at(x, links).is_ok()
+}
+
 // How many arcs the simplex's lists have, where a walk meets vectors of the family alone.
 fn arcs_of_lists(simplex: &Simplex, links: &mut Links) -> Option<u128> {
     let mut arcs: u128 = 0;
     for x in Vectors::all(simplex.family()) {
-        if !simplex.family().holds(x.as_slice()) || simplex.arcs_at(x.as_slice(), links).is_err() {
+        if !puts_list(simplex, x.as_slice(), links) {
             return None;
         }
         arcs = arcs.wrapping_add(links.len() as u128);

@@ -1,4 +1,5 @@
 use super::cases::{Params, is_list};
+use super::simplex_counts::puts_list;
 use sgb_gen::{Links, Simplex, SimplexParams};
 use sgb_graph::Graph;
 use sgb_vec::{Family, Vectors};
@@ -30,10 +31,7 @@ fn params_of(numbers: &[i64; 6], directed: bool) -> Params {
 
 // Whether the list of this vector is that of vertex v of the graph.
 fn is_list_at(graph: &Graph, v: u32, simplex: &Simplex, x: &[u32], links: &mut Links) -> bool {
-    if !simplex.family().holds(x) {
-        return false;
-    }
-    simplex.arcs_at(x, links).is_ok() && is_list(graph, v, links)
+    puts_list(simplex, x, links) && is_list(graph, v, links)
 }
 
 // Whether the lists of the simplex are those of the graph.

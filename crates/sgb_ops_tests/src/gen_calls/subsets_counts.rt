@@ -37,11 +37,17 @@ fn subsets_of(
     Subsets::new(alloc, n, n0, n1, n2, n3, n4, size_bits, directed)
 }
 
+/// Puts the list of a vector into the links. `false` where it is no vector of these subsets, or has no list. It says
+/// nothing of the list, so that a function that calls it is proved with no more than what it does itself.
+pub(crate) fn puts_list(subsets: &Subsets, x: &[u32], links: &mut Links) -> bool {
+    subsets.family().holds(x) && subsets.arcs_at(x, links).is_ok()
+}
+
 // How many arcs the lists of these subsets have, where a walk meets vectors of the family alone.
 fn arcs_of_lists(subsets: &Subsets, links: &mut Links) -> Option<u128> {
     let mut arcs: u128 = 0;
     for x in Vectors::all(subsets.family()) {
-        if !subsets.family().holds(x.as_slice()) || subsets.arcs_at(x.as_slice(), links).is_err() {
+        if !puts_list(subsets, x.as_slice(), links) {
             return None;
         }
         arcs = arcs.wrapping_add(links.len() as u128);
@@ -51,7 +57,7 @@ fn arcs_of_lists(subsets: &Subsets, links: &mut Links) -> Option<u128> {
 
 // How many arcs lead from this vector. `None` where it is none of the subsets.
 fn arcs_from(subsets: &Subsets, x: &[u32], links: &mut Links) -> Option<u64> {
-    if !subsets.family().holds(x) || subsets.arcs_at(x, links).is_err() {
+    if !puts_list(subsets, x, links) {
         return None;
     }
     Some(links.len() as u64)

@@ -1,4 +1,5 @@
 use super::cases::{Params, is_list};
+use super::subsets_counts::puts_list;
 use sgb_gen::{Links, Subsets, SubsetsParams};
 use sgb_graph::Graph;
 use sgb_vec::{Family, Vectors};
@@ -37,10 +38,7 @@ fn params_of(numbers: &[i64; 6], size_bits: u128, directed: bool) -> Params {
 
 // Whether the list of this vector is that of vertex v of the graph.
 fn is_list_at(graph: &Graph, v: u32, subsets: &Subsets, x: &[u32], links: &mut Links) -> bool {
-    if !subsets.family().holds(x) {
-        return false;
-    }
-    subsets.arcs_at(x, links).is_ok() && is_list(graph, v, links)
+    puts_list(subsets, x, links) && is_list(graph, v, links)
 }
 
 // Whether the lists of the subsets are those of the graph.

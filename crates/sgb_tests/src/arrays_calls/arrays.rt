@@ -4,14 +4,8 @@ use sgb_arrays::{
 };
 use sgb_gen::complete;
 use sgb_graph::Graph;
-use std::test::Fail;
-
-#[test]
-fn arrays_of_a_triangle(rt: HostRuntime) -> Result<(), Fail> {
-    let graph = complete(3).graph(rt.alloc())?;
-    assert!(rt; is_triangle(&graph));
-    Ok(())
-}
+use sgb_vec::Panic;
+use std::alloc::Global;
 
 // Whether the lists, the names and the fields are those of a triangle.
 fn is_triangle(graph: &Graph) -> bool {
@@ -46,14 +40,6 @@ fn has_triangle_fields(graph: &Graph) -> bool {
         && fill_ints(graph, 0, 0, 3, &mut values) == Err(Wrong::Field)
 }
 
-// eight lists side by side, and one after them
-#[test]
-fn rows_of_nine_vertices(rt: HostRuntime) -> Result<(), Fail> {
-    let packed = PackedGraph::new(rt.alloc(), complete(9).graph(rt.alloc())?)?;
-    assert!(rt; has_nine_rows(&packed));
-    Ok(())
-}
-
 // Whether the lists are those of nine vertices with eight arcs each, as they are put one after another.
 fn has_nine_rows(packed: &PackedGraph) -> bool {
     let (mut starts, mut tips, mut lengths) = ([0; 10], [0; 72], [0; 72]);
@@ -83,13 +69,6 @@ V0,0,1
 * Checksum 1066721325
 ";
 
-#[test]
-fn kinds_and_file_of_two_vertices(rt: HostRuntime) -> Result<(), Fail> {
-    let graph = complete(2).graph(rt.alloc())?;
-    assert!(rt; has_kinds(&graph) && has_file(&graph));
-    Ok(())
-}
-
 // Whether the fields x, y and z of vertices hold integers, and no others are used; a shorter array is refused.
 fn has_kinds(graph: &Graph) -> bool {
     let mut letters = [0; 14];
@@ -105,6 +84,50 @@ fn has_file(graph: &Graph) -> bool {
         && fill_file(graph, &mut bytes) == Ok(())
         && bytes == *FILE
         && fill_file(graph, &mut bytes[..159]) == Err(Wrong::Length)
+}
+
+// The complete graph of so many vertices. It says nothing of it, so that a function that calls it is proved with no
+// more than what it does itself.
+fn graph_of(alloc: Global, n: i64) -> Result<Graph, Panic> {
+    complete(n).graph(alloc)
+}
+
+// Whether the arrays of this graph, which is complete, are those of two vertices or of three.
+fn are_arrays_of(graph: &Graph) -> bool {
+    if graph.n() == 2 {
+        return has_kinds(graph) && has_file(graph);
+    }
+    is_triangle(graph)
+}
+
+// Whether those of the complete graph of so many vertices are.
+fn are_arrays(alloc: Global, n: i64) -> bool {
+    match graph_of(alloc, n) {
+        Ok(graph) => are_arrays_of(&graph),
+        Err(_) => false,
+    }
+}
+
+// Whether a graph, packed, has the lists of nine vertices: eight side by side, and one after them.
+fn is_packed(alloc: Global, graph: Graph) -> bool {
+    match PackedGraph::new(alloc, graph) {
+        Ok(packed) => has_nine_rows(&packed),
+        Err(_) => false,
+    }
+}
+
+// Whether that of nine vertices has.
+fn are_nine_packed(alloc: Global) -> bool {
+    match graph_of(alloc, 9) {
+        Ok(graph) => is_packed(alloc, graph),
+        Err(_) => false,
+    }
+}
+
+#[test]
+fn arrays_of_complete_graphs(rt: HostRuntime) {
+    assert!(rt; are_arrays(rt.alloc(), 2) && are_arrays(rt.alloc(), 3));
+    assert!(rt; are_nine_packed(rt.alloc()));
 }
 
 // Whether draws are those of the published test of GB_FLIP: the first one from -314159, and the uniform one after 134

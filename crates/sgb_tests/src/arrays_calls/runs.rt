@@ -93,9 +93,20 @@ enum Wanted {
     Sizes(u32, u128),
 }
 
+// The lists of a run. It says nothing of them, so that a function that calls it is proved with no more than what it
+// does itself.
+fn rows_of(alloc: Global, local: &Local, first: u32, count: u32) -> Result<Rows, Wrong> {
+    rows_of_run(alloc, local, first, count)
+}
+
+// The names of a run, of which it says nothing either.
+fn run_names(alloc: Global, local: &Local, first: u32, count: u32) -> Result<Names, Wrong> {
+    names_of_run(alloc, local, first, count)
+}
+
 // Whether these vertices have such lists.
 fn has_rows(alloc: Global, local: &Local, (first, count): (u32, u32), lists: Lists) -> bool {
-    match rows_of_run(alloc, local, first, count) {
+    match rows_of(alloc, local, first, count) {
         Ok(rows) => are_rows(&rows, lists),
         Err(_) => false,
     }
@@ -109,7 +120,7 @@ fn has_names(
     starts: &[u64],
     bytes: &[u8],
 ) -> bool {
-    match names_of_run(alloc, local, first, count) {
+    match run_names(alloc, local, first, count) {
         Ok(names) => are_names(&names, starts, bytes),
         Err(_) => false,
     }
@@ -124,10 +135,10 @@ impl Wanted {
                 has_names(alloc, local, (*first, *count), starts, bytes)
             }
             Wanted::NoRows(first, count) => {
-                rows_of_run(alloc, local, *first, *count).err() == Some(Wrong::Vertices)
+                rows_of(alloc, local, *first, *count).err() == Some(Wrong::Vertices)
             }
             Wanted::NoNames(first, count) => {
-                names_of_run(alloc, local, *first, *count).err() == Some(Wrong::Vertices)
+                run_names(alloc, local, *first, *count).err() == Some(Wrong::Vertices)
             }
             Wanted::Joined(n, first) => is_joined(alloc, local, *n, *first),
             Wanted::Sizes(n, m) => { local.size() == *n && local.arcs_count(alloc) == Ok(*m) }
@@ -137,7 +148,7 @@ impl Wanted {
 
 // Whether the lists of all n vertices are those of the first ones, and then those of the others.
 fn is_joined(alloc: Global, local: &Local, n: u32, first: u32) -> bool {
-    match rows_of_run(alloc, local, 0, n) {
+    match rows_of(alloc, local, 0, n) {
         Ok(all) => {
             is_front(&all, alloc, local, first)
                 && is_back(&all, alloc, local, first, n.saturating_sub(first))
@@ -148,7 +159,7 @@ fn is_joined(alloc: Global, local: &Local, n: u32, first: u32) -> bool {
 
 // Whether all lists begin with those of so many first vertices.
 fn is_front(all: &Rows, alloc: Global, local: &Local, first: u32) -> bool {
-    match rows_of_run(alloc, local, 0, first) {
+    match rows_of(alloc, local, 0, first) {
         Ok(front) => {
             all.tips.starts_with(front.tips.as_slice())
                 && all.starts.starts_with(front.starts.as_slice())
@@ -159,7 +170,7 @@ fn is_front(all: &Rows, alloc: Global, local: &Local, first: u32) -> bool {
 
 // Whether all lists end with those of so many vertices after the first ones, which begin where these end.
 fn is_back(all: &Rows, alloc: Global, local: &Local, first: u32, count: u32) -> bool {
-    match rows_of_run(alloc, local, first, count) {
+    match rows_of(alloc, local, first, count) {
         Ok(back) => {
             let before = all.tips.len().saturating_sub(back.tips.len());
             all.tips.ends_with(back.tips.as_slice())
