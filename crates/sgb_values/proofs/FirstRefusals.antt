@@ -34,7 +34,7 @@ first_other input (Generated f) code is = generator_other f code is
 first_other input (OfNumbers operation) code is = numbers_other operation code is
 first_other input (OfGraph operation e) code is = first_other input e code is
 first_other input (OfGraphs operation e f) code is = first_other input e code is
-first_other input (Induced e entries self_loops multi directed) code is = first_other input e code is
+first_other input (Induced e _ self_loops multi directed) code is = first_other input e code is
 first_other input Stdin code is = search rules
 
 -- a text that is too long

@@ -27,5 +27,5 @@ IsRefusedFirst input (Generated f) code = IsGeneratorRefused f code
 IsRefusedFirst input (OfNumbers operation) code = AreNumbersRefused operation code
 IsRefusedFirst input (OfGraph operation e) code = IsRefusedFirst input e code
 IsRefusedFirst input (OfGraphs operation e f) code = IsRefusedFirst input e code
-IsRefusedFirst input (Induced e entries self_loops multi directed) code = IsRefusedFirst input e code
+IsRefusedFirst input (Induced e _ self_loops multi directed) code = IsRefusedFirst input e code
 IsRefusedFirst input Stdin code = IsInputRefused input code
