@@ -64,7 +64,7 @@ def _show(*ones: Any) -> None:
                 part.__module__ = __name__
 
 
-_show(Graph, GraphError, Rows, from_csr, from_edges, from_igraph, from_networkx, from_scipy)
+_show(Graph, GraphError, Rows, convert, from_csr, from_edges, from_igraph, from_networkx, from_scipy)
 
 
 def graph(text: str, input: Any = None) -> Graph:  # noqa: A002 (the expression `stdin` is this input)
