@@ -399,6 +399,70 @@ private:
 
 inline chunk_list graph::chunks(std::uint32_t size) { return {this, size}; }
 
+// An edge or an arc of a graph of one's own.
+struct edge {
+    std::uint32_t from, to;
+    std::int64_t length = 1;
+};
+
+namespace detail {
+
+// a string of a `.gb` file
+inline std::string quoted(std::string_view text, std::size_t most) {
+    for (const char c : text)
+        if (c < 32 || c > 126 || c == '"' || c == '\\') throw std::invalid_argument("sgb: no text of a graph: " + std::string(text));
+    if (text.size() > most) throw std::invalid_argument("sgb: a text of more than " + std::to_string(most) + " bytes");
+    return '"' + std::string(text) + '"';
+}
+
+} // namespace detail
+
+// The `.gb` file of the graph of these edges, or arcs where it is directed, which the expression `stdin` stands for:
+// sgb::graph g("lines(stdin,0)", sgb::file_of_edges(3, edges)). Lists have their arcs in the order in which the edges are
+// given. Vertices have the numbers from 0 as names, unless names are given, one for each. std::invalid_argument where an end
+// is no vertex, a text has other bytes than a file may have, or there are too many vertices.
+inline std::string file_of_edges(std::uint32_t n, std::span<const edge> edges, bool directed = false,
+                                 std::span<const std::string> names = {}, std::string_view id = "edges") {
+    struct record {
+        std::uint32_t tip;
+        std::uint64_t next;
+        std::int64_t length;
+    };
+    const std::uint64_t none = UINT64_MAX;
+    if (n > 1'000'000'000) throw std::invalid_argument("sgb: more than 1000000000 vertices");
+    if (!names.empty() && names.size() != n) throw std::invalid_argument("sgb: not a name for each vertex");
+    std::vector<std::uint64_t> firsts(n, none), lasts(n, none);
+    std::vector<record> records;
+    // puts a record at the end of a vertex's list
+    const auto put = [&](std::uint32_t at, std::uint32_t tip, std::int64_t length) {
+        (lasts[at] == none ? firsts[at] : records[lasts[at]].next) = records.size();
+        lasts[at] = records.size();
+        records.push_back({tip, none, length});
+    };
+    for (const auto &[from, to, length] : edges) {
+        if (from >= n || to >= n) throw std::invalid_argument("sgb: an end is no vertex: " + std::to_string(from >= n ? from : to));
+        // of an edge the lower record is at the smaller end
+        const std::uint32_t low = !directed && to < from ? to : from, high = !directed && to < from ? from : to;
+        put(low, high, length);
+        if (!directed) put(high, low, length);
+    }
+    const auto arc = [&](std::uint64_t k) { return k == none ? std::string("0") : "A" + std::to_string(k); };
+    std::string file = "* GraphBase graph (util_types ZZZZZZZZZZZZZZ," + std::to_string(n) + "V," + std::to_string(records.size()) + "A)\n";
+    file += detail::quoted(id, 160) + "," + std::to_string(n) + "," + std::to_string(records.size()) + "\n* Vertices\n";
+    for (std::uint32_t v = 0; v < n; v++)
+        file += detail::quoted(names.empty() ? std::to_string(v) : names[v], 4095) + "," + arc(firsts[v]) + "\n";
+    file += "* Arcs\n";
+    for (const record &one : records)
+        file += "V" + std::to_string(one.tip) + "," + arc(one.next) + "," + std::to_string(one.length) + "\n";
+    return file + "* Checksum -1\n";
+}
+
+// that graph, open
+inline graph from_edges(std::uint32_t n, std::span<const edge> edges, bool directed = false, std::span<const std::string> names = {},
+                        std::string_view id = "edges") {
+    return graph("stdin", file_of_edges(n, edges, directed, names, id));
+}
+
 // so many draws of GB_FLIP from a generator that is started from `start`, after `skip` that are left out
 inline std::vector<std::uint32_t> draws(std::int64_t start, std::uint64_t skip, std::size_t count) {
     std::vector<std::uint32_t> out(count + 1);

@@ -158,7 +158,45 @@ static_assert(!std::is_copy_constructible_v<sgb::name_list> && std::is_nothrow_m
 static_assert(!std::is_copy_constructible_v<sgb::graph> && !std::is_copy_assignable_v<sgb::graph>);
 static_assert(std::is_nothrow_move_constructible_v<sgb::graph> && std::is_nothrow_move_assignable_v<sgb::graph>);
 
+template <class F> static bool is_refused(F call) {
+    try {
+        call();
+    } catch (const std::invalid_argument &) {
+        return true;
+    }
+    return false;
+}
+
+// a graph of one's own: lists in the order of its edges, a loop, a length below 0
+static void own() {
+    const std::vector<sgb::edge> edges = {{1, 0, 5}, {1, 2}, {2, 0, -3}, {1, 1}};
+    sgb::graph graph = sgb::from_edges(4, edges);
+    const auto rows = graph.rows();
+    const std::vector<std::vector<std::uint32_t>> tips = {{1, 2}, {0, 2, 1, 1}, {1, 0}, {}};
+    const std::vector<std::vector<std::int64_t>> lengths = {{5, -3}, {5, 1, 1, 1}, {1, -3}, {}};
+    check(graph.n() == 4 && graph.m() == 8 && graph.id() == "edges" && graph.names()[3] == "3", "a graph of edges");
+    for (std::uint32_t v = 0; v < 4; v++)
+        check(std::ranges::equal(rows.tips(v), tips[v]) && std::ranges::equal(rows.lengths(v), lengths[v]), "the lists of edges");
+    sgb::graph lines("lines(stdin,0)", sgb::file_of_edges(4, edges));
+    check(lines.n() == 4, "the lines of a graph of edges");
+    const std::vector<std::string> names = {"a", "b c", "", "#"};
+    sgb::graph arcs = sgb::from_edges(4, edges, true, names, "own");
+    const auto out = arcs.rows();
+    check(arcs.m() == 4 && arcs.id() == "own" && std::ranges::equal(arcs.names(), names), "a graph of arcs");
+    check(std::ranges::equal(out.tips(1), std::vector<std::uint32_t>{0, 2, 1}) && out.tips(0).empty(), "the lists of arcs");
+    check(sgb::from_edges(0, {}).n() == 0, "a graph of nothing");
+    check(is_refused([&] { sgb::from_edges(2, edges); }), "an end that is no vertex");
+    check(is_refused([&] { sgb::from_edges(3, edges, false, names); }), "names for other vertices");
+    const std::vector<std::string> quotes = {"a", "b", "c", "\""}, longer = {"a", "b", "c", std::string(4096, 'x')};
+    check(is_refused([&] { sgb::from_edges(4, edges, false, quotes); }), "a name that no file can have");
+    check(is_refused([&] { sgb::from_edges(4, edges, false, longer); }), "a name that is too long");
+    check(is_refused([&] { sgb::from_edges(4, edges, false, {}, std::string(161, 'x')); }), "an id that is too long");
+    sgb::graph most = sgb::from_edges(4, edges, false, {}, std::string(160, 'x'));
+    check(most.id().size() == 160, "the longest id");
+}
+
 int main() {
+    own();
     {
         sgb::graph first("board(3,4,0,0,1,0,0)");
         const auto names = first.names();
