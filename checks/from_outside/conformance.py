@@ -61,6 +61,8 @@ NOT_DRAWN = [
     ('sgb list "empty(12)" | head -c -2', "", "line 15: the listing is cut off in the middle of a line"),
     ('sgb list "petersen()"', "-v rim=4", "line 44: no cycle of 4 vertices through the first one"),
     ('sgb list "complete(4)"', "-v rim=3 -v on=circle", None),
+    ('sgb save "petersen()" | head -20', "", "line 20: the file is cut off"),
+    ('sgb save "circuit(3)" | sed "s/,A2,1/,A9,1/"', "", "line 14: a list that leads nowhere: 1"),
     ('sgb list "complete(3)"', "-v on=columns", "line 13: no two columns, since the edge of 2 and 1 closes an odd cycle"),
     ('sgb list "petersen()"', "-v on=triangle", "line 44: names that are no vectors of one to three entries: on=circle draws them"),
 ]
@@ -199,6 +201,13 @@ def drawings(shell_of):
             status, out, err = shell.run(command)
             found = sorted(int(number) for number in re.findall(rb'<text class="n"[^>]*>(-?[0-9]+)<', out))
             tally.same(command, (status, err, found), (0, b"", sorted(numbers)))
+            # the file of the graph is drawn as its listing is
+            saved = f'sgb save "{expression}" | awk {options} -f examples/listings/draw.awk'
+            tally.same(saved, shell.run(saved), (0, out, b""))
+        twice = 'sgb save "lines(board(3,0,0,0,-1,1,0),0)" | awk -v on=circle -f examples/listings/draw.awk'
+        status, out, err = shell.run(twice)
+        seen = status, err, out.count(b"<circle "), out.count(b'<path class="'), out.count(b">1--2</text>")
+        tally.same(twice, seen, (0, b"", 6, 15, 2))
         for before, options, line in NOT_DRAWN:
             command = f"{before} | awk {options} -f examples/listings/draw.awk"
             if line is not None:

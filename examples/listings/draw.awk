@@ -16,6 +16,10 @@
 #   colours=1   edges of one length in one colour
 #   order=1     at each vertex the place of each arc on its list, counted from 1: the order in which programs meet them
 #
+# What `sgb save` writes is drawn too, and so are graphs in which two vertices have one name, which a listing does not tell apart:
+#
+#   sgb save "lines(board(3,0,0,0,-1,1,0),0)" | awk -f examples/listings/draw.awk > lines.svg
+#
 # A listing does not say whether its graph is directed: without directed=1 each edge, which stands on the lists of both its
 # ends, is drawn once. Where the listing has no head, is not whole, or has a name twice, nothing is drawn: the status is 1,
 # and a line on standard error says why.
@@ -34,7 +38,8 @@ failed { next }
 END {
     if (failed) exit 1
     if (rest != "") fail("the listing is cut off in the middle of a line")
-    if (line_number < 4) fail("no head of a whole listing")
+    if (is_file) follow_lists()
+    else if (line_number < 4) fail("no head of a whole listing")
     if (n + 0 != wanted_vertices) fail((n + 0) " vertices, and " wanted_vertices " in the head")
     if (m + 0 != wanted_arcs) fail((m + 0) " arcs, and " wanted_arcs " in the head")
     find_tips()
@@ -59,6 +64,8 @@ function fail(why) {
 
 function take(line,    words, at) {
     line_number++
+    if (line_number == 1 && line ~ /^\* GraphBase graph \(util_types [ZIVSA]+,[0-9]+V,[0-9]+A\)$/) is_file = 1
+    if (is_file) { take_of_file(line); return }
     if (line_number == 1 && line != "  The graph whose official name is" || line_number == 4 && line != "" ||
         line_number == 3 && line !~ /^  has [0-9]+ vertices and [0-9]+ arcs:$/)
         fail("no head of a whole listing")
@@ -83,12 +90,53 @@ function take(line,    words, at) {
 }
 
 # ---------------------------------------------------------------------------------------------------------------------
+# Reading a `.gb` file: the graph's record, vertices, and arc records, which the lists lead through.
+
+# A record goes on after a comma, and after a `\` inside a string.
+function take_of_file(line,    at, fields) {
+    if (line ~ /^\* /) { section = substr(line, 3); return }
+    if (begun ~ /\\$/) line = substr(begun, 1, length(begun) - 1) line
+    else line = begun line
+    begun = ""
+    if (line ~ /[,\\]$/) { begun = line; return }
+    if (section == "Arcs") {
+        split(line, fields, ",")
+        records_read += 0
+        tip_of[records_read] = substr(fields[1], 2) + 1
+        next_of[records_read] = fields[2]
+        len_of[records_read++] = fields[3]
+        return
+    }
+    at = index(substr(line, 2), "\"") + 1
+    split(substr(line, at + 2), fields, ",")
+    if (section == "Vertices") {
+        name[++n] = substr(line, 2, at - 2)
+        first_of[n] = fields[1]
+    } else {
+        id = substr(line, 2, at - 2)
+        wanted_vertices = fields[1] + 0
+        wanted_arcs = fields[2] + 0
+    }
+}
+
+function follow_lists(    v, k) {
+    if (section !~ /^Checksum / || begun != "") fail("the file is cut off")
+    for (v = 1; v <= n; v++)
+        for (k = first_of[v]; k != "0"; k = next_of[substr(k, 2)]) {
+            if (!(substr(k, 2) in tip_of) || m > 4 * records_read) fail("a list that leads nowhere: " name[v])
+            from[++m] = v
+            tip[m] = tip_of[substr(k, 2)]
+            len[m] = len_of[substr(k, 2)]
+        }
+}
+
+# ---------------------------------------------------------------------------------------------------------------------
 # Edges: of an undirected graph one record of two.
 
 function find_tips(    k, u, v, loops) {
     for (k = 1; k <= m; k++) {
-        if (!(tip_name[k] in place)) fail("an arc to a name that no vertex has: " tip_name[k])
-        tip[k] = place[tip_name[k]]
+        if (!is_file && !(tip_name[k] in place)) fail("an arc to a name that no vertex has: " tip_name[k])
+        if (!is_file) tip[k] = place[tip_name[k]]
         records[from[k], tip[k], len[k]]++
     }
     for (k = 1; k <= m; k++) {
