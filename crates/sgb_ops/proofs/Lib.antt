@@ -27,6 +27,8 @@ pub mod UnionEvents
 pub mod TallyLemmas
 -- the events of an intersection
 pub mod CommonEvents
+-- the arcs of a copy
+pub mod CopiedArcs
 -- marks at the tips of arcs
 pub mod Marks
 -- events added place by place and arc by arc

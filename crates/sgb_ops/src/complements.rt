@@ -1,9 +1,11 @@
 //! The complement of a graph, or a copy of it without parallel arcs (GB_BASIC, complement).
-ghost use Rattle.std.specs.Prelude.{◌≡◌, ◌<◌, ◌+◌, ◌==◌, [], ◌∷◌, ℕ, pos, length, slice_index, OnOk, IsOkUnless, if◌then◌else◌};
+ghost use Rattle.std.specs.Prelude.{◌≡◌, ◌<◌, ◌+◌, ◌++◌, ◌==◌, [], ◌∷◌, ℕ, true, pos, length, map, slice_index, All, OnOk, IsOkUnless, if◌then◌else◌};
+ghost use Rattle.std.specs.List.{list_any};
+ghost use Rattle.sgb_graph.specs.Graphs.{chain_of};
 ghost use Rattle.sgb_graph.specs.Descriptions.{IsAnswerOf};
 ghost use Rattle.sgb_graph.specs.Growth.{AddsEvents, HasPlainArcs};
 ghost use Rattle.sgb_ops.specs.Complement.{complement_events, complement_of};
-ghost use Rattle.sgb_ops.specs.inner.Complement.{complement_events_from, is_wanted_where, has_arc};
+ghost use Rattle.sgb_ops.specs.inner.Complement.{AreFrom, complement_events_from, events_to, is_wanted_where, has_arc};
 ghost use Rattle.sgb_ops.specs.inner.Compounds.{complement_id};
 
 use crate::compounds::flag_byte;
@@ -16,6 +18,7 @@ use std::alloc::Global;
 /// names whose arcs, or edges unless `directed`, all of length 1, lead from vertex u to vertex w where `graph` has no
 /// arc from u to w, or with `copy` where it has one. A loop comes with `self_loops` only, an edge from its smaller end
 /// only. They come for each u in order, and then for each w in order. The id is `complement(ID,copy,self_loops,directed)`.
+/// A copy takes steps by the arcs of `graph`, all else by the pairs of its vertices.
 ///
 /// `NoRoom` when out of memory, and nothing else.
 pub fn complement(
@@ -72,12 +75,49 @@ impl Wanted {
             (complement_events graph.now self.copy self.self_loops self.directed)) }
         ensures memory { IsOkUnless result Panic.NoRoom }
     {
+        if self.copy {
+            return self.add_copied_arcs(alloc, graph, built);
+        }
         // For each vertex w the last u + 1 so far where u has an arc to w, or 0.
         let mut marks = vec![in alloc; 0; graph.n() as usize]?;
         for u in 0..graph.n() {
             graph.read_ahead(u);
             mark_tips(&mut marks, graph, u, u + 1);
             self.add_arcs_from(graph, u, &marks, built)?;
+        }
+        Ok(())
+    }
+
+    // Adds those of a copy, in steps of the arcs of `graph` and not of its pairs of vertices.
+    fn add_copied_arcs(self, alloc: Global, graph: &Graph, built: &mut Graph) -> Result<(), Panic>
+        requires copy { self.copy ≡ true }
+        requires vertices { length built.old.vertices ≡ length graph.now.vertices }
+        requires plain { HasPlainArcs built.old }
+        ensures ok { OnOk result (AddsEvents self.directed built.old built.new
+            (complement_events graph.now self.copy self.self_loops self.directed)) }
+        ensures memory { IsOkUnless result Panic.NoRoom }
+    {
+        // The tips of each vertex take the memory of those of the vertex before.
+        let mut tips = Vec::new(alloc);
+        for u in 0..graph.n() {
+            graph.read_ahead(u);
+            put_tips(&mut tips, graph, u)?;
+            self.add_arcs_to(u, tips.as_slice(), built)?;
+        }
+        Ok(())
+    }
+
+    // Adds the arcs of a copy from vertex `u` to these vertices, to each of which `graph` has one.
+    fn add_arcs_to(self, u: u32, tips: &[u32], built: &mut Graph) -> Result<(), Panic>
+        requires from { u < length built.old.vertices }
+        requires to { All (λ w. w < length built.old.vertices) tips.now }
+        requires plain { HasPlainArcs built.old }
+        ensures ok { OnOk result (AddsEvents self.directed built.old built.new
+            (events_to self.copy self.self_loops self.directed u tips.now)) }
+        ensures memory { IsOkUnless result Panic.NoRoom }
+    {
+        for tip in tips {
+            self.add_arc(built, u, *tip, true)?;
         }
         Ok(())
     }
@@ -140,4 +180,43 @@ fn mark_tips(marks: &mut [u32], graph: &Graph, u: u32, mark: u32)
     for link in graph.arcs(u) {
         marks[link.tip as usize] = mark;
     }
+}
+
+// Puts the vertices that the list of `u` leads to into `tips`, in order and each once.
+fn put_tips(tips: &mut Vec<u32>, graph: &Graph, u: u32) -> Result<(), Panic>
+    requires vertex { u < length graph.now.vertices }
+    ensures rise { OnOk result (AreFrom 0 tips.new.items) }
+    ensures arcs { OnOk result ((w : ℕ) → list_any (λ t. t == w) tips.new.items
+        ≡ has_arc graph.now u w) }
+    ensures within { OnOk result (All (λ t. t < length graph.now.vertices) tips.new.items) }
+    ensures memory { IsOkUnless result Panic.NoRoom }
+{
+    tips.clear();
+    push_tips(tips, graph, u)?;
+    put_in_order(tips);
+    Ok(())
+}
+
+// Appends the vertices that the list of `u` leads to.
+fn push_tips(tips: &mut Vec<u32>, graph: &Graph, u: u32) -> Result<(), Panic>
+    requires vertex { u < length graph.now.vertices }
+    ensures ok { OnOk result (tips.new.items
+        ≡ tips.old.items ++ map (λ l. l.tip) (chain_of graph.now u)) }
+    ensures tips { All (λ l. l.tip < length graph.now.vertices) (chain_of graph.now u) }
+    ensures memory { IsOkUnless result Panic.NoRoom }
+{
+    for link in graph.arcs(u) {
+        tips.push(link.tip)?;
+    }
+    Ok(())
+}
+
+// Puts numbers in order, each once.
+fn put_in_order(tips: &mut Vec<u32>)
+    ensures rise { AreFrom 0 tips.new.items }
+    ensures same { (w : ℕ) → list_any (λ t. t == w) tips.new.items
+        ≡ list_any (λ t. t == w) tips.old.items }
+{
+    tips.sort_unstable();
+    tips.dedup();
 }
