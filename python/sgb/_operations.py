@@ -201,10 +201,10 @@ def induced(graph: Graph, entries: Iterable[Union[SupportsIndex, Graph]], self_l
     TypeError
         Where an entry is neither.
     """
-    own = _library.Entries()
+    operand, own = _held(graph), _library.Entries()
     for entry in entries:
         if isinstance(getattr(entry, "_held", None), _library.Held):
             own.add_graph(entry._held)  # type: ignore[union-attr]
         else:
             own.add_number(integer(entry, "an entry"))  # type: ignore[arg-type]
-    return graph._of(_library.made_of([_held(graph)], "sgb_induced_by", own.held, bool(self_loops), bool(multi), bool(directed)))
+    return graph._of(_library.made_of([operand], "sgb_induced_by", own.held, bool(self_loops), bool(multi), bool(directed)))
