@@ -207,7 +207,7 @@ class Numpy(unittest.TestCase):
                 arrays = graph.starts.astype(dtype), graph.tips.astype(dtype), graph.lengths
                 self.assertEqual(list(sgb.from_csr(*arrays).arcs()), list(graph.arcs()))
         for starts in ([0, 2, 1], [1, 1], [0, 3], []):
-            with self.assertRaises(ValueError):
+            with self.assertRaisesRegex(ValueError, "starts go from 0 up"):
                 sgb.from_csr(self.numpy.array(starts, dtype="uint64"), self.numpy.array([0], dtype="uint32"))
 
 

@@ -386,17 +386,7 @@ class Graph:
         """The arcs (v, tip, length), int each, in the order of the lists. A great graph's come chunk by chunk."""
         if "lengths" in self._kept or self._fetched("size", self._is_small):
             return Rows(self.text, 0, self.starts, self.tips, self.lengths).arcs()
-        return (arc for rows in self._pieces() for arc in rows.arcs())
-
-    def _pieces(self) -> Iterator[Rows]:
-        """All lists, so many at once that they have about a million arcs."""
-        first = 0
-        while first < self.n:
-            count = min(FEW[0], self.n - first)
-            while count > 1 and self._size(first, count) > FEW[1]:
-                count //= 2
-            yield self.rows(first, count)
-            first += count
+        return (arc for rows in _lookups.pieces(self, *FEW) for arc in rows.arcs())
 
     def edges(self) -> list[tuple[int, int, int]]:
         """The edges (v, tip, length), int each: of each edge the arc that comes first, and of a loop one of its two.
