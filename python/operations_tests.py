@@ -60,6 +60,17 @@ class Operations(unittest.TestCase):
                 self.same(sgb.product(graph, graph, "direct"), f"product({text},{text},1,0)")
                 self.assertEqual((listing(graph), listing(second)), (said("list", text), said("list", other)))
 
+    def test_one_graph_twice(self):
+        """The call on two graphs is not made where both are one, since it is of two handles."""
+        graph, other = sgb.graph("petersen()"), sgb.graph("petersen()")
+        for call, name in (sgb.gunion, "gunion"), (sgb.intersection, "intersection"), (sgb.product, "product"):
+            with unittest.mock.patch.object(_library.lib, f"sgb_{name}_of", return_value=30) as of_two:
+                call(graph, graph)
+                self.assertEqual(of_two.call_count, 0)
+                with self.assertRaises(sgb.GraphError):
+                    call(graph, other)
+                self.assertEqual(of_two.call_count, 1)
+
     def test_own(self):
         """Graphs of one's own, whose file the program reads."""
         dice = random.Random(11)

@@ -136,7 +136,7 @@ class Names:
 def own_id(names: Names, events: Events) -> str:
     """An id that tells graphs apart, of events as the library is handed them: how many vertices and arcs there are, and a sum of all
     that the graph is."""
-    found = hashlib.sha256(b"%d %d %d\n" % (events.n, len(events.tips), events.directed))
+    found = hashlib.sha256(b"%d %d\n" % (events.n, events.m))
     for part in (names.starts, names.bytes, *events.ordered(), events.lengths):
         found.update(memoryview(part).cast("B") if len(part) else b"")
     return f"given({events.n},{events.m},0x{found.hexdigest()[:16]})"
