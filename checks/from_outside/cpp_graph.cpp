@@ -218,6 +218,7 @@ static void operations() {
     same(sgb::gunion(ring, arcs, false, true), "gunion(circuit(4),transitive(3),0,1)", "a union of arcs");
     same(sgb::gunion(ring, ring, true), "gunion(circuit(4),circuit(4),1,0)", "a union with itself");
     same(sgb::intersection(ring, board), "intersection(circuit(4),board(3,3,0,0,1,0,0),0,0)", "an intersection");
+    same(sgb::intersection(ring, board, true), "intersection(circuit(4),board(3,3,0,0,1,0,0),1,0)", "one with parallel arcs");
     same(sgb::intersection(ring, ring, true, true), "intersection(circuit(4),circuit(4),1,1)", "an intersection with itself");
     same(sgb::product(ring, arcs), "product(circuit(4),transitive(3),0,0)", "a cartesian product");
     same(sgb::product(ring, arcs, sgb::product_kind::direct), "product(circuit(4),transitive(3),1,0)", "a direct product");
