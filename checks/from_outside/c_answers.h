@@ -1,4 +1,5 @@
 /* The mode of c_operations.c that looks at answers: it takes this file in, which uses the functions of c_states.h. */
+#include <sys/mman.h>
 
 /* Handles that are open or not: every operation looks at what it is to make first, and then at its operands. */
 static void handles(void) {
@@ -148,4 +149,21 @@ static void making(void) {
                   &graph),
          SGB_ALREADY_OPEN, "sgb_make over a graph");
     sgb_close(&graph);
+}
+
+/* More vertices than a graph may have, each with an empty name: told before an end that is no vertex, and an id that is no text. It
+ * reads 8 GB of addresses behind which is one page of zeros; where these are not to be had, it says so. */
+static void too_many(void) {
+    const size_t places = 1000000002;
+    const uint32_t beyond[] = {UINT32_MAX};
+    const int64_t length[] = {1};
+    uint64_t *starts_of_all = mmap(NULL, 8 * places, PROT_READ, MAP_PRIVATE | MAP_ANONYMOUS | MAP_NORESERVE, -1, 0);
+    if (starts_of_all == MAP_FAILED) {
+        puts("no addresses");
+        return;
+    }
+    must(sgb_make(starts_of_all, places, "", 0, beyond, 1, beyond, 1, length, 1, false, "\n", 1, &graph), SGB_TOO_MANY, "sgb_make");
+    if (graph.is_open) fail("a graph of too many vertices is open");
+    munmap(starts_of_all, 8 * places);
+    puts("right");
 }

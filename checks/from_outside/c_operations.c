@@ -7,6 +7,7 @@
  *     c_operations leaks N FILE   each N times: the process is as large as before
  *     c_operations stack KB FILE  each in a thread of KB kilobytes: how many bytes of its stack it touches, a line each
  *     c_operations answers        the answers that no expression has: handles that are open or not, and those of sgb_make
+ *     c_operations many           that of sgb_make where there are more vertices than a graph may have
  *
  * A line is `INPUT OPERATION FLAG FLAG FLAG OPERAND..`, where INPUT is a `.gb` file or `-`, which `stdin` stands for. An operand
  * is an expression; `=`, the first operand once more, the same handle; `#PATH`, the graph that sgb_make makes of what the file
@@ -302,6 +303,8 @@ int main(int words_len, char **words) {
         handles();
         making();
         puts("right");
+    } else if (words_len == 2 && strcmp(words[1], "many") == 0) {
+        too_many();
     } else if (words_len == 3 && strcmp(words[1], "runs") == 0) {
         each(words[2], run);
     } else if (words_len == 3 && strcmp(words[1], "refuse") == 0) {
