@@ -155,7 +155,7 @@ class Operations(unittest.TestCase):
             for _ in range(100):
                 found.append(sgb.gunion(first, second).m)
 
-        threads = [threading.Thread(target=work, args=graphs[::turn]) for turn in (1, -1) for _ in range(3)]
+        threads = [threading.Thread(target=work, args=graphs[::turn], daemon=True) for turn in (1, -1) for _ in range(3)]
         for thread in threads:
             thread.start()
         for thread in threads:

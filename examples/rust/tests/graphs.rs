@@ -286,11 +286,11 @@ fn a_graph_is_made_of_its_arcs() {
     let rows = made.all().unwrap();
     assert_eq!((made.id(), rows.tips(), rows.lengths()), ("made", &[2, 1, 2][..], &[i64::MIN, 1, i64::MAX][..]));
     assert!(made.all_names().unwrap().iter().eq(["a", "", "c"]));
-    let edges = [Arc { v: 1, tip: 0, length: 5 }, Arc { v: 1, tip: 2, length: 1 }, Arc { v: 1, tip: 1, length: 7 }];
+    let edges = [(1, 0, 5), (1, 2, 1), (1, 1, 7), (2, 2, 3)].map(|(v, tip, length)| Arc { v, tip, length });
     let own = Graph::from_edges(3, &edges, false, "own").unwrap();
     assert_eq!((own.tips_of(1), own.lengths_of(1)), (Ok(vec![0, 2, 1, 1]), Ok(vec![5, 1, 7, 7])));
     let arcs = Graph::from_edges(3, &edges, true, "own").unwrap();
-    assert_eq!((arcs.tips_of(1), arcs.tips_of(0)), (Ok(vec![0, 2, 1]), Ok(vec![])));
+    assert_eq!((arcs.tips_of(0), arcs.tips_of(1), arcs.tips_of(2)), (Ok(vec![]), Ok(vec![0, 2, 1]), Ok(vec![2])));
     let refused = |ends: &[u32], name: &str, id: &str| Graph::make(&[name], ends, &[0], &[1], false, id).err();
     assert_eq!(refused(&[1], "a", "x"), Some(Error::Code(106)));
     assert_eq!(refused(&[0], "\"", "x"), Some(Error::Code(107)));
