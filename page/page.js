@@ -297,7 +297,9 @@ async function giveSecond(file) {
 }
 
 at("forms").append(...FORMS.map(([value, label]) => Object.assign(document.createElement("option"), { value, label })));
-at("operation").append(...OPERATIONS.map(([value, label]) => Object.assign(document.createElement("option"), { value, textContent: label })));
+at("operation").append(...OPERATIONS.map(([value, textContent]) => {
+  return Object.assign(document.createElement("option"), { value, textContent });
+}));
 for (const id of ["operation", "multi", "directed"]) {
   at(id).onchange = () => makeAnew(at("text").value);
 }

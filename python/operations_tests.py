@@ -104,7 +104,8 @@ class Operations(unittest.TestCase):
             self.assertEqual(why.exception.code, code)
         for call in (
             lambda: sgb.gunion(few, "complete(3)"), lambda: sgb.intersection(None, few), lambda: sgb.induced(few, [1, 1.5, 1]),
-            lambda: sgb.induced(few, ["1"] * 3), lambda: sgb.induced("complete(3)", [1]), lambda: sgb.wheel(2.0), lambda: sgb.product(few, few, 1.5),
+            lambda: sgb.induced(few, ["1"] * 3), lambda: sgb.induced("complete(3)", [1]), lambda: sgb.wheel(2.0),
+            lambda: sgb.product(few, few, 1.5),
         ):
             with self.assertRaises(TypeError):
                 call()
@@ -116,7 +117,8 @@ class Operations(unittest.TestCase):
         graph, other = sgb.graph("petersen()"), sgb.graph("complete(3)")
         graph.close()
         for call in (
-            graph.lines, graph.complement, lambda: sgb.gunion(graph, other), lambda: sgb.product(other, graph), lambda: sgb.induced(graph, [1] * 10),
+            graph.lines, graph.complement, lambda: sgb.gunion(graph, other), lambda: sgb.product(other, graph),
+            lambda: sgb.induced(graph, [1] * 10),
             lambda: sgb.intersection(graph, graph), lambda: sgb.induced(other, [1, 1, graph]), lambda: sgb.wheel_around(graph, 3),
         ):
             with self.assertRaisesRegex(ValueError, "closed"):

@@ -72,7 +72,8 @@ class Plain:
         for links in self.lists:
             following.update(zip([number for number, *_ in links], [number for number, *_ in links[1:]]))
         records = self.records()
-        lines = [f"* GraphBase graph (util_types {'Z' * 14},{self.n}V,{len(records)}A)", f'"{self.id}",{self.n},{len(records)}', "* Vertices"]
+        lines = [f"* GraphBase graph (util_types {'Z' * 14},{self.n}V,{len(records)}A)"]
+        lines += [f'"{self.id}",{self.n},{len(records)}', "* Vertices"]
         lines += [f'"{name}",{arc(links[0][0] if links else None)}' for name, links in zip(self.names, self.lists)]
         lines.append("* Arcs")
         lines += [f"V{tip},{arc(following.get(number))},{length}" for number, (_, tip, length) in enumerate(records)]

@@ -5,8 +5,8 @@
 
 Fifty graphs of networkx, directed ones among them, come in by `from_networkx`; each operation has to have the edges that
 networkx finds, between the very vertices: line_graph, complement, cartesian_product, tensor_product, strong_product, subgraph,
-compose and intersection. The last line counts the graphs that were compared. Without libsgb.so, which `make lib` leaves, or without networkx, a
-line says so.
+compose and intersection. The last line counts the graphs that were compared. Without libsgb.so, which `make lib` leaves, or
+without networkx, a line says so.
 """
 
 import os

@@ -109,7 +109,8 @@ def bi_complete(n1: SupportsIndex, n2: SupportsIndex, directed: bool = False) ->
     GraphError
         With code 30, where a number is below 0; with 40, where there are more than 10^9 vertices.
     """
-    return Graph._of(_library.Held("sgb_bi_complete", integer(n1, "a number of vertices"), integer(n2, "a number of vertices"), bool(directed)))
+    sizes = [integer(size, "a number of vertices") for size in (n1, n2)]
+    return Graph._of(_library.Held("sgb_bi_complete", *sizes, bool(directed)))
 
 
 def wheel(n: SupportsIndex, n1: SupportsIndex = 1, directed: bool = False) -> Graph:
@@ -120,7 +121,8 @@ def wheel(n: SupportsIndex, n1: SupportsIndex = 1, directed: bool = False) -> Gr
     GraphError
         With code 30, where n1 is below 0; with 40, where there are more than 10^9 vertices.
     """
-    return Graph._of(_library.Held("sgb_wheel", integer(n, "a number of vertices"), integer(n1, "a number of vertices"), bool(directed)))
+    sizes = [integer(size, "a number of vertices") for size in (n, n1)]
+    return Graph._of(_library.Held("sgb_wheel", *sizes, bool(directed)))
 
 
 def wheel_around(middle: Graph, n: SupportsIndex, directed: bool = False) -> Graph:

@@ -13,7 +13,11 @@ from typing import Any, Iterable, Optional
 
 from . import _files, _library
 
-numpy = _library.numpy
+try:
+    import numpy
+except ImportError:
+    numpy = None  # type: ignore[assignment]
+
 # the bits of what numpy has for the types of `array`
 DTYPES = {"I": "uint32", "q": "int64", "Q": "uint64"}
 
@@ -52,6 +56,21 @@ def ends(values: Any, n: int) -> Any:
     if least < 0 or greatest >= n:
         raise ValueError(f"there are {n} vertices, and there is an arc of vertex {least if least < 0 else greatest}")
     return packed("I", values)
+
+
+def falls(places: Any) -> bool:
+    """Whether a list would end before it begins."""
+    if is_array(places):
+        return bool((places[1:] < places[:-1]).any())
+    return any(a > b for a, b in zip(places, places[1:]))
+
+
+def tails_of(places: Any) -> Any:
+    """Of each arc the vertex on whose list it is."""
+    if is_array(places):
+        sizes = (places[1:] - places[:-1]).astype("int64")
+        return numpy.repeat(numpy.arange(len(sizes), dtype="uint32"), sizes)
+    return [v for v, (a, b) in enumerate(zip(places, places[1:])) for _ in range(a, b)]
 
 
 def lengths(values: Any, many: int) -> Any:
@@ -95,8 +114,8 @@ class Events:
 
     def turned(self) -> Events:
         """The same in the other order."""
-        columns = (packed(code, column[::-1]) for code, column in zip("IIq", (self.tails, self.tips, self.lengths)))
-        return Events(self.n, *columns, self.directed)
+        tails, tips, sizes = (packed(code, column[::-1]) for code, column in zip("IIq", (self.tails, self.tips, self.lengths)))
+        return Events(self.n, tails, tips, sizes, self.directed)
 
     def ordered(self) -> tuple[Any, Any]:
         """Of each the two ends, of an edge the smaller one first."""

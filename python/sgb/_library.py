@@ -253,7 +253,8 @@ def made_of(operands: Sequence[Held], name: str, *words: Any) -> Held:
             stack.enter_context(operand._lock)
         if not all(operand.is_open for operand in operands):
             raise ValueError("the graph is closed")
-        return Held(name, *(operand._handle for operand in operands), *words)
+        made = Held(name, *(operand._handle for operand in operands), *words)
+    return made
 
 
 class Entries:

@@ -198,27 +198,12 @@ def from_csr(starts: Sequence[Any], tips: Sequence[Any], lengths: Optional[Seque
     """
     places = _events.integers(starts)
     ends = tips if _events.is_array(tips) else list(tips)
-    if not len(places) or places[0] != 0 or places[-1] != len(ends) or _falls(places):
+    if not len(places) or places[0] != 0 or places[-1] != len(ends) or _events.falls(places):
         raise ValueError(f"starts go from 0 up to the number of tips, which is {len(ends)}")
     n = _events.count(len(places) - 1)
     if lengths is not None and len(lengths) != len(ends):
         raise ValueError(f"there are {len(lengths)} lengths, and {len(ends)} tips")
-    return _given(names, _columns([_tails(places), ends, lengths], n, names, True), id)
-
-
-def _falls(places: Any) -> bool:
-    """Whether a list would end before it begins."""
-    if _events.is_array(places):
-        return bool((places[1:] < places[:-1]).any())
-    return any(a > b for a, b in zip(places, places[1:]))
-
-
-def _tails(places: Any) -> Any:
-    """Of each arc the vertex on whose list it is."""
-    if _events.is_array(places):
-        sizes = (places[1:] - places[:-1]).astype("int64")
-        return _events.numpy.repeat(_events.numpy.arange(len(sizes), dtype="uint32"), sizes)
-    return [v for v, (a, b) in enumerate(zip(places, places[1:])) for _ in range(a, b)]
+    return _given(names, _columns([_events.tails_of(places), ends, lengths], n, names, True), id)
 
 
 def from_networkx(graph: networkx.Graph, weight: str = "weight", id: Optional[str] = None) -> Graph:  # noqa: A002
