@@ -151,6 +151,36 @@ static void making(void) {
     sgb_close(&graph);
 }
 
+/* What is told before memory is taken: handles that are open or not, and what is wrong with the arrays of sgb_make. */
+static void without_memory(void) {
+    sgb_graph is_open = SGB_NO_GRAPH, none = SGB_NO_GRAPH;
+    sgb_entries list = SGB_NO_ENTRIES;
+    must(sgb_open("petersen()", 10, "", 0, &is_open), SGB_OK, "sgb_open");
+    must(sgb_open("circuit(3)", 10, "", 0, &graph), SGB_OK, "sgb_open");
+    count_from(1, SIZE_MAX);
+    must(sgb_lines(&is_open, false, &graph), SGB_ALREADY_OPEN, "sgb_lines without memory");
+    must(sgb_gunion(&is_open, &none, false, false, &graph), SGB_ALREADY_OPEN, "sgb_gunion without memory");
+    must(sgb_wheel_around(&none, 3, false, &graph), SGB_ALREADY_OPEN, "sgb_wheel_around without memory");
+    sgb_close(&graph);
+    must(sgb_gunion(&is_open, &none, false, false, &graph), SGB_NOT_OPEN, "sgb_gunion without memory");
+    must(sgb_gunion(&none, &is_open, false, false, &graph), SGB_NOT_OPEN, "sgb_gunion without memory");
+    must(sgb_induced(&none, NULL, 0, false, false, false, &graph), SGB_NOT_OPEN, "sgb_induced without memory");
+    must(sgb_entries_graph(&list, &none), SGB_NOT_OPEN, "sgb_entries_graph without memory");
+    must(sgb_bi_complete(-1, 1, false, &graph), SGB_BAD_SPECS, "sgb_bi_complete without memory");
+    must(sgb_wheel(3, -1, false, &graph), SGB_BAD_SPECS, "sgb_wheel without memory");
+    lens[2] = 1;
+    must_make(SGB_WRONG_LENGTH, "sgb_make without memory");
+    lens[2] = 2, from_of[1] = 3;
+    must_make(SGB_NO_VERTEX, "sgb_make without memory");
+    from_of[1] = 2, names_of[1] = '"';
+    must_make(SGB_NO_TEXT, "sgb_make without memory");
+    names_of[1] = ' ';
+    if (asked != 0) fail("memory is asked for by what is refused");
+    must_make(SGB_NO_ROOM, "sgb_make without memory");
+    counting = 0;
+    sgb_close(&is_open);
+}
+
 /* More vertices than a graph may have, each with an empty name: told before an end that is no vertex, and an id that is no text. It
  * reads 8 GB of addresses behind which is one page of zeros; where these are not to be had, it says so. */
 static void too_many(void) {

@@ -309,6 +309,7 @@ int main(int words_len, char **words) {
         each(words[2], run);
     } else if (words_len == 3 && strcmp(words[1], "refuse") == 0) {
         each(words[2], refuse);
+        without_memory();
         printf("right %zu\n", refusals_of_all);
     } else if (words_len == 4 && strcmp(words[1], "leaks") == 0) {
         rounds_of_leaks = strtol(words[2], NULL, 10);
