@@ -3,6 +3,7 @@
 //
 //     sgb::graph g("petersen()");
 //     for (auto [from, tip, length] : g.rows().arcs()) ...
+//     sgb::graph lines = g.lines(), both = sgb::gunion(g, lines);
 #ifndef SGB_HPP
 #define SGB_HPP
 
@@ -14,6 +15,7 @@
 #include <compare>
 #include <cstddef>
 #include <cstdint>
+#include <initializer_list>
 #include <iterator>
 #include <memory>
 #include <new>
@@ -21,6 +23,7 @@
 #include <stdexcept>
 #include <string>
 #include <string_view>
+#include <type_traits>
 #include <utility>
 #include <vector>
 
@@ -245,6 +248,10 @@ private:
 };
 
 class chunk_list;
+class entry;
+
+// the products of GB_BASIC: a step in one of two graphs, in both, in one or both
+enum class product_kind : std::int64_t { cartesian = 0, direct = 1, strong = 2 };
 
 // A graph that is open. It may be moved, and is not copied. It is used by one call at a time; what its calls return is
 // the caller's, stays when it is closed, and may be read by many.
@@ -253,14 +260,15 @@ class chunk_list;
 // `count` are those of sgb.h. Without them a call is of all vertices.
 class graph {
 public:
-    explicit graph(std::string_view text, std::string_view input = "") : handle_(new sgb_graph SGB_NO_GRAPH) {
-        must(sgb_open(detail::address(text), text.size(), detail::address(input), input.size(), handle_.get()));
-        sgb_graph_sizes sizes;
-        must(sgb_sizes(handle_.get(), &sizes));
-        n_ = static_cast<std::uint32_t>(sizes.vertices);
-        id_.resize(sizes.id);
-        must(sgb_id(handle_.get(), id_.data(), id_.size()));
-    }
+    explicit graph(std::string_view text, std::string_view input = "")
+        : graph([&](sgb_graph *made) {
+              return sgb_open(detail::address(text), text.size(), detail::address(input), input.size(), made);
+          }) {}
+
+    // The graph that GraphBase makes of these arcs, or edges, one after another: each leads the lists of its ends, so that the
+    // list of a vertex has its arcs in the other order. Vertices have these names. The answers of sgb_make are thrown.
+    static graph make(std::span<const std::string> names, std::span<const std::uint32_t> from, std::span<const std::uint32_t> to,
+                      std::span<const std::int64_t> lengths, bool directed, std::string_view id);
 
     // gives back what the library holds: n() and id() stay, and all other calls throw SGB_NOT_OPEN
     void close() { handle_.reset(); }
@@ -324,6 +332,15 @@ public:
         return letters;
     }
 
+    // Operations of GB_BASIC: a graph of its own, made of this one, which stays open and as it is. Those on two graphs stand
+    // below. error 60 where `lines` of edges is wanted and arcs are none; 40 where the result has too many vertices.
+    graph complement(bool copy = false, bool self_loops = false, bool directed = false) const {
+        return graph([&](sgb_graph *made) { return sgb_complement(held(), copy, self_loops, directed, made); });
+    }
+    graph lines(bool directed = false) const {
+        return graph([&](sgb_graph *made) { return sgb_lines(held(), directed, made); });
+    }
+
     // the `.gb` file of the graph
     std::string file() {
         std::uint64_t size = 0;
@@ -334,6 +351,27 @@ public:
     }
 
 private:
+    friend class entry;
+    friend graph gunion(const graph &first, const graph &second, bool multi, bool directed);
+    friend graph intersection(const graph &first, const graph &second, bool multi, bool directed);
+    friend graph product(const graph &first, const graph &second, product_kind kind, bool directed);
+    friend graph induced(const graph &of, std::span<const entry> entries, bool self_loops, bool multi, bool directed);
+    friend graph bi_complete(std::int64_t n1, std::int64_t n2, bool directed);
+    friend graph wheel(std::int64_t n, std::int64_t n1, bool directed);
+    friend graph wheel_around(const graph &middle, std::int64_t n, bool directed);
+
+    // the graph that a call makes in the handle
+    template <class F>
+        requires std::is_invocable_r_v<std::uint64_t, F, sgb_graph *>
+    explicit graph(F call) : handle_(new sgb_graph SGB_NO_GRAPH) {
+        must(call(handle_.get()));
+        sgb_graph_sizes sizes;
+        must(sgb_sizes(handle_.get(), &sizes));
+        n_ = static_cast<std::uint32_t>(sizes.vertices);
+        id_.resize(sizes.id);
+        must(sgb_id(handle_.get(), id_.data(), id_.size()));
+    }
+
     struct closer {
         void operator()(sgb_graph *graph) const {
             sgb_close(graph);
@@ -399,6 +437,93 @@ private:
 
 inline chunk_list graph::chunks(std::uint32_t size) { return {this, size}; }
 
+inline graph graph::make(std::span<const std::string> names, std::span<const std::uint32_t> from, std::span<const std::uint32_t> to,
+                         std::span<const std::int64_t> lengths, bool directed, std::string_view id) {
+    std::vector<std::uint64_t> starts = {0};
+    std::string bytes;
+    for (const std::string &name : names) {
+        bytes += name;
+        starts.push_back(bytes.size());
+    }
+    // a span of nothing may have no address
+    static constexpr std::uint32_t no_end = 0;
+    static constexpr std::int64_t no_length = 0;
+    return graph([&](sgb_graph *made) {
+        return sgb_make(starts.data(), starts.size(), bytes.data(), bytes.size(), from.empty() ? &no_end : from.data(), from.size(),
+                        to.empty() ? &no_end : to.data(), to.size(), lengths.empty() ? &no_length : lengths.data(), lengths.size(),
+                        directed, detail::address(id), id.size(), made);
+    });
+}
+
+// Operations on two graphs, which stay open and as they are; one graph may be both. Vertices are the same where their numbers
+// are; an edge is told by the arc from its smaller end.
+//
+// The vertices of the first with the arcs of both; parallel ones are one of the least length, unless `multi`.
+inline graph gunion(const graph &first, const graph &second, bool multi = false, bool directed = false) {
+    return graph([&](sgb_graph *made) { return sgb_gunion(first.held(), second.held(), multi, directed, made); });
+}
+
+// The vertices of the first with the arcs that both have; of parallel ones there is one, unless `multi`.
+inline graph intersection(const graph &first, const graph &second, bool multi = false, bool directed = false) {
+    return graph([&](sgb_graph *made) { return sgb_intersection(first.held(), second.held(), multi, directed, made); });
+}
+
+// The pairs of their vertices: u and v are vertex u * second.n() + v.
+inline graph product(const graph &first, const graph &second, product_kind kind = product_kind::cartesian, bool directed = false) {
+    return graph([&](sgb_graph *made) {
+        return sgb_product(first.held(), second.held(), static_cast<std::int64_t>(kind), directed, made);
+    });
+}
+
+// The same by the name of the product: "cartesian", "direct" or "strong"; std::invalid_argument where it is none of these.
+inline graph product(const graph &first, const graph &second, std::string_view kind, bool directed = false) {
+    if (kind == "cartesian") return product(first, second, product_kind::cartesian, directed);
+    if (kind == "direct") return product(first, second, product_kind::direct, directed);
+    if (kind == "strong") return product(first, second, product_kind::strong, directed);
+    throw std::invalid_argument("sgb: no product: " + std::string(kind));
+}
+
+// What comes in the place of a vertex: 0 drops it, 1 keeps it, a greater number makes so many of it, one below 0 merges it with
+// all others of that number; a graph that is open comes with its arcs.
+class entry {
+public:
+    entry(std::int64_t number) : entry_{number, nullptr} {}
+    entry(const graph &of) : entry_{0, of.held()} {}
+
+private:
+    friend graph induced(const graph &of, std::span<const entry> entries, bool self_loops, bool multi, bool directed);
+    sgb_entry entry_;
+};
+
+// The graph with an entry in the place of each vertex; error 30 where there is not one for each.
+inline graph induced(const graph &of, std::span<const entry> entries, bool self_loops = false, bool multi = false,
+                     bool directed = false) {
+    std::vector<sgb_entry> all;
+    for (const entry &one : entries) all.push_back(one.entry_);
+    // one place more than is handed over, so that there is always an address
+    all.push_back({0, nullptr});
+    return graph([&](sgb_graph *made) {
+        return sgb_induced(of.held(), all.data(), all.size() - 1, self_loops, multi, directed, made);
+    });
+}
+inline graph induced(const graph &of, std::initializer_list<entry> entries, bool self_loops = false, bool multi = false,
+                     bool directed = false) {
+    return induced(of, std::span<const entry>(entries.begin(), entries.size()), self_loops, multi, directed);
+}
+
+// n1 vertices, each joined to each of n2 others; error 30 where a number is below 0, 40 where there are too many
+inline graph bi_complete(std::int64_t n1, std::int64_t n2, bool directed = false) {
+    return graph([&](sgb_graph *made) { return sgb_bi_complete(n1, n2, directed, made); });
+}
+
+// n1 vertices in the middle, each joined to each of n in a circle; a graph in the middle
+inline graph wheel(std::int64_t n, std::int64_t n1 = 1, bool directed = false) {
+    return graph([&](sgb_graph *made) { return sgb_wheel(n, n1, directed, made); });
+}
+inline graph wheel_around(const graph &middle, std::int64_t n, bool directed = false) {
+    return graph([&](sgb_graph *made) { return sgb_wheel_around(middle.held(), n, directed, made); });
+}
+
 // An edge or an arc of a graph of one's own.
 struct edge {
     std::uint32_t from, to;
@@ -407,13 +532,32 @@ struct edge {
 
 namespace detail {
 
-// a string of a `.gb` file
-inline std::string quoted(std::string_view text, std::size_t most) {
+// a text that a graph may have
+inline void must_be_text(std::string_view text, std::size_t most) {
     for (const char c : text)
         if (c < 32 || c > 126 || c == '"' || c == '\\') throw std::invalid_argument("sgb: no text of a graph: " + std::string(text));
     if (text.size() > most) throw std::invalid_argument("sgb: a text of more than " + std::to_string(most) + " bytes");
-    return '"' + std::string(text) + '"';
 }
+
+// that there is a graph of so many vertices with these edges, names and id
+inline void must_be_graph(std::uint32_t n, std::span<const edge> edges, std::span<const std::string> names, std::string_view id) {
+    if (n > 1'000'000'000) throw std::invalid_argument("sgb: more than 1000000000 vertices");
+    if (!names.empty() && names.size() != n) throw std::invalid_argument("sgb: not a name for each vertex");
+    for (const auto &[from, to, length] : edges)
+        if (from >= n || to >= n) throw std::invalid_argument("sgb: an end is no vertex: " + std::to_string(from >= n ? from : to));
+    for (const std::string &name : names) must_be_text(name, 4095);
+    must_be_text(id, 160);
+}
+
+// the numbers of so many vertices as names
+inline std::vector<std::string> numbers(std::uint32_t n) {
+    std::vector<std::string> names;
+    for (std::uint32_t v = 0; v < n; v++) names.push_back(std::to_string(v));
+    return names;
+}
+
+// a string of a `.gb` file
+inline std::string quoted(std::string_view text) { return '"' + std::string(text) + '"'; }
 
 } // namespace detail
 
@@ -429,8 +573,7 @@ inline std::string file_of_edges(std::uint32_t n, std::span<const edge> edges, b
         std::int64_t length;
     };
     const std::uint64_t none = UINT64_MAX;
-    if (n > 1'000'000'000) throw std::invalid_argument("sgb: more than 1000000000 vertices");
-    if (!names.empty() && names.size() != n) throw std::invalid_argument("sgb: not a name for each vertex");
+    detail::must_be_graph(n, edges, names, id);
     std::vector<std::uint64_t> firsts(n, none), lasts(n, none);
     std::vector<record> records;
     // puts a record at the end of a vertex's list
@@ -440,7 +583,6 @@ inline std::string file_of_edges(std::uint32_t n, std::span<const edge> edges, b
         records.push_back({tip, none, length});
     };
     for (const auto &[from, to, length] : edges) {
-        if (from >= n || to >= n) throw std::invalid_argument("sgb: an end is no vertex: " + std::to_string(from >= n ? from : to));
         // of an edge the lower record is at the smaller end
         const std::uint32_t low = !directed && to < from ? to : from, high = !directed && to < from ? from : to;
         put(low, high, length);
@@ -448,19 +590,28 @@ inline std::string file_of_edges(std::uint32_t n, std::span<const edge> edges, b
     }
     const auto arc = [&](std::uint64_t k) { return k == none ? std::string("0") : "A" + std::to_string(k); };
     std::string file = "* GraphBase graph (util_types ZZZZZZZZZZZZZZ," + std::to_string(n) + "V," + std::to_string(records.size()) + "A)\n";
-    file += detail::quoted(id, 160) + "," + std::to_string(n) + "," + std::to_string(records.size()) + "\n* Vertices\n";
+    file += detail::quoted(id) + "," + std::to_string(n) + "," + std::to_string(records.size()) + "\n* Vertices\n";
     for (std::uint32_t v = 0; v < n; v++)
-        file += detail::quoted(names.empty() ? std::to_string(v) : names[v], 4095) + "," + arc(firsts[v]) + "\n";
+        file += detail::quoted(names.empty() ? std::to_string(v) : names[v]) + "," + arc(firsts[v]) + "\n";
     file += "* Arcs\n";
     for (const record &one : records)
         file += "V" + std::to_string(one.tip) + "," + arc(one.next) + "," + std::to_string(one.length) + "\n";
     return file + "* Checksum -1\n";
 }
 
-// that graph, open
+// That graph, open, with the same lists; it is handed to sgb_make, and no file is written.
 inline graph from_edges(std::uint32_t n, std::span<const edge> edges, bool directed = false, std::span<const std::string> names = {},
                         std::string_view id = "edges") {
-    return graph("stdin", file_of_edges(n, edges, directed, names, id));
+    detail::must_be_graph(n, edges, names, id);
+    std::vector<std::uint32_t> from, to;
+    std::vector<std::int64_t> lengths;
+    // of each list the last event comes first
+    for (std::size_t k = edges.size(); k > 0; k--) {
+        from.push_back(edges[k - 1].from);
+        to.push_back(edges[k - 1].to);
+        lengths.push_back(edges[k - 1].length);
+    }
+    return graph::make(names.empty() ? detail::numbers(n) : std::vector(names.begin(), names.end()), from, to, lengths, directed, id);
 }
 
 // so many draws of GB_FLIP from a generator that is started from `start`, after `skip` that are left out

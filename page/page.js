@@ -20,6 +20,11 @@ const FORMS = [
   ["induced(complete(3),[1,2,1],0,0,0)", "graph, weights or graphs, flags"],
   ["bi_complete(3,4,0)", "n1, n2, directed"], ["wheel(6,1,0)", "n, n1, directed"], ["stdin", "a .gb file"],
 ];
+// what is made of two graphs: a call of the package, with the kind of a product
+const OPERATIONS = [
+  ["gunion", "union"], ["intersection", "intersection"], ["product cartesian", "cartesian product"],
+  ["product direct", "direct product"], ["product strong", "strong product"], ["", "nothing: the graph above alone"],
+];
 const COUNT = 100;
 const DRAWN = { vertices: 3000, arcs: 60_000 };
 const SIDE = 1000;
@@ -31,6 +36,7 @@ let waiting = new Map();
 let ticket = 0;
 let begun = 0;
 let input = new ArrayBuffer(0);
+let second = null;
 let head = null;
 let picture = null;
 let chosen = null;
@@ -84,7 +90,7 @@ function tell({ name, message, byte, code }) {
     const said = place < text.length ? "here" : "more is wanted here";
     mark = `\n${text.slice(from, place + 40)}\n${" ".repeat(place - from)}^ ${said}`;
   }
-  const isWithoutFile = code === 10 && input.byteLength === 0;
+  const isWithoutFile = code === 10 && input.byteLength === 0 && text.includes("stdin");
   at("fault").textContent = isWithoutFile ? "stdin is a .gb file: drop one on this page, or choose it" : message + mark;
   at("fault").hidden = false;
 }
@@ -100,7 +106,7 @@ async function make() {
   at("fault").hidden = true;
   at("answer").hidden = true;
   await busily("Making the graph ..", async () => {
-    head = await ask("open", { text, input });
+    head = await ask("open", { text, input, pair: pairOf() });
     at("id").textContent = head.id;
     at("counts").textContent = `${head.n} vertices and ${head.m} arcs`;
     for (const id of ["take-list", "take-file"]) {
@@ -110,6 +116,12 @@ async function make() {
     await draw();
     await turn(first);
   });
+}
+
+// What is to be made with the second file, if there is one.
+function pairOf() {
+  const [name, kind] = at("operation").value.split(" ");
+  return second && name ? { second, name, kind, multi: at("multi").checked, directed: at("directed").checked } : null;
 }
 
 // The lists from a vertex on.
@@ -264,13 +276,33 @@ function makeAnew(text) {
   make();
 }
 
-async function giveFile(file) {
+async function giveFile(file, other) {
   input = await file.arrayBuffer();
   at("given").textContent = `${file.name}, ${input.byteLength} bytes`;
+  if (other) {
+    await keepSecond(other);
+  }
   makeAnew(at("text").value.includes("stdin") ? at("text").value : "stdin");
 }
 
+async function keepSecond(file) {
+  second = await file.arrayBuffer();
+  at("given-second").textContent = `${file.name}, ${second.byteLength} bytes`;
+  at("pair").hidden = false;
+}
+
+async function giveSecond(file) {
+  await keepSecond(file);
+  makeAnew(at("text").value);
+}
+
 at("forms").append(...FORMS.map(([value, label]) => Object.assign(document.createElement("option"), { value, label })));
+at("operation").append(...OPERATIONS.map(([value, textContent]) => {
+  return Object.assign(document.createElement("option"), { value, textContent });
+}));
+for (const id of ["operation", "multi", "directed"]) {
+  at(id).onchange = () => makeAnew(at("text").value);
+}
 at("examples").append(...EXAMPLES.map((text) => {
   const button = Object.assign(document.createElement("button"), { type: "button", textContent: text });
   button.onclick = () => makeAnew(text);
@@ -313,11 +345,12 @@ at("drawing").onkeydown = (event) => {
   }
 };
 at("file").onchange = () => at("file").files[0] && giveFile(at("file").files[0]);
+at("second").onchange = () => at("second").files[0] && giveSecond(at("second").files[0]);
 document.ondragover = (event) => event.preventDefault();
 document.ondrop = (event) => {
   event.preventDefault();
   if (event.dataTransfer.files[0]) {
-    giveFile(event.dataTransfer.files[0]);
+    giveFile(event.dataTransfer.files[0], event.dataTransfer.files[1]);
   }
 };
 window.onpopstate = follow;

@@ -56,6 +56,19 @@ V1,0,7
 V0,0,-3
 * Checksum -1
 """
+OTHER = FILE.replace(b'"two"', b'"other"').replace(b"0,7", b"0,4").replace(b"0,-3", b"0,9")
+# what is made of both: the operation, whether multi and directed, the id and the lists
+PAIRS = [
+    ("gunion", 0, 0, "gunion(two,other,0,0)", ["left\n  -> right, length 4", "right\n  -> left, length 4"]),
+    ("gunion", 1, 0, "gunion(two,other,1,0)",
+     ["left\n  -> right, length 4\n  -> right, length 7", "right\n  -> left, length 4\n  -> left, length 7"]),
+    ("gunion", 0, 1, "gunion(two,other,0,1)", ["left\n  -> right, length 4", "right\n  -> left, length -3"]),
+    ("intersection", 0, 1, "intersection(two,other,0,1)", ["left\n  -> right, length 7", "right\n  -> left, length 9"]),
+    ("product direct", 0, 1, "product(two,other,1,1)",
+     ["left,left\n  -> right,right, length 4", "left,right\n  -> right,left, length 7", "right,left\n  -> left,right, length -3",
+      "right,right\n  -> left,left, length -3"]),
+    ("", 0, 0, "two", ["left\n  -> right, length 7", "right\n  -> left, length -3"]),
+]
 # the first list of Petersen's graph
 FIRST = "0.0.0.1.1\n  -> 1.1.0.0.0, length 1\n  -> 1.0.1.0.0, length 1\n  -> 0.1.1.0.0, length 1"
 # what runs in the browser: of each expression the digests of its listing and its file, or the code of its refusal
@@ -95,6 +108,15 @@ DROP = """
 const data = new DataTransfer();
 data.items.add(new File([arguments[0]], "two.gb"));
 document.body.dispatchEvent(new DragEvent("drop", { dataTransfer: data, bubbles: true, cancelable: true }));
+"""
+DROP_TWO = DROP.replace('"two.gb"));', '"two.gb"));\ndata.items.add(new File([arguments[1]], "other.gb"));')
+CHOOSE = """
+const [operation, multi, directed] = arguments;
+document.getElementById("multi").checked = multi;
+document.getElementById("directed").checked = directed;
+const chosen = document.getElementById("operation");
+chosen.value = operation;
+chosen.dispatchEvent(new Event("change"));
 """
 LONG = "complement(board(300,300,0,0,1,0,0),0,0,0)"
 WANTED = {"chromium": "chromium", "chromedriver": "chromium-driver"}
@@ -239,6 +261,34 @@ def files(page, tally):
     tally.same((page.at("text").get_attribute("value"), page.at("id").text), ("stdin", "two"), "a file that is dropped")
 
 
+def pairs(page, tally):
+    page.open()
+    tally.same(page.at("pair").is_displayed(), False, "operations without a second file")
+    page.browser.execute_script(DROP_TWO, FILE.decode(), OTHER.decode())
+    page.until(lambda: page.at("id").text.startswith("gunion") and page.is_quiet())
+    for operation, multi, directed, title, lists in PAIRS:
+        page.browser.execute_script(CHOOSE, operation, bool(multi), bool(directed))
+        page.until(page.is_quiet)
+        tally.same((page.at("id").text, page.lists()), (title, lists), f"two files: {operation} {multi} {directed}")
+    # the first operand is the graph of the expression
+    page.browser.execute_script(CHOOSE, "gunion", False, False)
+    page.make("complete(3)")
+    tally.same(page.at("id").text, "gunion(board(3,0,0,0,-1,0,0),other,0,0)", "an expression and a second file")
+    path = os.path.join(page.downloads, "second.gb")
+    with open(path, "wb") as file:
+        file.write(FILE)
+    page.open()
+    page.at("second").send_keys(path)
+    page.until(lambda: page.at("id").text.startswith("gunion") and page.is_quiet())
+    tally.same(page.at("id").text, "gunion(subsets(2,1,-4,0,0,0,0x1,0),two,0,0)", "a second file that is chosen")
+    with open(path, "wb") as file:
+        file.write(b"no file")
+    page.open()
+    page.at("second").send_keys(path)
+    page.until(lambda: page.at("fault").is_displayed())
+    tally.same(page.at("fault").text, "the head of the .gb file is wrong (code 10)", "a second file that is none")
+
+
 def links(page, tally):
     page.open("#e=wheel(5,1,0)&v=3")
     tally.same((page.at("id").text, page.at("first").get_attribute("value")), ("wheel(5,1,0)", "3"), "a link")
@@ -312,7 +362,7 @@ def main():
     if missing:
         sys.exit(f"page/test.py: these Debian packages are wanted: apt-get install {' '.join(missing)}")
     tally, is_served = Tally(), sys.argv[1].startswith("http://")
-    others = () if is_served else (conformance, expressions, great, faults, files, links, stop, drawing)
+    others = () if is_served else (conformance, expressions, great, faults, files, pairs, links, stop, drawing)
     with tempfile.TemporaryDirectory() as downloads:
         page = Page(webdriver, sys.argv[1] if is_served else served(sys.argv[1]), downloads)
         try:

@@ -39,12 +39,29 @@ function coordinatesOf(graph) {
   return fields.map((field) => Array.from(graph.ints(field), Number));
 }
 
+// The graph of the expression; with a second file what is made of both.
+function made(sgb, { text, input, pair }) {
+  const first = sgb.graph(text, input);
+  if (!pair) {
+    return first;
+  }
+  const { second, name, kind, multi, directed } = pair;
+  let other = null;
+  try {
+    other = sgb.graph("stdin", second);
+    return name === "product" ? sgb.product(first, other, kind, { directed }) : sgb[name](first, other, { multi, directed });
+  } finally {
+    other?.close();
+    first.close();
+  }
+}
+
 const answers = {
-  async open({ text, input }) {
+  async open(words) {
     const sgb = await loaded;
     shown?.graph.close();
     shown = null;
-    const graph = sgb.graph(text, input);
+    const graph = made(sgb, words);
     try {
       shown = showing(graph);
     } catch (error) {

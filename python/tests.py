@@ -12,8 +12,9 @@ from cases import PROGRAM  # noqa: F401
 from arrays_tests import Arrays, Runs  # noqa: F401
 from convert_tests import Converted  # noqa: F401
 from handles_tests import Handles, Python  # noqa: F401
+from operations_tests import Operations  # noqa: F401
 from others_tests import Others  # noqa: F401
-from ways_in_tests import Igraph, Networkx, Scipy, WaysIn  # noqa: F401
+from ways_in_tests import Igraph, Networkx, Numpy, Scipy, WaysIn  # noqa: F401
 
 if __name__ == "__main__":
     unittest.main()

@@ -2,6 +2,7 @@
 
 import random
 import unittest
+import unittest.mock
 
 import sgb
 from sgb import _files
@@ -44,10 +45,49 @@ class WaysIn(unittest.TestCase):
         self.assertEqual(graph.names(), ["x", "x"])
 
     def test_records(self):
-        """An edge is two records that follow each other, that of the smaller end first; so is a loop."""
-        text = sgb.from_edges([(1, 0), (1, 1)], id="two").save().decode()
+        """In a file an edge is two records that follow each other, that of the smaller end first; so is a loop."""
+        text = sgb.file_of_edges([(1, 0), (1, 1)], id="two").decode()
         wanted = '"two",2,4\n* Vertices\n"0",A0\n"1",A1\n* Arcs\nV1,0,1\nV0,A2,1\nV1,A3,1\nV1,0,1\n'
         self.assertEqual(text.partition("\n")[2].rpartition("* ")[0], wanted)
+
+    def test_files(self):
+        """The file of edges is that of a graph with the same lists, names and id; `save` writes it with later edges first."""
+        rng = random.Random(3)
+        for directed in (False, True):
+            for _ in range(40):
+                n = rng.randint(1, 6)
+                edges = [(rng.randrange(n), rng.randrange(n), rng.choice([1, -7, 2**40, -(2**63)])) for _ in range(rng.randint(0, 9))]
+                made = sgb.from_edges(edges, n, directed=directed)
+                read = sgb.graph("stdin", sgb.file_of_edges(edges, n, directed=directed))
+                self.assertEqual((list(read.arcs()), read.names(), read.id, read.m), (list(made.arcs()), made.names(), made.id, made.m))
+                again = sgb.graph("stdin", made)
+                self.assertEqual((list(again.arcs()), again.id, again.save()), (list(made.arcs()), made.id, made.save()))
+
+    def test_arrays(self):
+        """Arrays come as they are: each arc first on its lists. What numpy has in C's types is handed over where it is."""
+        for directed in (False, True):
+            tails, tips, lengths = [0, 2, 1, 1, 0], [1, 0, 1, 2, 1], [5, -6, 7, 2**62, 9]
+            made = sgb.from_arrays(tails, tips, lengths, n=4, directed=directed)
+            edges = list(zip(tails, tips, lengths))
+            self.assertEqual(made, sgb.from_edges(edges[::-1], n=4, directed=directed))
+            self.assertEqual(list(made.arcs()), list(sgb.from_edges(edges[::-1], n=4, directed=directed).arcs()))
+            self.assertNotEqual(made, sgb.from_edges(edges, n=4, directed=directed))
+        self.assertEqual([sgb.from_arrays([0, 0], [1, 2])[v].tolist() for v in range(3)], [[2, 1], [0], [0]])
+        self.assertEqual((sgb.from_arrays([], []).n, sgb.from_arrays([], [], [], names=["a"]).names()), (0, ["a"]))
+        for words, more in (([0], []), {}), (([0], [0], []), {}), (([0], [5]), {"n": 5}), (([0], [-1]), {}), (([0], [0], [2**63]), {}):
+            with self.subTest(words), self.assertRaises(ValueError):
+                sgb.from_arrays(*words, **more)
+        with self.assertRaises(TypeError):
+            sgb.from_arrays([0], ["a"])
+
+    def test_library_refuses(self):
+        """What the library refuses of arrays that no binding looked at is a GraphError."""
+        events = sgb._ways_in._columns([[0], [1]], 2, None, True)
+        names = sgb._events.Names(["a", "b"], 2)
+        events.n, events.tips = 2, sgb._events.packed("I", [2])
+        with self.assertRaises(sgb.GraphError) as why:
+            sgb._events.made(names, events, "x")
+        self.assertEqual(why.exception.code, 106)
 
     def test_refused(self):
         """What GraphBase cannot have is refused with a line."""
@@ -79,7 +119,8 @@ class WaysIn(unittest.TestCase):
         """Graphs of one id are the same, unless the caller says it."""
         graphs = [
             sgb.from_edges([(0, 1)]), sgb.from_edges([(0, 1)], n=3), sgb.from_edges([(0, 1, 2)]),
-            sgb.from_edges([(0, 1)], names="ab"), sgb.from_edges([(0, 1)], directed=True), sgb.from_edges([(0, 1), (1, 2)]), sgb.from_edges([(1, 2), (0, 1)]),
+            sgb.from_edges([(0, 1)], names="ab"), sgb.from_edges([(0, 1)], directed=True), sgb.from_edges([(0, 1), (1, 2)]),
+            sgb.from_edges([(1, 2), (0, 1)]),
         ]
         self.assertEqual(len(set(graphs)), len(graphs))
         self.assertEqual(graphs[0], sgb.from_edges([[0, 1, 1]]))
@@ -94,10 +135,10 @@ class WaysIn(unittest.TestCase):
             names = ["*" * size, "".join(rng.choices(bytes_of_names, k=size)), " " * size]
             graph = sgb.from_edges([(0, 1, -(2**63)), (2, 2)], names=names, id="*" * min(size, 160))
             self.assertEqual((graph.names(), graph.id), (names, "*" * min(size, 160)))
-            written = _files.gb_file(names, _arcs([(0, 1, -(2**63)), (2, 2)], 3), graph.id)
+            written = sgb.file_of_edges([(0, 1, -(2**63)), (2, 2)], names=names, id=graph.id)
             self.assertLessEqual(max(map(len, written.split(b"\n")[1:])), 79)
             # as the library lays them out
-            self.assertEqual(graph.save(), written)
+            self.assertEqual(sgb.graph("stdin", written).save(), written)
 
     def test_csr(self):
         for text in ("petersen()", "board(3,4,0,0,-1,0,0)", "transitive(6)", "circuit(1)", "empty(3)", "board(3,0,0,0,-1,1,0)"):
@@ -106,6 +147,7 @@ class WaysIn(unittest.TestCase):
             self.assertEqual(list(again.arcs()), list(graph.arcs()))
             self.assertEqual((again.names(), again.m, again), (graph.names(), graph.m, graph))
         self.assertEqual(list(sgb.from_csr([0, 1, 1], [1]).arcs()), [(0, 1, 1)])
+        self.assertEqual(list(sgb.from_csr([0, 3, 3], [1, 0, 1], [4, 5, 6]).arcs()), [(0, 1, 4), (0, 0, 5), (0, 1, 6)])
         for words in ([], []), ([1], []), ([1, 1], [0]), ([0, 2], [0]), ([0, 2, 1], [0]), ([0, 1], [0], []), ([0], [0]):
             with self.subTest(words), self.assertRaises(ValueError):
                 sgb.from_csr(*words)
@@ -124,11 +166,50 @@ class WaysIn(unittest.TestCase):
         self.assertEqual(why.exception.code, 11)
 
 
-def _arcs(edges, n):
-    arcs = _files.Arcs(n)
-    for edge in edges:
-        arcs.edge(*edge)
-    return arcs
+class Numpy(unittest.TestCase):
+    @classmethod
+    def setUpClass(cls):
+        if sgb._library.numpy is None:
+            raise unittest.SkipTest("without numpy")
+        cls.numpy = sgb._library.numpy
+
+    def test_no_copy(self):
+        """sgb_make is handed the very arrays."""
+        tails, tips = self.numpy.array([0, 1], dtype="uint32"), self.numpy.array([1, 2], dtype="uint32")
+        lengths = self.numpy.array([7, -8], dtype="int64")
+        with unittest.mock.patch.object(sgb._events._library, "Held", side_effect=sgb._library.Held) as held:
+            made = sgb.from_arrays(tails, tips, lengths)
+            other = sgb.from_arrays(tails.astype("int16"), tips[::-1], lengths)
+        wanted = [array.ctypes.data for array in (tails, tips, lengths)]
+        self.assertEqual([held.call_args_list[0].args[5 + 2 * k] for k in range(3)], wanted)
+        handed = [held.call_args_list[1].args[5 + 2 * k] for k in range(3)]
+        self.assertTrue(handed[0] != wanted[0] and handed[1] != wanted[1] and handed[2] == wanted[2])
+        self.assertEqual(list(made.arcs()), [(0, 1, 7), (1, 2, -8), (1, 0, 7), (2, 1, -8)])
+        self.assertEqual(other.n, 3)
+
+    def test_arrays_of_edges(self):
+        edges = [(3, 0, 5), (0, 1, -(2**63)), (2, 2, 1)]
+        for dtype in "int64", "int32", "uint32", "uint64", "int8":
+            width = 3 if dtype == "int64" else 2
+            array = self.numpy.array([edge[:width] for edge in edges], dtype=dtype)
+            self.assertEqual(sgb.from_edges(array), sgb.from_edges([edge[:width] for edge in edges]))
+        self.assertEqual(sgb.from_edges(self.numpy.zeros((0, 2), dtype="int64"), n=2).n, 2)
+        for array in ([[0.0, 1.0]], [[-1, 0]], [[0, 1, 2, 3]]):
+            with self.assertRaises((TypeError, ValueError)):
+                sgb.from_edges(self.numpy.array(array))
+        with self.assertRaisesRegex(ValueError, "64 bits"):
+            sgb.from_edges(self.numpy.array([[0, 1, 2**63]], dtype="uint64"))
+
+    def test_rows(self):
+        """The arrays of a graph make it again, of whatever integers they are."""
+        for text in ("petersen()", "board(3,0,0,0,-1,1,0)", "empty(3)", "simplex(3,1,1,0,0,0,0)"):
+            graph = sgb.graph(text)
+            for dtype in "int64", "uint32":
+                arrays = graph.starts.astype(dtype), graph.tips.astype(dtype), graph.lengths
+                self.assertEqual(list(sgb.from_csr(*arrays).arcs()), list(graph.arcs()))
+        for starts in ([0, 2, 1], [1, 1], [0, 3], []):
+            with self.assertRaisesRegex(ValueError, "starts go from 0 up"):
+                sgb.from_csr(self.numpy.array(starts, dtype="uint64"), self.numpy.array([0], dtype="uint32"))
 
 
 class Networkx(unittest.TestCase):

@@ -55,6 +55,10 @@ export class Rows {
   names(): string[];
 }
 
+/** What comes in the place of a vertex of `induced`: 0 drops it, 1 keeps it, a greater number makes so many of it, one below
+ * 0 merges it with all others of that number; a graph comes with its arcs, as a copy. */
+export type Entry = number | bigint | Graph;
+
 /** A graph that is open. A generator's graph is not built, and may have 10^9 vertices: what is asked for is made alone.
  * All others are built, and held as they are.
  *
@@ -104,6 +108,11 @@ export class Graph {
   /** The integers in a utility field of some vertices; those of a board are the coordinates. GraphError 102 where the
    * field holds none. */
   ints(field: Field, first?: number, count?: number): BigInt64Array;
+  /** The same vertices with the arcs that are not there; with `copy` those that are, each once and of length 1. */
+  complement(choice?: { copy?: boolean; selfLoops?: boolean; directed?: boolean }): Graph;
+  /** The line graph: a vertex for each edge, or for each arc where it is directed. GraphError 60 where edges are wanted and the
+   * arcs are none. */
+  lines(choice?: { directed?: boolean }): Graph;
   /** The bytes of the graph's .gb file. A generator's graph is built for it. */
   save(): Uint8Array;
   /** The listing, as `sgb list` writes it. */
@@ -119,6 +128,38 @@ export class Sgb {
   private constructor();
   /** The graph that an expression names. `input` is the bytes of a .gb file, for the expression `stdin`. */
   graph(text: string, input?: ArrayBuffer | ArrayBufferView): Graph;
+  /** The graph that GraphBase makes of these arcs, or edges, one after another: each leads the lists of its ends, so that a
+   * list has its arcs in the other order. `names` are those of the vertices, else they are the numbers of n; lengths are 1 if
+   * they are not said. Its expression, as that of all graphs that are made of others, is `stdin`, which its file stands for.
+   * GraphError 106 where an end is no vertex, 107 where a name or the id is no text of a graph, 101 where there are not as
+   * many of each. */
+  make(given: {
+    n?: number; names?: Iterable<string>; from: ArrayLike<number> | Iterable<number>; to: ArrayLike<number> | Iterable<number>;
+    lengths?: BigInt64Array | Iterable<number | bigint>; directed?: boolean; id?: string;
+  }): Graph;
+  /** The graph of these edges, or arcs: each list has its arcs in the order in which they are given. Without n and names there
+   * are as many vertices as the ends want. */
+  fromEdges(
+    edges: Iterable<readonly [number, number] | readonly [number, number, number | bigint]>,
+    choice?: { n?: number; names?: readonly string[]; directed?: boolean; id?: string },
+  ): Graph;
+  /** The vertices of the first graph with the arcs of both; parallel ones are one of the least length, unless `multi`. The
+   * operands stay open and as they are, and one graph may be both; so with the others. */
+  gunion(first: Graph, second: Graph, choice?: { multi?: boolean; directed?: boolean }): Graph;
+  /** The vertices of the first graph with the arcs that both have; of parallel ones there is one, unless `multi`. */
+  intersection(first: Graph, second: Graph, choice?: { multi?: boolean; directed?: boolean }): Graph;
+  /** The pairs of vertices; a step in one of the graphs, in both, or in one or both. GraphError 40 where they are too many. */
+  product(first: Graph, second: Graph, kind?: "cartesian" | "direct" | "strong", choice?: { directed?: boolean }): Graph;
+  /** The graph with an entry in the place of each vertex; GraphError 30 where there is not one for each. */
+  induced(
+    graph: Graph, entries: Iterable<Entry>, choice?: { selfLoops?: boolean; multi?: boolean; directed?: boolean },
+  ): Graph;
+  /** n1 vertices, each joined to each of n2 others. */
+  biComplete(n1: number | bigint, n2: number | bigint, choice?: { directed?: boolean }): Graph;
+  /** n1 vertices in the middle, 1 if it is not said, each joined to each of n in a circle. */
+  wheel(n: number | bigint, n1?: number | bigint, choice?: { directed?: boolean }): Graph;
+  /** The wheel with a graph in its middle. */
+  wheelAround(middle: Graph, n: number | bigint, choice?: { directed?: boolean }): Graph;
   /** The version of the calls, as "1.0.0". */
   readonly version: string;
   /** Random numbers of GB_FLIP: started from `start`, `skip` draws left out, then `count` of them, 1 if it is not said.

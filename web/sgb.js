@@ -7,6 +7,8 @@
  *     graph.n, graph.m;        // 10, 30
  *     graph.neighbors(0);      // where the arcs of vertex 0 lead
  *     graph.names()[0];        // "0.0.0.1.1"
+ *     const own = sgb.fromEdges([[0, 1], [1, 2]]);
+ *     sgb.product(graph, own.lines(), "strong").id;
  *     graph.close();
  *
  * The graphs are made by sgb.wasm, the library for C (sgb.h) in another form. This file has no dependency. Its types,
@@ -31,7 +33,11 @@ const WORDS = {
   104: "a graph is open",
   105: "no graph is open",
   106: "there are not so many vertices",
+  107: "a name or an id is no text",
+  108: "more vertices or arcs than a graph may have",
 };
+// the products by their names
+const PRODUCTS = { cartesian: 0n, direct: 1n, strong: 2n };
 
 /** Why there is no graph. */
 export class GraphError extends Error {
@@ -173,11 +179,7 @@ class Library {
       }
       return body(...places);
     } finally {
-      for (const place of places) {
-        if (!this.#stopped) {
-          this.call("sgb_give", place);
-        }
-      }
+      places.forEach((place) => this.release("sgb_give", place));
     }
   }
 
@@ -218,27 +220,45 @@ class Library {
     }
   }
 
-  open(text, input) {
+  // Arrays that lie in the module's memory while the body runs, each handed over as its place and its length.
+  handAll(arrays, body) {
+    return this.lend(arrays.map((array) => array.byteLength), (...places) => {
+      arrays.forEach((array, k) => {
+        const bytes = new Uint8Array(array.buffer, array.byteOffset, array.byteLength);
+        this.bytes(places[k], bytes.length).set(bytes);
+      });
+      return body(...places.flatMap((place, k) => [place, BigInt(arrays[k].length)]));
+    });
+  }
+
+  // A handle that a call fills, or no memory of it where that throws.
+  made(call) {
     const handle = this.take(16);
     try {
       this.bytes(handle, 16).fill(0);
-      this.hand(text, (...words) => this.hand(input, (...given) => this.must("sgb_open", ...words, ...given, handle)));
+      call(handle);
       return handle;
     } catch (error) {
-      if (!this.#stopped) {
-        this.call("sgb_give", handle);
-      }
+      this.release("sgb_give", handle);
       throw error;
     }
   }
 
   close(handle) {
+    this.release("sgb_close", handle);
+    this.release("sgb_give", handle);
+  }
+
+  // A call that gives something back, where the module can still be called.
+  release(name, place) {
     if (!this.#stopped) {
-      this.call("sgb_close", handle);
-      this.call("sgb_give", handle);
+      this.call(name, place);
     }
   }
 }
+
+// Where a graph is held, for calls of this module on it. It is set by the class.
+let handleOf;
 
 // graphs that were not closed, when nothing leads to them any more
 const forgotten = new FinalizationRegistry(({ library, handle }) => library.close(handle));
@@ -319,8 +339,23 @@ export class Graph {
   #handle;
   #kept = new Map();
 
-  constructor(library, text, input) {
-    const handle = library.open(textOf(text), inputOf(input));
+  static {
+    handleOf = (graph, library) => {
+      if (!(graph instanceof Graph)) {
+        throw new TypeError("an operand is a graph that is open");
+      }
+      if (graph.#library !== library) {
+        throw new TypeError("an operand is a graph of another module");
+      }
+      if (graph.#handle === null) {
+        throw new Error("the graph is closed");
+      }
+      return graph.#handle;
+    };
+  }
+
+  // A graph that the module holds.
+  constructor(library, text, handle) {
     try {
       const [n, idLength] = library.numbers(2, (place) => library.must("sgb_sizes", handle, place));
       const [id] = library.fill([[Uint8Array, idLength]], (...words) => library.must("sgb_id", handle, ...words));
@@ -498,6 +533,14 @@ export class Graph {
     return fetch(begin, length);
   }
 
+  complement({ copy = false, selfLoops = false, directed = false } = {}) {
+    return operated(this.#library, "sgb_complement", [this], copy, selfLoops, directed);
+  }
+
+  lines({ directed = false } = {}) {
+    return operated(this.#library, "sgb_lines", [this], directed);
+  }
+
   save() {
     if (this.#handle === null) {
       throw new Error("the graph is closed, and cannot be saved");
@@ -532,6 +575,40 @@ export class Graph {
   }
 }
 
+// The graph that a call makes of these graphs; a flag is a word of 0 or 1.
+function operated(library, name, graphs, ...words) {
+  const handles = graphs.map((graph) => handleOf(graph, library));
+  const plain = words.map((value) => (typeof value === "bigint" ? value : Number(Boolean(value))));
+  return new Graph(library, "stdin", library.made((made) => library.must(name, ...handles, ...plain, made)));
+}
+
+// An operation on two graphs: one that comes twice has a call of its own.
+function operatedOnTwo(library, name, first, second, ...words) {
+  const [graphs, end] = first === second ? [[first], "_self"] : [[first, second], "_of"];
+  return operated(library, name + end, graphs, ...words);
+}
+
+// The names of vertices as the module takes them: all one after another, and where each begins and ends.
+function packedNames(names) {
+  const encoder = new TextEncoder();
+  const all = names.map((name) => {
+    if (typeof name !== "string") {
+      throw new TypeError(`a name is a string: ${name}`);
+    }
+    return encoder.encode(name);
+  });
+  const starts = new BigUint64Array(all.length + 1);
+  all.forEach((bytes, v) => (starts[v + 1] = starts[v] + BigInt(bytes.length)));
+  const together = new Uint8Array(Number(starts[all.length]));
+  all.forEach((bytes, v) => together.set(bytes, Number(starts[v])));
+  return [starts, together];
+}
+
+// Numbers as an array of this type; one that is such an array is taken as it is.
+function column(type, values, convert) {
+  return values instanceof type ? values : type.from(values, convert);
+}
+
 /** What `load` gives: the calls of one module, with a memory of its own. */
 export class Sgb {
   #library;
@@ -541,7 +618,96 @@ export class Sgb {
   }
 
   graph(text, input = new Uint8Array()) {
-    return new Graph(this.#library, text, input);
+    const [words, given] = [textOf(text), inputOf(input)];
+    const library = this.#library;
+    return new Graph(library, text, library.made((made) => {
+      library.hand(words, (...of) => library.hand(given, (...bytes) => library.must("sgb_open", ...of, ...bytes, made)));
+    }));
+  }
+
+  make({ n, names, from, to, lengths, directed = false, id = "own" }) {
+    const called = names === undefined ? Array.from({ length: count(n ?? 0, "a number of vertices") }, (_, v) => String(v)) : [...names];
+    const ends = [from, to].map((values) => column(Uint32Array, values, (value) => count(value, "an end of an arc")));
+    const sizes = lengths === undefined
+      ? new BigInt64Array(ends[0].length).fill(1n)
+      : column(BigInt64Array, lengths, (value) => word(value, 64, "a length", true));
+    if (typeof id !== "string") {
+      throw new TypeError("an id is a string");
+    }
+    const library = this.#library;
+    const title = new TextEncoder().encode(id);
+    return new Graph(library, "stdin", library.made((made) => {
+      library.handAll([...packedNames(called), ...ends, sizes, title], (...words) => {
+        library.must("sgb_make", ...words.slice(0, 10), Number(Boolean(directed)), ...words.slice(10), made);
+      });
+    }));
+  }
+
+  fromEdges(edges, { n, names, directed = false, id = "own" } = {}) {
+    // each list has the last one that the module is handed first
+    const turned = [...edges].reverse();
+    const ends = turned.flatMap(([v, tip]) => [v, tip]);
+    const most = names?.length ?? n ?? ends.reduce((found, end) => Math.max(found, Number(end) + 1), 0);
+    const columns = { from: turned.map(([v]) => v), to: turned.map(([, tip]) => tip), lengths: turned.map(([, , length]) => length ?? 1) };
+    return this.make({ n: most, names, ...columns, directed, id });
+  }
+
+  gunion(first, second, { multi = false, directed = false } = {}) {
+    return operatedOnTwo(this.#library, "sgb_gunion", first, second, multi, directed);
+  }
+
+  intersection(first, second, { multi = false, directed = false } = {}) {
+    return operatedOnTwo(this.#library, "sgb_intersection", first, second, multi, directed);
+  }
+
+  product(first, second, kind = "cartesian", { directed = false } = {}) {
+    if (!Object.hasOwn(PRODUCTS, kind)) {
+      throw new RangeError(`no product ${kind}: one of ${Object.keys(PRODUCTS).join(", ")}`);
+    }
+    return operatedOnTwo(this.#library, "sgb_product", first, second, PRODUCTS[kind], directed);
+  }
+
+  induced(graph, entries, { selfLoops = false, multi = false, directed = false } = {}) {
+    const library = this.#library;
+    handleOf(graph, library);
+    return library.lend([16], (list) => {
+      library.bytes(list, 16).fill(0);
+      try {
+        for (const entry of entries) {
+          if (entry instanceof Graph) {
+            library.must("sgb_entries_graph", list, handleOf(entry, library));
+          } else {
+            library.must("sgb_entries_number", list, word(entry, 64, "an entry", true));
+          }
+        }
+        return operated(library, "sgb_induced_by", [graph], list, selfLoops, multi, directed);
+      } finally {
+        library.release("sgb_entries_close", list);
+      }
+    });
+  }
+
+  biComplete(n1, n2, { directed = false } = {}) {
+    const sizes = [n1, n2].map((size) => word(size, 64, "a number of vertices", true));
+    return operated(this.#library, "sgb_bi_complete", [], ...sizes, directed);
+  }
+
+  wheel(n, n1 = 1, { directed = false } = {}) {
+    const sizes = [n, n1].map((size) => word(size, 64, "a number of vertices", true));
+    return operated(this.#library, "sgb_wheel", [], ...sizes, directed);
+  }
+
+  wheelAround(middle, n, { directed = false } = {}) {
+    const [size, flag] = [word(n, 64, "a number of vertices", true), Number(Boolean(directed))];
+    handleOf(middle, this.#library);
+    const rim = this.graph(`board(${size},0,0,0,1,1,${flag})`);
+    const pair = this.graph(`board(2,0,0,0,1,0,${flag})`);
+    try {
+      return this.induced(pair, [middle, rim], { directed });
+    } finally {
+      rim.close();
+      pair.close();
+    }
   }
 
   get version() {

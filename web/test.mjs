@@ -243,6 +243,115 @@ const tests = {
     great.close();
   },
 
+  async operations() {
+    const sgb = await load();
+    const [board, ring, arcs] = ["board(3,3,0,0,1,0,0)", "circuit(4)", "transitive(3)"].map((text) => sgb.graph(text));
+    const before = digest(board.save()) + digest(ring.save()) + digest(arcs.save());
+    const like = (made, text) => {
+      const wanted = sgb.graph(text);
+      same([made.id, made.n, made.m, made.text].join(), [wanted.id, wanted.n, wanted.m, "stdin"].join(), text);
+      same(digest(made.save()) + digest(made.list()), digest(wanted.save()) + digest(wanted.list()), `${text}: listing and file`);
+      made.close();
+      wanted.close();
+    };
+    like(board.complement(), "complement(board(3,3,0,0,1,0,0),0,0,0)");
+    like(board.complement({ copy: true }), "complement(board(3,3,0,0,1,0,0),1,0,0)");
+    like(board.complement({ selfLoops: true }), "complement(board(3,3,0,0,1,0,0),0,1,0)");
+    like(board.complement({ directed: true }), "complement(board(3,3,0,0,1,0,0),0,0,1)");
+    like(board.lines(), "lines(board(3,3,0,0,1,0,0),0)");
+    like(arcs.lines({ directed: true }), "lines(transitive(3),1)");
+    like(sgb.gunion(board, ring), "gunion(board(3,3,0,0,1,0,0),circuit(4),0,0)");
+    like(sgb.gunion(ring, board, { multi: true }), "gunion(circuit(4),board(3,3,0,0,1,0,0),1,0)");
+    like(sgb.gunion(ring, ring, { multi: true, directed: true }), "gunion(circuit(4),circuit(4),1,1)");
+    like(sgb.intersection(ring, board), "intersection(circuit(4),board(3,3,0,0,1,0,0),0,0)");
+    like(sgb.intersection(ring, ring, { directed: true }), "intersection(circuit(4),circuit(4),0,1)");
+    for (const [number, kind] of ["cartesian", "direct", "strong"].entries()) {
+      like(sgb.product(ring, arcs, kind), `product(circuit(4),transitive(3),${number},0)`);
+      like(sgb.product(arcs, arcs, kind, { directed: true }), `product(transitive(3),transitive(3),${number},1)`);
+    }
+    like(sgb.product(ring, arcs), "product(circuit(4),transitive(3),0,0)");
+    like(sgb.induced(arcs, [1, 2n, ring]), "induced(transitive(3),[1,2,circuit(4)],0,0,0)");
+    like(sgb.induced(arcs, [-1, arcs, -1], { selfLoops: true, directed: true }), "induced(transitive(3),[-1,transitive(3),-1],1,0,1)");
+    like(sgb.induced(arcs, [-1, 1, -1], { multi: true }), "induced(transitive(3),[-1,1,-1],0,1,0)");
+    like(sgb.biComplete(2, 3), "bi_complete(2,3,0)");
+    like(sgb.wheel(5), "wheel(5,1,0)");
+    like(sgb.wheel(5n, 2, { directed: true }), "wheel(5,2,1)");
+    like(sgb.wheelAround(ring, 5), "induced(board(2,0,0,0,1,0,0),[circuit(4),board(5,0,0,0,1,1,0)],0,0,0)");
+    like(sgb.wheelAround(ring, 5, { directed: true }), "induced(board(2,0,0,0,1,0,1),[circuit(4),board(5,0,0,0,1,1,1)],0,0,1)");
+    same(digest(board.save()) + digest(ring.save()) + digest(arcs.save()), before, "operands after operations");
+    const many = sgb.graph("empty(40000)");
+    refused(() => arcs.lines(), 60, "lines of arcs");
+    refused(() => sgb.product(many, many), 40, "a product of too many vertices");
+    refused(() => sgb.induced(arcs, [1]), 30, "too few entries");
+    refused(() => sgb.biComplete(-1, 1), 30, "a number below 0");
+    const other = (await load()).graph("circuit(4)");
+    for (const call of [
+      () => sgb.gunion(board, "circuit(4)"), () => sgb.gunion(null, board), () => sgb.gunion(board, other), () => sgb.induced(board, [other]),
+    ]) {
+      check(thrown(call) instanceof TypeError, "an operand that is no graph of this module");
+    }
+    for (const call of [() => sgb.product(ring, ring, "tensor"), () => sgb.wheel(2n ** 63n), () => sgb.induced(arcs, [1, 0.5, 1])]) {
+      check(thrown(call) instanceof RangeError, "a kind or a number that is none");
+    }
+    for (const graph of [board, many]) {
+      graph.close();
+    }
+    for (const call of [() => board.lines(), () => sgb.gunion(ring, board), () => sgb.induced(ring, [1, 1, 1, board]), () => sgb.wheelAround(board, 3)]) {
+      check(/closed/.test(thrown(call)?.message), "an operation on a closed graph");
+    }
+    ring.close();
+    arcs.close();
+    same(sgb.memory.taken, 0, "taken after operations");
+    // memory is refused somewhere in each of them, and all is given back
+    const module = await WebAssembly.compile(await readFile(new URL("sgb.wasm", folder)));
+    let [refusals, answers] = [0, 0];
+    for (let limit = 65_536; limit < 1_000_000; limit += 65_536) {
+      const small = await load(module, { limit });
+      const [one, two] = [small.graph("board(6,6,0,0,1,0,0)"), small.graph("complete(40)")];
+      const held = small.memory.taken;
+      for (const k of [0, 1, 4, 8, 12, 16, 20]) {
+        const part = () => small.induced(two, [...Array(k).fill(1), ...Array(39 - k).fill(0), one]);
+        for (const call of [part, () => small.product(one, one, k % 2 ? "direct" : "strong"), () => small.gunion(two, two)]) {
+          const fault = thrown(() => call().close());
+          refusals += fault instanceof MemoryError;
+          answers += fault === null;
+          check(fault === null || fault instanceof MemoryError, `an operation in ${limit} bytes: threw ${fault}`);
+          same(small.memory.taken, held, `taken after an operation in ${limit} bytes`);
+        }
+      }
+    }
+    check(refusals > 10 && answers > 10, `operations were refused memory ${refusals} times, and answered ${answers} times`);
+  },
+
+  async own() {
+    const sgb = await load();
+    const made = sgb.make({ names: ["a", "", "c"], from: [0, 0, 2], to: Uint32Array.of(1, 2, 2), lengths: [1, -(2n ** 63n), 5], directed: true, id: "made" });
+    same([made.id, made.n, made.m, made.names().join("|")], ["made", 3, 3, "a||c"], "a graph that is made");
+    same(made.neighbors(0), [2, 1], "later arcs come first");
+    same(made.lengthsOf(0), [-(2n ** 63n), 1n], "their lengths");
+    same(sgb.make({ n: 2, from: [0], to: [1] }).list().split("\n").slice(4).join(), "0,  -> 1, length 1,1,  -> 0, length 1,", "an edge");
+    const own = sgb.fromEdges([[1, 0, 5], [1, 2], [1, 1, 7n]]);
+    same([own.n, own.names().join()], [3, "0,1,2"], "a graph of edges");
+    same(own.neighbors(1), [0, 2, 1, 1], "lists of edges in their order");
+    same(own.lengthsOf(1), [5n, 1n, 7n, 7n], "the lengths of edges");
+    same(sgb.fromEdges([[1, 0], [1, 2]], { directed: true }).neighbors(1), [0, 2], "lists of arcs in their order");
+    same(sgb.fromEdges([], { n: 4 }).n, 4, "a graph of vertices alone");
+    same(sgb.fromEdges([[0, 1]], { names: ["x", "y", "z"] }).names(), ["x", "y", "z"], "names");
+    same(sgb.graph("stdin", own.save()).list(), own.list(), "the file of a graph of edges");
+    refused(() => sgb.fromEdges([[0, 3]], { n: 3 }), 106, "an end that is no vertex");
+    refused(() => sgb.make({ names: ['"'], from: [], to: [] }), 107, "a name that is no text");
+    refused(() => sgb.make({ names: ["\u00e9"], from: [], to: [] }), 107, "a name beyond ASCII");
+    refused(() => sgb.make({ n: 1, from: [], to: [], id: "x".repeat(161) }), 107, "a long id");
+    refused(() => sgb.make({ n: 2, from: [0], to: [] }), 101, "ends that are not as many");
+    refused(() => sgb.make({ n: 2, from: [0], to: [1], lengths: [] }), 101, "lengths that are not as many");
+    for (const edges of [[[-1, 0]], [[0, 2 ** 32]], [[0, 0.5]], [[0, 0, 2n ** 63n]], [[0, 0, 1.5]]]) {
+      check(thrown(() => sgb.fromEdges(edges, { n: 2 })) instanceof RangeError, `an edge ${edges}`);
+    }
+    for (const given of [{ n: 1, from: [], to: [], id: 5 }, { names: [5], from: [], to: [] }]) {
+      check(thrown(() => sgb.make(given)) instanceof TypeError, "a name or an id that is no string");
+    }
+  },
+
   async flips() {
     const sgb = await load();
     // the values of test_flip in GB_FLIP

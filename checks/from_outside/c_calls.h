@@ -1,5 +1,7 @@
 /* What the checks of the library for C share: a graph, a run of its vertices, and each call on them with the arrays
  * that it fills. checks/from_outside/c_arrays.c and checks/from_outside/c_many.c take this file in. */
+#ifndef C_CALLS_H
+#define C_CALLS_H
 #include <inttypes.h>
 #include <stdio.h>
 #include <stdlib.h>
@@ -176,7 +178,7 @@ static void ends_are_kept(void) {
 static uint64_t open_text(sgb_graph *at) { return sgb_open(text, text_len, input, input_len, at); }
 
 /* Opens the graph; its size, without that of its file. */
-static void open_graph(void) {
+static inline void open_graph(void) {
     must(open_text(&graph), SGB_OK, "sgb_open");
     memset(&size, 0, sizeof size);
     must(sgb_sizes(&graph, &size.sizes), SGB_OK, "sgb_sizes");
@@ -206,3 +208,4 @@ static void fill_run(void) {
 }
 
 static void put_name(uint32_t k) { fwrite(names + name_starts[k], 1, name_starts[k + 1] - name_starts[k], stdout); }
+#endif

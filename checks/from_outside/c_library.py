@@ -374,7 +374,7 @@ def page(document):
     def checks(runs, tally):
         """The commands of docs/CALLING_FROM_C.md give what stands there."""
         if is_there(tally, *LIBRARIES):
-            document("docs/CALLING_FROM_C.md", 13)(runs, tally)
+            document("docs/CALLING_FROM_C.md", 21)(runs, tally)
 
     return checks
 

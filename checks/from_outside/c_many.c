@@ -13,12 +13,13 @@
  * with status 4 and a line. */
 #define _GNU_SOURCE
 #include <pthread.h>
-#include <sys/mman.h>
 #include <sys/resource.h>
 #include <time.h>
-#include <unistd.h>
 
 #include "c_calls.h"
+#include "c_pages.h"
+#include "c_stacks.h"
+#include "c_states.h"
 
 static char *file_at(const char *path, size_t *len) {
     FILE *from = fopen(path, "rb");
@@ -89,13 +90,6 @@ static int runs(const char *path) {
     return 0;
 }
 
-/* Pages of the process: all, and those in memory. */
-static void pages(long *all, long *there) {
-    FILE *from = fopen("/proc/self/statm", "r");
-    if (!from || fscanf(from, "%ld %ld", all, there) != 2) fail("no /proc/self/statm");
-    fclose(from);
-}
-
 /* Opens and closes the graph, with calls on its first vertices in between. */
 static uint64_t opened_and_closed(void) {
     static uint64_t places[4];
@@ -122,7 +116,7 @@ static uint64_t opened_and_closed(void) {
 }
 
 static void leaks_of(const char *now, const char *bytes, size_t len, uint64_t wanted, long rounds) {
-    long all, there, all_then, there_then;
+    long all, there;
     set_text(now);
     input = (char *)bytes;
     input_len = len;
@@ -130,12 +124,7 @@ static void leaks_of(const char *now, const char *bytes, size_t len, uint64_t wa
         if (round == 0) pages(&all, &there);
         must(opened_and_closed(), wanted, "sgb_open");
     }
-    pages(&all_then, &there_then);
-    if (all_then > all || there_then > there + 256) {
-        fprintf(stderr, "c_many: %.60s: %ld pages and not %ld, of them in memory %ld and not %ld\n", now, all_then, all, there_then,
-                there);
-        exit(4);
-    }
+    no_larger(now, all, there);
 }
 
 static int leaks(long rounds, const char *path) {
@@ -208,22 +197,9 @@ static void *in_thread(void *none) {
     return none;
 }
 
-/* How many bytes of a stack the call touches, of a thread that has so many. */
 static size_t touched(int which, size_t bytes) {
-    const size_t guard = 1 << 20;
-    unsigned char *low = mmap(NULL, bytes + guard, PROT_NONE, MAP_PRIVATE | MAP_ANONYMOUS, -1, 0);
-    pthread_attr_t attributes;
-    pthread_t thread;
-    if (low == MAP_FAILED || mprotect(low + guard, bytes, PROT_READ | PROT_WRITE) != 0) fail("no stack");
-    memset(low + guard, 0x5a, bytes);
     which_call = which;
-    if (pthread_attr_init(&attributes) != 0 || pthread_attr_setstack(&attributes, low + guard, bytes) != 0
-        || pthread_create(&thread, &attributes, in_thread, NULL) != 0 || pthread_join(thread, NULL) != 0)
-        fail("no thread");
-    size_t kept = 0;
-    while (kept < bytes && low[guard + kept] == 0x5a) kept++;
-    munmap(low, bytes + guard);
-    return bytes - kept;
+    return touched_by(in_thread, bytes);
 }
 
 static int stack(size_t bytes, size_t of_open, size_t of_arcs, const char *now) {
@@ -264,24 +240,6 @@ static pthread_mutex_t lock = PTHREAD_MUTEX_INITIALIZER;
 static sgb_graph shared = SGB_NO_GRAPH;
 static const char *shared_input;
 static size_t shared_input_len;
-
-static uint64_t state_of(sgb_graph *at) {
-    make_arrays();
-    for (int which = 0; which < CALLS; which++) call(at, which);
-    uint64_t now = state();
-    free_arrays();
-    return now;
-}
-
-static void sizes_of(sgb_graph *at) {
-    memset(&size, 0, sizeof size);
-    must(sgb_sizes(at, &size.sizes), SGB_OK, "sgb_sizes");
-    first = 0;
-    count = vertices();
-    must(sgb_rows_size(at, 0, count, &size.listed), SGB_OK, "sgb_rows_size");
-    must(sgb_names_size(at, 0, count, &size.names), SGB_OK, "sgb_names_size");
-    must(sgb_file_size(at, &size.file), SGB_OK, "sgb_file_size");
-}
 
 static void *many_graphs(void *none) {
     input = (char *)shared_input;

@@ -1,49 +1,9 @@
 /* The modes of c_arrays.c in which memory is refused: it takes this file in, whose functions use those of c_calls.h. */
 
-/* The calls for memory while it is counted, which of them are refused, and the blocks that are held of it. */
-static size_t asked, refused_first, refused_last, held;
-static int counting;
-
-#ifdef COUNTED
-void *__real_malloc(size_t bytes);
-void *__real_realloc(void *at, size_t bytes);
-void __real_free(void *at);
-void *__wrap_malloc(size_t bytes);
-void *__wrap_realloc(void *at, size_t bytes);
-void __wrap_free(void *at);
-
-static int is_refused(void) { return counting && ++asked >= refused_first && asked <= refused_last; }
-
-void *__wrap_malloc(size_t bytes) {
-    if (is_refused()) return NULL;
-    void *at = __real_malloc(bytes);
-    if (counting && at) held++;
-    return at;
-}
-
-void *__wrap_realloc(void *at, size_t bytes) {
-    if (is_refused()) return NULL;
-    void *now = __real_realloc(at, bytes);
-    if (counting && now && !at) held++;
-    return now;
-}
-
-void __wrap_free(void *at) {
-    if (counting && at) held--;
-    __real_free(at);
-}
-#endif
+#include "c_counted.h"
 
 static void is_closed(sgb_graph *at);
 static void is_graph(sgb_graph *at, uint64_t wanted);
-
-/* From here on calls for memory are counted, and those of these numbers are refused: the first is 1. */
-static void count_from(size_t from, size_t to) {
-    asked = held = 0;
-    refused_first = from;
-    refused_last = to;
-    counting = 1;
-}
 
 /* Opens the graph with memory refused; whether there were so many calls. */
 static int refuse_opening(size_t number, size_t last, size_t *refusals) {
@@ -135,7 +95,7 @@ static void refuse_all(void) {
     size_t so_many = asked;
     sgb_draws(1, 60, out, 3);
     must(sgb_uniform_draws(1, 60, 6, out, 3), SGB_OK, "sgb_uniform_draws without memory");
-    must(sgb_version(), 1000000, "sgb_version");
+    must(sgb_version(), 1001000, "sgb_version");
     counting = 0;
     if (asked != so_many) fail("random numbers take memory");
     if (state() != before || held != 0) fail("what is refused writes, or holds memory");

@@ -195,8 +195,80 @@ static void own() {
     check(most.id().size() == 160, "the longest id");
 }
 
+// the arrays, names and id of a graph, as one text
+static std::string told(sgb::graph &graph) { return graph.id() + "\n" + graph.file(); }
+
+// that an operation makes the graph of the expression
+static void same(sgb::graph made, const char *text, const char *what) {
+    sgb::graph wanted(text);
+    check(told(made) == told(wanted) && made.n() == wanted.n() && made.m() == wanted.m(), what);
+}
+
+static void operations() {
+    sgb::graph board("board(3,3,0,0,1,0,0)"), ring("circuit(4)"), arcs("transitive(3)");
+    const auto before = told(board) + told(ring);
+    same(board.complement(), "complement(board(3,3,0,0,1,0,0),0,0,0)", "a complement");
+    same(board.complement(true), "complement(board(3,3,0,0,1,0,0),1,0,0)", "a copy");
+    same(board.complement(false, true), "complement(board(3,3,0,0,1,0,0),0,1,0)", "a complement with loops");
+    same(board.complement(false, false, true), "complement(board(3,3,0,0,1,0,0),0,0,1)", "a complement of arcs");
+    same(board.lines(), "lines(board(3,3,0,0,1,0,0),0)", "lines");
+    same(arcs.lines(true), "lines(transitive(3),1)", "lines of arcs");
+    same(sgb::gunion(board, ring), "gunion(board(3,3,0,0,1,0,0),circuit(4),0,0)", "a union");
+    same(sgb::gunion(ring, board, true), "gunion(circuit(4),board(3,3,0,0,1,0,0),1,0)", "the union of the other order");
+    same(sgb::gunion(ring, arcs, false, true), "gunion(circuit(4),transitive(3),0,1)", "a union of arcs");
+    same(sgb::gunion(ring, ring, true), "gunion(circuit(4),circuit(4),1,0)", "a union with itself");
+    same(sgb::intersection(ring, board), "intersection(circuit(4),board(3,3,0,0,1,0,0),0,0)", "an intersection");
+    same(sgb::intersection(ring, board, true), "intersection(circuit(4),board(3,3,0,0,1,0,0),1,0)", "one with parallel arcs");
+    same(sgb::intersection(ring, ring, true, true), "intersection(circuit(4),circuit(4),1,1)", "an intersection with itself");
+    same(sgb::product(ring, arcs), "product(circuit(4),transitive(3),0,0)", "a cartesian product");
+    same(sgb::product(ring, arcs, sgb::product_kind::direct), "product(circuit(4),transitive(3),1,0)", "a direct product");
+    same(sgb::product(arcs, ring, "strong", true), "product(transitive(3),circuit(4),2,1)", "a strong product");
+    same(sgb::product(ring, ring, "direct"), "product(circuit(4),circuit(4),1,0)", "a product with itself");
+    same(sgb::induced(arcs, {1, 2, ring}), "induced(transitive(3),[1,2,circuit(4)],0,0,0)", "an induced graph");
+    same(sgb::induced(arcs, {-1, arcs, -1}, true, false, true), "induced(transitive(3),[-1,transitive(3),-1],1,0,1)", "with itself");
+    same(sgb::induced(arcs, {-1, 1, -1}, false, true, true), "induced(transitive(3),[-1,1,-1],0,1,1)", "with parallel arcs");
+    same(sgb::bi_complete(2, 3), "bi_complete(2,3,0)", "a complete bipartite graph");
+    same(sgb::bi_complete(2, 3, true), "bi_complete(2,3,1)", "one of arcs");
+    same(sgb::wheel(5), "wheel(5,1,0)", "a wheel");
+    same(sgb::wheel(5, 2, true), "wheel(5,2,1)", "a wheel of arcs");
+    same(sgb::wheel_around(ring, 5), "induced(board(2,0,0,0,1,0,0),[circuit(4),board(5,0,0,0,1,1,0)],0,0,0)", "a wheel around a graph");
+    check(told(board) + told(ring) == before, "operands stay as they are");
+    check(code_of([&] { arcs.lines(); }) == SGB_INVALID_OPERAND, "lines of arcs that are no edges");
+    check(code_of([&] { sgb::induced(arcs, {1}); }) == SGB_BAD_SPECS, "too few entries");
+    check(code_of([&] { sgb::bi_complete(-1, 1); }) == SGB_BAD_SPECS, "a number below 0");
+    check(is_refused([&] { sgb::product(ring, ring, "tensor"); }), "a product that is none");
+    const int then = closed;
+    ring.close();
+    check(code_of([&] { sgb::gunion(board, ring); }) == SGB_NOT_OPEN && code_of([&] { sgb::gunion(ring, ring); }) == SGB_NOT_OPEN, "closed");
+    check(code_of([&] { ring.lines(); }) == SGB_NOT_OPEN && code_of([&] { sgb::induced(arcs, {ring}); }) == SGB_NOT_OPEN, "closed entries");
+    check(closed == then + 1, "what is refused is not closed");
+}
+
+// a graph of events: each leads the lists of its ends
+static void making() {
+    const std::vector<std::string> names = {"a", "", "c"};
+    const std::vector<std::uint32_t> from = {0, 0, 2}, to = {1, 2, 2};
+    const std::vector<std::int64_t> lengths = {1, INT64_MIN, INT64_MAX};
+    sgb::graph made = sgb::graph::make(names, from, to, lengths, true, "made");
+    const auto rows = made.rows();
+    check(made.id() == "made" && std::ranges::equal(made.names(), names) && made.m() == 3, "a graph that is made");
+    check(std::ranges::equal(rows.tips(0), std::vector<std::uint32_t>{2, 1}), "later arcs come first");
+    check(std::ranges::equal(rows.lengths(0), std::vector<std::int64_t>{INT64_MIN, 1}), "their lengths");
+    check(sgb::graph::make(names, from, to, lengths, false, "").m() == 6, "a graph of edges");
+    check(sgb::graph::make({}, {}, {}, {}, false, "none").n() == 0, "a graph of nothing that is made");
+    check(code_of([&] { sgb::graph::make(names, from, from, {}, true, ""); }) == SGB_WRONG_LENGTH, "lengths that are not there");
+    check(code_of([&] { sgb::graph::make(std::span(names).first(2), from, to, lengths, true, ""); }) == SGB_NO_VERTEX, "no vertex");
+    check(code_of([&] { sgb::graph::make(names, from, to, lengths, true, "\n"); }) == SGB_NO_TEXT, "an id that is no text");
+    const std::vector<sgb::edge> edges = {{1, 0, 5}, {1, 2}, {1, 1}};
+    sgb::graph own = sgb::from_edges(3, edges), read("stdin", sgb::file_of_edges(3, edges));
+    check(std::ranges::equal(own.rows().arcs(), read.rows().arcs()) && own.id() == read.id(), "a file and a graph of the same edges");
+}
+
 int main() {
     own();
+    operations();
+    making();
+    closed = 0;
     {
         sgb::graph first("board(3,4,0,0,1,0,0)");
         const auto names = first.names();

@@ -16,11 +16,18 @@ A generator's graph is not built, so it may be greater than any memory. Its list
     for rows in g.chunks(65536):
         rows.first, rows.n, rows.starts, rows.tips, rows.lengths
 
-Graphs of one's own come in by `from_edges`, `from_csr`, `from_networkx`, `from_igraph`, `from_scipy`, or as a .gb file,
-which the expression `stdin` stands for:
+Graphs of one's own come in by `from_edges`, `from_arrays`, `from_csr`, `from_networkx`, `from_igraph`, `from_scipy`, or as
+a .gb file, which the expression `stdin` stands for; `file_of_edges` writes one:
 
     sgb.graph("lines(stdin,0)", "own.gb")
     sgb.graph("lines(stdin,0)", sgb.from_edges([(0, 1), (1, 2), (2, 0)]))
+
+Of graphs that are open others are made, each a graph of its own; what they are made of stays as it is:
+
+    own = sgb.from_edges([(0, 1), (1, 2), (2, 0)])
+    own.lines(), own.complement()
+    sgb.gunion(own, g), sgb.intersection(own, g), sgb.product(own, g, "strong"), sgb.induced(own, [1, 2, g])
+    sgb.bi_complete(2, 3), sgb.wheel(6), sgb.wheel_around(own, 6)
 
 `sgb.convert(g, "dimacs")` is the graph as text of another program: DOT, DIMACS, METIS, Matrix Market and others.
 
@@ -43,16 +50,18 @@ from . import _library
 from ._convert import convert
 from ._graph import Graph
 from ._library import GraphError
+from ._operations import gunion, induced, integer, intersection, product
 from ._rows import Rows
-from ._ways_in import from_csr, from_edges, from_igraph, from_networkx, from_scipy
+from ._ways_in import file_of_edges, from_arrays, from_csr, from_edges, from_igraph, from_networkx, from_scipy
 
 if TYPE_CHECKING:
     import numpy
     from numpy.typing import NDArray
 
-__version__ = "1.0.0"
+__version__ = "1.1.0"
 __all__ = [
-    "Graph", "GraphError", "Rows", "convert", "flip", "from_csr", "from_edges", "from_igraph", "from_networkx", "from_scipy", "graph",
+    "Graph", "GraphError", "Rows", "bi_complete", "convert", "file_of_edges", "flip", "from_arrays", "from_csr", "from_edges",
+    "from_igraph", "from_networkx", "from_scipy", "graph", "gunion", "induced", "intersection", "product", "wheel", "wheel_around",
 ]
 
 
@@ -64,7 +73,8 @@ def _show(*ones: Any) -> None:
                 part.__module__ = __name__
 
 
-_show(Graph, GraphError, Rows, convert, from_csr, from_edges, from_igraph, from_networkx, from_scipy)
+_show(Graph, GraphError, Rows, convert, file_of_edges, from_arrays, from_csr, from_edges, from_igraph, from_networkx, from_scipy)
+_show(gunion, induced, intersection, product)
 
 
 def graph(text: str, input: Any = None) -> Graph:  # noqa: A002 (the expression `stdin` is this input)
@@ -89,6 +99,48 @@ def graph(text: str, input: Any = None) -> Graph:  # noqa: A002 (the expression 
         Where `text` is no str, or `input` none of these.
     """
     return Graph(text, input)
+
+
+def bi_complete(n1: SupportsIndex, n2: SupportsIndex, directed: bool = False) -> Graph:
+    """The complete bipartite graph: each of n1 vertices is joined to each of n2 others (GB_BASIC, bi_complete).
+
+    Raises
+    ------
+    GraphError
+        With code 30, where a number is below 0; with 40, where there are more than 10^9 vertices.
+    """
+    sizes = [integer(size, "a number of vertices") for size in (n1, n2)]
+    return Graph._of(_library.Held("sgb_bi_complete", *sizes, bool(directed)))
+
+
+def wheel(n: SupportsIndex, n1: SupportsIndex = 1, directed: bool = False) -> Graph:
+    """The wheel: n1 vertices in the middle, each joined to each of n in a circle (GB_BASIC, wheel).
+
+    Raises
+    ------
+    GraphError
+        With code 30, where n1 is below 0; with 40, where there are more than 10^9 vertices.
+    """
+    sizes = [integer(size, "a number of vertices") for size in (n, n1)]
+    return Graph._of(_library.Held("sgb_wheel", *sizes, bool(directed)))
+
+
+def wheel_around(middle: Graph, n: SupportsIndex, directed: bool = False) -> Graph:
+    """The wheel that has a graph in its middle: each of its vertices is joined to each of n in a circle.
+
+    It is what `induced` makes of the board of two vertices, whose entries are the graph and the circle. That of a graph without
+    arcs is `wheel`, but for the id and the names of the middle.
+
+    Raises
+    ------
+    ValueError
+        Where the graph is closed, or n has more than 64 bits.
+    GraphError
+        With code 40, where there are more than 10^9 vertices.
+    """
+    flag = int(bool(directed))
+    rim = Graph(f"board({integer(n, 'a number of vertices')},0,0,0,1,1,{flag})")
+    return induced(Graph(f"board(2,0,0,0,1,0,{flag})"), [middle, rim], directed=directed)
 
 
 def flip(start: SupportsIndex, skip: SupportsIndex = 0, count: SupportsIndex = 1,

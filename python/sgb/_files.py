@@ -6,10 +6,9 @@ on one list. """
 
 from __future__ import annotations
 
-import hashlib
 import operator
 import re
-from typing import Any, Iterable, Iterator, Optional, Sequence
+from typing import Any, Iterator, Optional, Sequence
 
 MOST_VERTICES = 1_000_000_000
 LONGEST_ID = 160
@@ -24,15 +23,20 @@ _COUNTED = (
 _BITS = [bytes(48 + (max(_COUNTED.find(byte), 0) >> bit & 1) for byte in range(256)) for bit in range(7)]
 
 
-def _text(text: object, longest: int, what: str) -> str:
-    """A text as a string of the file, in its quotes."""
+def text_of(text: object, longest: int, what: str) -> str:
+    """The text, where it is one that a graph may have."""
     if not isinstance(text, str):
         raise TypeError(f"{what} is a str, and this is {type(text).__name__}: {text!r:.60}")
     if len(text) > longest:
         raise ValueError(f"{what} has at most {longest} bytes, and there is one of {len(text)}: {text[:40]!r} ..")
     if not (text.isascii() and text.isprintable()) or '"' in text or "\\" in text:
         raise ValueError(f"{what} has printable ASCII alone, without quotation mark and backslash: {text!r:.60}")
-    return f'"{text}"'
+    return text
+
+
+def _text(text: object, longest: int, what: str) -> str:
+    """A text as a string of the file, in its quotes."""
+    return f'"{text_of(text, longest, what)}"'
 
 
 def length_of(length: Any) -> int:
@@ -130,20 +134,10 @@ def _counted_lines(names: Sequence[str], arcs: Arcs) -> Iterator[str]:
         yield _lines([f"V{tip}", _place("A", following), str(length)])
 
 
-def _own_id(n: int, m: int, body: str) -> str:
-    """An id that tells graphs apart: how many vertices and arcs there are, and a sum of all that stands in the file."""
-    return f"given({n},{m},0x{hashlib.sha256(body.encode()).hexdigest()[:16]})"
-
-
-def gb_file(names: Optional[Iterable[str]], arcs: Arcs, id: Optional[str] = None) -> bytes:  # noqa: A002
-    """The file of a graph. The names are the numbers of the vertices where there are none."""
+def gb_file(names: Sequence[str], arcs: Arcs, id: str) -> bytes:  # noqa: A002
+    """The file of a graph, with a name for each vertex."""
     n, m = len(arcs.firsts), len(arcs.tips)
-    called = [str(v) for v in range(n)] if names is None else list(names)
-    if len(called) != n:
-        raise ValueError(f"there are {len(called)} names, and {n} vertices")
-    body = "".join(_counted_lines(called, arcs))
-    title = _text(_own_id(n, m, body) if id is None else id, LONGEST_ID, "an id")
-    text = _lines([title, str(n), str(m)]) + body
+    text = _lines([_text(id, LONGEST_ID, "an id"), str(n), str(m)]) + "".join(_counted_lines(names, arcs))
     # a line that begins so is left out, also where a string that was broken goes on with a star
     summed = checksum(re.sub(r"^\*.*\n", "", text, flags=re.MULTILINE).encode())
     head = f"* GraphBase graph (util_types {'Z' * 14},{n}V,{m}A)\n"

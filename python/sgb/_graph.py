@@ -6,7 +6,7 @@ import operator
 import threading
 from typing import TYPE_CHECKING, Any, Callable, Iterator, Optional, SupportsIndex
 
-from . import _library, _lookups, _others
+from . import _library, _lookups, _operations, _others
 from ._rows import Rows
 
 if TYPE_CHECKING:
@@ -52,7 +52,17 @@ class Graph:
     def __init__(self, text: str, input: Any = None) -> None:  # noqa: A002 (the expression `stdin` is this input)
         words = _library.expression(text)
         given = input.save() if isinstance(input, Graph) else _library.input_bytes(input)
-        self._held = _library.Held(words, given)
+        self._begin(_library.Held("sgb_open", words, len(words), given, len(given)), text)
+
+    @classmethod
+    def _of(cls, held: _library.Held) -> Graph:
+        """The graph that a call has made."""
+        graph = cls.__new__(cls)
+        graph._begin(held, "stdin")
+        return graph
+
+    def _begin(self, held: _library.Held, text: str) -> None:
+        self._held = held
         self._lock, self._kept = threading.RLock(), {}  # type: threading.RLock, dict[str, Any]
         sizes = _library.Sizes()
         self._held.call("sizes", "sgb_sizes", sizes)
@@ -376,17 +386,7 @@ class Graph:
         """The arcs (v, tip, length), int each, in the order of the lists. A great graph's come chunk by chunk."""
         if "lengths" in self._kept or self._fetched("size", self._is_small):
             return Rows(self.text, 0, self.starts, self.tips, self.lengths).arcs()
-        return (arc for rows in self._pieces() for arc in rows.arcs())
-
-    def _pieces(self) -> Iterator[Rows]:
-        """All lists, so many at once that they have about a million arcs."""
-        first = 0
-        while first < self.n:
-            count = min(FEW[0], self.n - first)
-            while count > 1 and self._size(first, count) > FEW[1]:
-                count //= 2
-            yield self.rows(first, count)
-            first += count
+        return (arc for rows in _lookups.pieces(self, *FEW) for arc in rows.arcs())
 
     def edges(self) -> list[tuple[int, int, int]]:
         """The edges (v, tip, length), int each: of each edge the arc that comes first, and of a loop one of its two.
@@ -396,3 +396,4 @@ class Graph:
         return _others.paired(self.arcs())
 
     to_scipy, to_networkx, to_igraph = _others.to_scipy, _others.to_networkx, _others.to_igraph
+    complement, lines = _operations.complement, _operations.lines

@@ -2,10 +2,11 @@
 
 from __future__ import annotations
 
+import contextlib
 import ctypes
 import os
 import threading
-from typing import Any, Optional
+from typing import Any, Optional, Sequence
 
 try:
     import numpy
@@ -29,6 +30,8 @@ ANSWERS = {
     104: "a graph is open",
     105: "no graph is open",
     106: "there are not so many vertices",
+    107: "a name or an id is no text",
+    108: "more vertices or arcs than a graph may have",
 }
 # of the library's calls: another number means other calls
 MAJOR = 1
@@ -72,11 +75,20 @@ class Handle(ctypes.Structure):
     _fields_ = [("held", ctypes.c_void_p), ("is_open", ctypes.c_bool)]
 
 
+class EntryList(ctypes.Structure):
+    """A list of entries of `induced`."""
+
+    _fields_ = [("held", ctypes.c_void_p), ("is_held", ctypes.c_bool)]
+
+
 _ARRAY = [ctypes.c_void_p, ctypes.c_size_t]
 _TEXT = [ctypes.c_char_p, ctypes.c_size_t]
 _ON = [ctypes.POINTER(Handle)]
 _RUN = [*_ON, ctypes.c_uint32, ctypes.c_uint32]
 _NUMBER = [ctypes.POINTER(ctypes.c_uint64)]
+_FLAG = [ctypes.c_bool]
+_INTEGER = [ctypes.c_int64]
+_ENTRIES = [ctypes.POINTER(EntryList)]
 # the calls of sgb.h: what each takes, and what it answers
 CALLS: dict[str, Any] = {
     "sgb_open": (_TEXT + _TEXT + _ON, ctypes.c_uint64),
@@ -95,6 +107,21 @@ CALLS: dict[str, Any] = {
     "sgb_file": (_ON + _ARRAY, ctypes.c_uint64),
     "sgb_draws": ([ctypes.c_int64, ctypes.c_uint64] + _ARRAY, None),
     "sgb_uniform_draws": ([ctypes.c_int64, ctypes.c_uint64, ctypes.c_uint32] + _ARRAY, ctypes.c_uint64),
+    "sgb_make": (5 * _ARRAY + _FLAG + _TEXT + _ON, ctypes.c_uint64),
+    "sgb_complement": (_ON + 3 * _FLAG + _ON, ctypes.c_uint64),
+    "sgb_lines": (_ON + _FLAG + _ON, ctypes.c_uint64),
+    "sgb_gunion_of": (2 * _ON + 2 * _FLAG + _ON, ctypes.c_uint64),
+    "sgb_gunion_self": (_ON + 2 * _FLAG + _ON, ctypes.c_uint64),
+    "sgb_intersection_of": (2 * _ON + 2 * _FLAG + _ON, ctypes.c_uint64),
+    "sgb_intersection_self": (_ON + 2 * _FLAG + _ON, ctypes.c_uint64),
+    "sgb_product_of": (2 * _ON + _INTEGER + _FLAG + _ON, ctypes.c_uint64),
+    "sgb_product_self": (_ON + _INTEGER + _FLAG + _ON, ctypes.c_uint64),
+    "sgb_entries_number": (_ENTRIES + _INTEGER, ctypes.c_uint64),
+    "sgb_entries_graph": (_ENTRIES + _ON, ctypes.c_uint64),
+    "sgb_entries_close": (_ENTRIES, None),
+    "sgb_induced_by": (_ON + _ENTRIES + 3 * _FLAG + _ON, ctypes.c_uint64),
+    "sgb_bi_complete": (2 * _INTEGER + _FLAG + _ON, ctypes.c_uint64),
+    "sgb_wheel": (2 * _INTEGER + _FLAG + _ON, ctypes.c_uint64),
     "sgb_version": ([], ctypes.c_uint64),
 }
 
@@ -167,17 +194,25 @@ class Array:
         return bytes(self.seen())
 
 
+# an address that fits every type, for arrays without places
+_PLACE = ctypes.c_uint64()
+NOWHERE = ctypes.addressof(_PLACE)
+
+
 def array_of(code: str, data: bytes) -> Any:
     """The numbers that these bytes hold, as `Array.seen` shows them."""
     return memoryview(data).cast(code) if numpy is None else numpy.frombuffer(data, dtype=code)
 
 
 class Held:
-    """A graph that the library holds, until it is closed, or until nothing leads to this object any more."""
+    """A graph that the library holds, until it is closed, or until nothing leads to this object any more.
 
-    def __init__(self, text: bytes, given: bytes) -> None:
+    It is what a call makes, which is handed these words, and then the handle.
+    """
+
+    def __init__(self, name: str, *words: Any) -> None:
         self._handle, self._lock = Handle(), threading.Lock()
-        must(lib.sgb_open(text, len(text), given, len(given), self._handle))
+        must(getattr(lib, name)(*words, self._handle))
 
     @property
     def is_open(self) -> bool:
@@ -206,6 +241,42 @@ class Held:
         # nobody else has it any more; where it was not made in full, its handle may not be there
         if handle := getattr(self, "_handle", None):
             lib.sgb_close(handle)
+
+
+def made_of(operands: Sequence[Held], name: str, *words: Any) -> Held:
+    """The graph that a call makes of these operands, which stay as they are. ValueError where one is closed.
+
+    Each is used by this call alone while it runs; of one that comes twice there is one lock, and all are taken in one order.
+    """
+    with contextlib.ExitStack() as stack:
+        for operand in sorted(set(operands), key=id):
+            stack.enter_context(operand._lock)
+        if not all(operand.is_open for operand in operands):
+            raise ValueError("the graph is closed")
+        made = Held(name, *(operand._handle for operand in operands), *words)
+    return made
+
+
+class Entries:
+    """A list of entries of `induced`, until nothing leads to it any more."""
+
+    def __init__(self) -> None:
+        self.held = EntryList()
+
+    def add_number(self, number: int) -> None:
+        """One more entry, a number."""
+        must(lib.sgb_entries_number(self.held, number))
+
+    def add_graph(self, graph: Held) -> None:
+        """One more entry, a copy of the graph, which may be closed then. ValueError where it is closed before."""
+        with graph._lock:
+            if not graph.is_open:
+                raise ValueError("a graph among the entries is closed")
+            must(lib.sgb_entries_graph(self.held, graph._handle))
+
+    def __del__(self) -> None:
+        if held := getattr(self, "held", None):
+            lib.sgb_entries_close(held)
 
 
 def expression(text: object) -> bytes:

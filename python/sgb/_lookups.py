@@ -1,12 +1,13 @@
-"""Which vertex has a name, and which graphs are generators'."""
+"""Which vertex has a name, which graphs are generators', and lists in pieces."""
 
 from __future__ import annotations
 
 import bisect
-from typing import TYPE_CHECKING, Optional, Sequence
+from typing import TYPE_CHECKING, Iterator, Optional, Sequence
 
 if TYPE_CHECKING:
     from ._graph import Graph
+    from ._rows import Rows
 
 # the calls of generators: their vertices are vectors in their order, each once
 GENERATORS = (
@@ -19,6 +20,17 @@ MANY = 65_536
 def is_generated(graph: Graph) -> bool:
     """Whether the graph is that of a generator's call."""
     return graph.text.split("(")[0] in GENERATORS
+
+
+def pieces(graph: Graph, vertices: int, arcs: int) -> Iterator[Rows]:
+    """All lists of a graph, so many at once that they have no more vertices, and about so many arcs."""
+    first = 0
+    while first < graph.n:
+        count = min(vertices, graph.n - first)
+        while count > 1 and graph._size(first, count) > arcs:
+            count //= 2
+        yield graph.rows(first, count)
+        first += count
 
 
 def places(names: Sequence[str]) -> dict[str, int]:

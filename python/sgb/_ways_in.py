@@ -1,11 +1,11 @@
-"""Graphs of one's own: each is written as a .gb file, and opened as `stdin`."""
+"""Graphs of one's own: their arcs or edges are handed to the library, one after another."""
 
 from __future__ import annotations
 
 import operator
-from typing import TYPE_CHECKING, Any, Iterable, Optional, Sequence
+from typing import TYPE_CHECKING, Any, Iterable, Optional, Sequence, SupportsIndex
 
-from . import _files
+from . import _events, _files
 from ._graph import Graph
 
 if TYPE_CHECKING:
@@ -13,8 +13,14 @@ if TYPE_CHECKING:
     import networkx
 
 
-def _opened(names: Optional[Iterable[str]], arcs: _files.Arcs, id: Optional[str]) -> Graph:  # noqa: A002
-    return Graph("stdin", _files.gb_file(names, arcs, id))
+def _given(names: Optional[Iterable[str]], events: _events.Events, id: Optional[str]) -> Graph:  # noqa: A002
+    """The graph whose lists have these arcs in their order: the library puts later ones first."""
+    return _put(names, events.turned(), id)
+
+
+def _put(names: Optional[Iterable[str]], events: _events.Events, id: Optional[str]) -> Graph:  # noqa: A002
+    called = _events.Names(names, events.n)
+    return Graph._of(_events.made(called, events, _events.own_id(called, events) if id is None else id))
 
 
 def from_edges(edges: Iterable[Sequence[Any]], n: Optional[int] = None, names: Optional[Sequence[str]] = None,
@@ -23,7 +29,7 @@ def from_edges(edges: Iterable[Sequence[Any]], n: Optional[int] = None, names: O
 
     Parameters
     ----------
-    edges : iterable of (v, tip) or (v, tip, length)
+    edges : iterable of (v, tip) or (v, tip, length), or integer array of shape (m, 2) or (m, 3)
         The ends are vertices, 0 to n - 1, or their names, if all are str. A length is an integer; it is 1 where there
         is none. Parallel edges and loops are what they are.
     n : int
@@ -40,8 +46,8 @@ def from_edges(edges: Iterable[Sequence[Any]], n: Optional[int] = None, names: O
     Returns
     -------
     Graph
-        Its expression is `stdin`; `save()` is its .gb file. The list of a vertex has its arcs in the order in which
-        they are given. (Graphs that GraphBase makes arc by arc have them the other way round.)
+        Its expression is `stdin`, which its .gb file stands for, `save()`. The list of a vertex has its arcs in the order in
+        which they are given. (Graphs that GraphBase makes arc by arc have them the other way round: so does `from_arrays`.)
 
     Raises
     ------
@@ -57,17 +63,88 @@ def from_edges(edges: Iterable[Sequence[Any]], n: Optional[int] = None, names: O
     >>> g.names(), list(g.arcs())
     (['a', 'b', 'c'], [(0, 1, 1), (1, 0, 1), (1, 2, 7), (2, 1, 7)])
     """
-    given = [_ends(edge) for edge in edges]
-    if any(isinstance(end, str) for edge in given for end in edge[:2]):
-        given, names = _numbered(given, names)
+    names, events = _events_of(edges, n, names, directed)
+    return _given(names, events, id)
+
+
+def file_of_edges(edges: Iterable[Sequence[Any]], n: Optional[int] = None, names: Optional[Sequence[str]] = None,
+                  directed: bool = False, id: Optional[str] = None) -> bytes:  # noqa: A002
+    """The .gb file of the graph that `from_edges` makes of the same, for `stdin` in any expression, here or of the program.
+
+    Returns
+    -------
+    bytes
+        Its records are in the order of the edges. (In the file that `save` writes of the open graph later ones come first:
+        the lists of both are the same.)
+
+    Raises
+    ------
+    ValueError, TypeError
+        As `from_edges`.
+    """
+    names, events = _events_of(edges, n, names, directed)
+    called = _events.Names(names, events.n)
+    title = _events.own_id(called, events.turned()) if id is None else id
+    return _files.gb_file(called.all, events.records(), title)
+
+
+def _events_of(edges: Any, n: Optional[int], names: Optional[Sequence[str]], directed: bool) -> tuple[Any, _events.Events]:
+    """Names, if there are any, and arcs or edges."""
+    if _events.is_array(edges) and edges.ndim == 2 and edges.shape[1] in (2, 3):
+        columns = [edges[:, k] for k in range(edges.shape[1])]
+    else:
+        given = [_ends(edge) for edge in edges]
+        if any(isinstance(end, str) for edge in given for end in edge[:2]):
+            given, names = _numbered(given, names)
+        columns = [[edge[k] for edge in given] for k in (0, 1)]
+        columns.append([edge[2] if len(edge) == 3 else 1 for edge in given])
+    return names, _columns(columns, n, names, directed)
+
+
+def _columns(columns: Sequence[Any], n: Optional[SupportsIndex], names: Optional[Sequence[str]], directed: bool) -> _events.Events:
+    """Arcs or edges of arrays: where they begin, where they lead, and their lengths, if there are any."""
+    tails, tips = map(_events.integers, columns[:2])
     if n is None:
-        ends = (operator.index(end) for edge in given for end in edge[:2])
-        n = len(names) if names is not None else 1 + max(ends, default=-1)
-    arcs = _files.Arcs(operator.index(n))
-    add = arcs.arc if directed else arcs.edge
-    for edge in given:
-        add(*edge)
-    return _opened(names, arcs, id)
+        n = len(names) if names is not None else 1 + max(_events.bounds(tails)[1], _events.bounds(tips)[1])
+    many = _events.count(operator.index(n))
+    sizes = _events.lengths(columns[2] if len(columns) > 2 else None, len(tips))
+    return _events.Events(many, _events.ends(tails, many), _events.ends(tips, many), sizes, bool(directed))
+
+
+def from_arrays(tails: Sequence[Any], tips: Sequence[Any], lengths: Optional[Sequence[Any]] = None,
+                n: Optional[int] = None, names: Optional[Sequence[str]] = None, directed: bool = False,
+                id: Optional[str] = None) -> Graph:  # noqa: A002
+    """The graph that GraphBase makes of some edges or arcs, one after another: each comes first on the lists of its ends.
+
+    Parameters
+    ----------
+    tails, tips : sequences of int
+        Where each begins, and where it leads. Arrays of numpy of type uint32 that have their numbers one after another are
+        handed to the library as they are, without a copy.
+    lengths : sequence of int
+        Their lengths, 1 if they are not said. So is an array of int64.
+    n, names, directed, id
+        As for `from_edges`.
+
+    Returns
+    -------
+    Graph
+        The list of a vertex has its arcs in the other order than they are given in. (`from_edges` keeps that order, and
+        has to turn it round first.)
+
+    Raises
+    ------
+    ValueError
+        Where they are not as many, or as `from_edges`.
+    TypeError
+        Where ends are no integers.
+
+    Examples
+    --------
+    >>> sgb.from_arrays([0, 0], [1, 2], directed=True)[0].tolist()
+    [2, 1]
+    """
+    return _put(names, _columns([tails, tips, lengths], n, names, directed), id)
 
 
 def _ends(edge: Any) -> tuple[Any, ...]:
@@ -119,18 +196,14 @@ def from_csr(starts: Sequence[Any], tips: Sequence[Any], lengths: Optional[Seque
     ValueError
         Where they are no lists, or as `from_edges`.
     """
-    places = [operator.index(start) for start in starts]
-    ends = list(tips)
-    sizes = [1] * len(ends) if lengths is None else list(lengths)
-    if not places or places[0] != 0 or any(a > b for a, b in zip(places, places[1:])) or places[-1] != len(ends):
+    places = _events.integers(starts)
+    ends = tips if _events.is_array(tips) else list(tips)
+    if not len(places) or places[0] != 0 or places[-1] != len(ends) or _events.falls(places):
         raise ValueError(f"starts go from 0 up to the number of tips, which is {len(ends)}")
-    if len(sizes) != len(ends):
-        raise ValueError(f"there are {len(sizes)} lengths, and {len(ends)} tips")
-    arcs = _files.Arcs(len(places) - 1)
-    for v, (a, b) in enumerate(zip(places, places[1:])):
-        for tip, length in zip(ends[a:b], sizes[a:b]):
-            arcs.arc(v, tip, length)
-    return _opened(names, arcs, id)
+    n = _events.count(len(places) - 1)
+    if lengths is not None and len(lengths) != len(ends):
+        raise ValueError(f"there are {len(lengths)} lengths, and {len(ends)} tips")
+    return _given(names, _columns([_events.tails_of(places), ends, lengths], n, names, True), id)
 
 
 def from_networkx(graph: networkx.Graph, weight: str = "weight", id: Optional[str] = None) -> Graph:  # noqa: A002
@@ -217,10 +290,9 @@ def from_scipy(matrix: Any, names: Optional[Sequence[str]] = None, directed: boo
     n = rows.shape[0]
     if rows.shape != (n, n):
         raise ValueError(f"the matrix of a graph is square, and this has {rows.shape[0]} rows and {rows.shape[1]} columns")
-    places = rows.indptr.tolist()
-    tips, lengths = rows.indices.tolist(), rows.data.tolist()
     if directed:
-        return from_csr(places, tips, lengths, names, id)
+        return from_csr(rows.indptr, rows.indices, rows.data, names, id)
+    places, tips, lengths = rows.indptr.tolist(), rows.indices.tolist(), rows.data.tolist()
     arcs = [(v, tips[k], lengths[k]) for v, (a, b) in enumerate(zip(places, places[1:])) for k in range(a, b)]
     if sorted(arcs) != sorted((tip, v, length) for v, tip, length in arcs):
         raise ValueError("the matrix is not symmetric: with directed=True its entries are arcs")

@@ -20,6 +20,13 @@ pub struct Handle {
     is_open: bool,
 }
 
+/// A list of entries of `induced`.
+#[repr(C)]
+struct EntryList {
+    held: *mut c_void,
+    is_held: bool,
+}
+
 extern "C" {
     fn sgb_open(text: *const u8, text_len: usize, input: *const u8, input_len: usize, graph: *mut Handle) -> u64;
     fn sgb_close(graph: *mut Handle);
@@ -45,6 +52,27 @@ extern "C" {
     fn sgb_draws(start: i64, skip: u64, out: *mut u32, out_len: usize);
     fn sgb_uniform_draws(start: i64, skip: u64, m: u32, out: *mut u32, out_len: usize) -> u64;
     fn sgb_version() -> u64;
+    fn sgb_make(
+        name_starts: *const u64, name_starts_len: usize, names: *const u8, names_len: usize, from: *const u32, from_len: usize,
+        to: *const u32, to_len: usize, lengths: *const i64, lengths_len: usize, directed: bool, id: *const u8, id_len: usize,
+        result: *mut Handle,
+    ) -> u64;
+    fn sgb_complement(graph: *mut Handle, copy: bool, self_loops: bool, directed: bool, result: *mut Handle) -> u64;
+    fn sgb_lines(graph: *mut Handle, directed: bool, result: *mut Handle) -> u64;
+    fn sgb_bi_complete(n1: i64, n2: i64, directed: bool, result: *mut Handle) -> u64;
+    fn sgb_wheel(n: i64, n1: i64, directed: bool, result: *mut Handle) -> u64;
+    fn sgb_gunion_of(first: *mut Handle, second: *mut Handle, multi: bool, directed: bool, result: *mut Handle) -> u64;
+    fn sgb_gunion_self(graph: *mut Handle, multi: bool, directed: bool, result: *mut Handle) -> u64;
+    fn sgb_intersection_of(first: *mut Handle, second: *mut Handle, multi: bool, directed: bool, result: *mut Handle) -> u64;
+    fn sgb_intersection_self(graph: *mut Handle, multi: bool, directed: bool, result: *mut Handle) -> u64;
+    fn sgb_product_of(first: *mut Handle, second: *mut Handle, kind: i64, directed: bool, result: *mut Handle) -> u64;
+    fn sgb_product_self(graph: *mut Handle, kind: i64, directed: bool, result: *mut Handle) -> u64;
+    fn sgb_entries_number(entries: *mut EntryList, number: i64) -> u64;
+    fn sgb_entries_graph(entries: *mut EntryList, graph: *mut Handle) -> u64;
+    fn sgb_entries_close(entries: *mut EntryList);
+    fn sgb_induced_by(
+        graph: *mut Handle, entries: *mut EntryList, self_loops: bool, multi: bool, directed: bool, result: *mut Handle,
+    ) -> u64;
 }
 
 /// So many numbers of C, or want of memory.
@@ -67,11 +95,79 @@ pub type Arrays = (Vec<u64>, Vec<u32>, Vec<i64>);
 pub struct Held(Box<UnsafeCell<Handle>>);
 
 impl Held {
-    pub fn open(text: &str, input: &[u8]) -> Result<Held, Error> {
+    /// The graph that a call makes in the handle, which holds none before.
+    fn made(call: impl FnOnce(*mut Handle) -> u64) -> Result<Held, Error> {
         let none = Handle { held: std::ptr::null_mut(), is_open: false };
         let held = Held(Box::new(UnsafeCell::new(none)));
-        answer(unsafe { sgb_open(text.as_ptr(), text.len(), input.as_ptr(), input.len(), held.at()) })?;
+        answer(call(held.at()))?;
         Ok(held)
+    }
+
+    pub fn open(text: &str, input: &[u8]) -> Result<Held, Error> {
+        Held::made(|made| unsafe { sgb_open(text.as_ptr(), text.len(), input.as_ptr(), input.len(), made) })
+    }
+
+    /// The graph of these names, cut at `starts`, and of these events.
+    pub fn make(names: (&[u64], &str), ends: (&[u32], &[u32]), lengths: &[i64], directed: bool, id: &str) -> Result<Held, Error> {
+        let ((starts, bytes), (from, to)) = (names, ends);
+        Held::made(|made| unsafe {
+            sgb_make(
+                starts.as_ptr(), starts.len(), bytes.as_ptr(), bytes.len(), from.as_ptr(), from.len(), to.as_ptr(), to.len(),
+                lengths.as_ptr(), lengths.len(), directed, id.as_ptr(), id.len(), made,
+            )
+        })
+    }
+
+    pub fn complement(&self, copy: bool, self_loops: bool, directed: bool) -> Result<Held, Error> {
+        Held::made(|made| unsafe { sgb_complement(self.at(), copy, self_loops, directed, made) })
+    }
+
+    pub fn lines(&self, directed: bool) -> Result<Held, Error> {
+        Held::made(|made| unsafe { sgb_lines(self.at(), directed, made) })
+    }
+
+    pub fn bi_complete(n1: i64, n2: i64, directed: bool) -> Result<Held, Error> {
+        Held::made(|made| unsafe { sgb_bi_complete(n1, n2, directed, made) })
+    }
+
+    pub fn wheel(n: i64, n1: i64, directed: bool) -> Result<Held, Error> {
+        Held::made(|made| unsafe { sgb_wheel(n, n1, directed, made) })
+    }
+
+    /// Whether both are one: then the calls of one graph as both operands are made.
+    fn is(&self, other: &Held) -> bool {
+        self.at() == other.at()
+    }
+
+    pub fn gunion(&self, other: &Held, multi: bool, directed: bool) -> Result<Held, Error> {
+        Held::made(|made| unsafe {
+            match self.is(other) {
+                true => sgb_gunion_self(self.at(), multi, directed, made),
+                false => sgb_gunion_of(self.at(), other.at(), multi, directed, made),
+            }
+        })
+    }
+
+    pub fn intersection(&self, other: &Held, multi: bool, directed: bool) -> Result<Held, Error> {
+        Held::made(|made| unsafe {
+            match self.is(other) {
+                true => sgb_intersection_self(self.at(), multi, directed, made),
+                false => sgb_intersection_of(self.at(), other.at(), multi, directed, made),
+            }
+        })
+    }
+
+    pub fn product(&self, other: &Held, kind: i64, directed: bool) -> Result<Held, Error> {
+        Held::made(|made| unsafe {
+            match self.is(other) {
+                true => sgb_product_self(self.at(), kind, directed, made),
+                false => sgb_product_of(self.at(), other.at(), kind, directed, made),
+            }
+        })
+    }
+
+    pub fn induced(&self, entries: &Entries, self_loops: bool, multi: bool, directed: bool) -> Result<Held, Error> {
+        Held::made(|made| unsafe { sgb_induced_by(self.at(), entries.at(), self_loops, multi, directed, made) })
     }
 
     /// The handle, for one call: it is never lent, and a cell is for one thread.
@@ -158,6 +254,34 @@ impl Held {
 impl Drop for Held {
     fn drop(&mut self) {
         unsafe { sgb_close(self.at()) }
+    }
+}
+
+/// A list of entries of `induced`, until this is dropped.
+pub struct Entries(Box<UnsafeCell<EntryList>>);
+
+impl Entries {
+    pub fn new() -> Entries {
+        Entries(Box::new(UnsafeCell::new(EntryList { held: std::ptr::null_mut(), is_held: false })))
+    }
+
+    fn at(&self) -> *mut EntryList {
+        self.0.get()
+    }
+
+    pub fn add_number(&self, number: i64) -> Result<(), Error> {
+        answer(unsafe { sgb_entries_number(self.at(), number) })
+    }
+
+    /// Adds a copy of the graph.
+    pub fn add_graph(&self, graph: &Held) -> Result<(), Error> {
+        answer(unsafe { sgb_entries_graph(self.at(), graph.at()) })
+    }
+}
+
+impl Drop for Entries {
+    fn drop(&mut self) {
+        unsafe { sgb_entries_close(self.at()) }
     }
 }
 

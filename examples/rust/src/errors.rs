@@ -2,7 +2,7 @@
 use crate::lists::Arc;
 
 /// The answers of `sgb.h` that are no bad expression: each with its number and its words.
-pub const ANSWERS: [(u64, &str); 14] = [
+pub const ANSWERS: [(u64, &str); 16] = [
     (1, "out of memory"),
     (10, "the head of the .gb file is wrong"),
     (11, "the end of the .gb file is wrong"),
@@ -17,6 +17,8 @@ pub const ANSWERS: [(u64, &str); 14] = [
     (104, "a graph is open"),
     (105, "no graph is open"),
     (106, "there are not so many vertices"),
+    (107, "a name or an id is no text"),
+    (108, "more vertices or arcs than a graph may have"),
 ];
 
 /// What a bad expression is answered with: this and the length of its longest prefix that begins one.

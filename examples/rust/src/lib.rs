@@ -15,6 +15,15 @@
 //! # Ok::<(), sgb::Error>(())
 //! ```
 //!
+//! Graphs of one's own, and operations on graphs that are open:
+//!
+//! ```
+//! let (ring, all) = (sgb::Graph::new("circuit(5)", b"")?, sgb::Graph::new("complete(5)", b"")?);
+//! let both = ring.gunion(&all, true, false)?;
+//! assert_eq!((both.m()?, both.lines(false)?.n()), (30, 15));
+//! # Ok::<(), sgb::Error>(())
+//! ```
+//!
 //! A slice is what these calls ask for: a pointer that is not null, and a length. A handle is closed when it is
 //! dropped, and belongs to one thread, since it is neither `Send` nor `Sync`; what was fetched is for any.
 #![warn(missing_docs)]
@@ -23,11 +32,13 @@ mod calls;
 mod errors;
 mod lists;
 mod names;
+mod operations;
 
 pub use calls::{draws, uniform_draws, version};
 pub use errors::{Error, ANSWERS};
 pub use lists::{Arc, Lists, Rows};
 pub use names::Names;
+pub use operations::{Entry, Product};
 
 use calls::{Held, Run};
 
@@ -59,7 +70,11 @@ impl Graph {
     /// The graph that an expression names, where `input` are the bytes that `stdin` in it stands for. A generator's
     /// graph is not built; all others are.
     pub fn new(text: &str, input: &[u8]) -> Result<Graph, Error> {
-        let held = Held::open(text, input)?;
+        Graph::of(text, Held::open(text, input)?)
+    }
+
+    /// The graph that is held, and the expression that it has.
+    fn of(text: &str, held: Held) -> Result<Graph, Error> {
         let sizes = held.sizes()?;
         let id = held.id(sizes.id)?;
         Ok(Graph { held, text: text.to_owned(), id, n: sizes.vertices as usize })

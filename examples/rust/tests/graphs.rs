@@ -1,6 +1,6 @@
 use std::collections::HashMap;
 
-use sgb::{draws, uniform_draws, version, Arc, Error, Field, Graph, ANSWERS};
+use sgb::{draws, uniform_draws, version, Arc, Entry, Error, Field, Graph, Product, ANSWERS};
 
 const FILE: &[u8] = b"* GraphBase graph (util_types ZZZZZZZZZZZZZZ,2V,2A)\n\"two\",2,2\n* Vertices\n\"left\",A0\n\"right\",A1\n\
                       * Arcs\nV1,0,7\nV0,0,-3\n* Checksum -1\n";
@@ -228,6 +228,75 @@ fn a_run_that_is_not_there_is_refused() {
 #[should_panic(expected = "vertex 4 is not among 1..4")]
 fn a_list_that_is_not_there_panics() {
     graph("petersen()").rows(1, 3).unwrap().tips_of(4);
+}
+
+/// That what was made is the graph of the expression: its file, in which everything stands.
+fn same(made: Result<Graph, Error>, text: &str) {
+    let (made, wanted) = (made.unwrap(), graph(text));
+    assert_eq!((made.id(), made.n(), made.text()), (wanted.id(), wanted.n(), "stdin"));
+    assert!(made.file() == wanted.file(), "another file than that of {text}");
+}
+
+#[test]
+fn an_operation_is_that_of_the_expression() {
+    let (board, ring, arcs) = (graph("board(3,3,0,0,1,0,0)"), graph("circuit(4)"), graph("transitive(3)"));
+    let before = (board.file(), ring.file(), arcs.file());
+    same(board.complement(false, true, false), "complement(board(3,3,0,0,1,0,0),0,1,0)");
+    same(board.complement(true, false, true), "complement(board(3,3,0,0,1,0,0),1,0,1)");
+    same(board.lines(false), "lines(board(3,3,0,0,1,0,0),0)");
+    same(arcs.lines(true), "lines(transitive(3),1)");
+    same(board.gunion(&ring, false, false), "gunion(board(3,3,0,0,1,0,0),circuit(4),0,0)");
+    same(ring.gunion(&board, true, false), "gunion(circuit(4),board(3,3,0,0,1,0,0),1,0)");
+    same(ring.gunion(&ring, true, true), "gunion(circuit(4),circuit(4),1,1)");
+    same(ring.intersection(&board, false, true), "intersection(circuit(4),board(3,3,0,0,1,0,0),0,1)");
+    same(ring.intersection(&ring, true, false), "intersection(circuit(4),circuit(4),1,0)");
+    for (number, kind) in [Product::Cartesian, Product::Direct, Product::Strong].into_iter().enumerate() {
+        same(ring.product(&arcs, kind, false), &format!("product(circuit(4),transitive(3),{number},0)"));
+        same(arcs.product(&arcs, kind, true), &format!("product(transitive(3),transitive(3),{number},1)"));
+    }
+    assert_eq!((board.file(), ring.file(), arcs.file()), before);
+}
+
+#[test]
+fn entries_are_numbers_and_graphs() {
+    let (ring, arcs) = (graph("circuit(4)"), graph("transitive(3)"));
+    let entries = [1.into(), Entry::Number(2), Entry::Graph(&ring)];
+    same(arcs.induced(&entries, false, false, false), "induced(transitive(3),[1,2,circuit(4)],0,0,0)");
+    let entries = [Entry::Number(-1), (&arcs).into(), Entry::Number(-1)];
+    same(arcs.induced(&entries, true, false, true), "induced(transitive(3),[-1,transitive(3),-1],1,0,1)");
+    same(arcs.induced(&entries, false, true, false), "induced(transitive(3),[-1,transitive(3),-1],0,1,0)");
+    same(Graph::bi_complete(2, 3, true), "bi_complete(2,3,1)");
+    same(Graph::wheel(5, 2, false), "wheel(5,2,0)");
+    let around = "induced(board(2,0,0,0,1,0,1),[circuit(4),board(5,0,0,0,1,1,1)],0,0,1)";
+    same(Graph::wheel_around(&ring, 5, true), around);
+}
+
+#[test]
+fn an_operation_may_be_refused() {
+    let (arcs, many) = (graph("transitive(3)"), graph("empty(40000)"));
+    assert_eq!(arcs.lines(false).err(), Some(Error::Code(60)));
+    assert_eq!(many.product(&many, Product::Direct, false).err(), Some(Error::Code(40)));
+    assert_eq!(arcs.induced(&[1.into()], false, false, false).err(), Some(Error::Code(30)));
+    assert_eq!((Graph::wheel(3, -1, false).err(), Graph::bi_complete(-1, 0, false).err()), (Some(Error::Code(30)), Some(Error::Code(30))));
+}
+
+#[test]
+fn a_graph_is_made_of_its_arcs() {
+    let made = Graph::make(&["a", "", "c"], &[0, 0, 2], &[1, 2, 2], &[1, i64::MIN, i64::MAX], true, "made").unwrap();
+    let rows = made.all().unwrap();
+    assert_eq!((made.id(), rows.tips(), rows.lengths()), ("made", &[2, 1, 2][..], &[i64::MIN, 1, i64::MAX][..]));
+    assert!(made.all_names().unwrap().iter().eq(["a", "", "c"]));
+    let edges = [(1, 0, 5), (1, 2, 1), (1, 1, 7), (2, 2, 3)].map(|(v, tip, length)| Arc { v, tip, length });
+    let own = Graph::from_edges(3, &edges, false, "own").unwrap();
+    assert_eq!((own.tips_of(1), own.lengths_of(1)), (Ok(vec![0, 2, 1, 1]), Ok(vec![5, 1, 7, 7])));
+    let arcs = Graph::from_edges(3, &edges, true, "own").unwrap();
+    assert_eq!((arcs.tips_of(0), arcs.tips_of(1), arcs.tips_of(2)), (Ok(vec![]), Ok(vec![0, 2, 1]), Ok(vec![2])));
+    let refused = |ends: &[u32], name: &str, id: &str| Graph::make(&[name], ends, &[0], &[1], false, id).err();
+    assert_eq!(refused(&[1], "a", "x"), Some(Error::Code(106)));
+    assert_eq!(refused(&[0], "\"", "x"), Some(Error::Code(107)));
+    assert_eq!(refused(&[0], "a", "\n"), Some(Error::Code(107)));
+    assert_eq!(refused(&[0, 0], "a", "x"), Some(Error::Code(101)));
+    assert_eq!(Graph::make::<&str>(&[], &[], &[], &[], false, "").unwrap().n(), 0);
 }
 
 #[test]
