@@ -301,6 +301,7 @@ static void each(const char *path, void (*body)(void)) {
 int main(int words_len, char **words) {
     if (words_len == 2 && strcmp(words[1], "answers") == 0) {
         handles();
+        lists();
         making();
         puts("right");
     } else if (words_len == 2 && strcmp(words[1], "many") == 0) {
