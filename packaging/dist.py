@@ -57,7 +57,7 @@ def moment():
 def names(machine):
     """What is made for a processor: the paths of the tarball, the Debian package and the wheel."""
     tag = f"py3-none-manylinux_{OLDEST[0]}_{OLDEST[1]}_{machine.name}"
-    made = [f"sgb-{version()}-{machine.name}-linux.tar.gz", f"sgb_{version()}_{machine.debian}.deb", f"sgb-{version()}-{tag}.whl"]
+    made = [f"sgb-{version()}-{machine.name}-linux.tar.gz", f"sgb_{version()}_{machine.debian}.deb", f"sgb-{built.calls_version()}-{tag}.whl"]
     return [os.path.join(DIST, name) for name in made]
 
 
@@ -132,7 +132,7 @@ def make(machine, when):
     tree["share/doc/sgb/README.md"] = about, 0o644
     if not no_deb():
         packed.write_deb(deb, packed.debian_tree(tree), {"ARCHITECTURE": machine.debian, **values}, when, room)
-    packed.write_wheel(wheel, library, version(), wheel.split("-", 2)[2][: -len(".whl")], when)
+    packed.write_wheel(wheel, library, built.calls_version(), wheel.split("-", 2)[2][: -len(".whl")], when)
     tree["README.md"], tree["install.sh"] = (about, 0o644), (packed.read(built.HERE, "install.sh"), 0o755)
     packed.write_tar(tarball, os.path.basename(tarball)[: -len(".tar.gz")], tree, when)
     print(f"  libsgb.so wants glibc {needs[0]}.{needs[1]}, the programs none", flush=True)
