@@ -57,6 +57,7 @@ examples: sgb
 	examples/tests/course_test.py ./sgb
 	examples/tests/shards_test.sh
 	examples/tests/callers_test.py ./sgb ./sgb_levels
+	examples/tests/graphbase_test.py ./sgb ./sgb_levels
 	examples/tests/dask_degrees_test.py ./sgb
 
 outside: sgb

@@ -20,8 +20,8 @@ import tempfile
 import time
 
 from from_outside import (
-    answers, c_library, c_many, c_scripts, conformance, digits, documents, files, great_listings, inputs, levels, memory, outputs,
-    part_scripts, random_requests, scripts,
+    answers, c_library, c_many, c_scripts, conformance, digits, documents, files, graphbase, great_listings, inputs, levels, memory,
+    outputs, part_scripts, random_requests, scripts,
 )
 from from_outside.runs import PROGRAM, DidNotEnd, Runs, Tally
 
@@ -34,6 +34,7 @@ def all_checks():
         yield from row.all_checks(PROGRAM)
     yield from c_library.all_checks(PROGRAM, documents.document)
     yield from c_many.all_checks(PROGRAM)
+    yield from graphbase.all_checks(documents.document)
 
 
 # these take longest, so they begin first

@@ -102,8 +102,9 @@ static void meet(saving *s, int kind, const void *address) {
     if (!b || b->kind == MIXED) return;
     if (b->kind == UNKNOWN) b->kind = kind;
     place = b->kind == kind ? place_in(b, address) : -1;
-    if (place < 0) b->kind = MIXED;
-    else if (b->used <= place) b->used = place + 1;
+    if (b->used <= place) b->used = place + 1;
+    /* the graph's own vertices stay what they are */
+    if (place < 0 && b != s->own) b->kind = MIXED;
 }
 
 static void meet_field(saving *s, char type, const util *value) {
@@ -238,7 +239,7 @@ static void number_blocks(saving *s, block **order) {
 static void write_address(saving *s, int kind, const void *address) {
     block *b = address ? block_of(s, address) : NULL;
     if (address && !b) s->anomalies |= addr_not_in_data_area;
-    if (b && b->kind != kind) {
+    if (b && (b->kind != kind || place_in(b, address) < 0)) {
         s->anomalies |= addr_in_mixed_block;
         b = NULL;
     }

@@ -34,7 +34,7 @@ class Shell:
         os.mkdir(self.folder)
         os.symlink(PROGRAM, os.path.join(self.folder, "sgb"))
         os.symlink(os.path.join(TOP, "crates/sgb_levels/out/sgb_levels"), os.path.join(self.folder, "sgb_levels"))
-        for there in ("conformance", "examples", "include", "python", "libsgb.a", "libsgb.so", "libsgb.so.1"):
+        for there in ("conformance", "examples", "include", "python", "libgb.a", "libsgb.a", "libsgb.so", "libsgb.so.1"):
             os.symlink(os.path.join(TOP, there), os.path.join(self.folder, there))
         self.environment = dict(os.environ, PATH=self.folder + os.pathsep + os.environ.get("PATH", os.defpath))
 
