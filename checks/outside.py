@@ -20,9 +20,10 @@ import tempfile
 import time
 
 from from_outside import (
-    answers, c_library, c_many, c_scripts, conformance, digits, documents, files, graphbase, great_listings, inputs, levels, memory,
-    outputs, part_scripts, random_requests, scripts,
+    answers, c_library, c_many, c_scripts, conformance, digits, documents, files, great_listings, inputs, levels, memory, outputs,
+    part_scripts, random_requests, scripts,
 )
+from from_outside import graphbase
 from from_outside.runs import PROGRAM, DidNotEnd, Runs, Tally
 
 
@@ -32,9 +33,9 @@ def all_checks():
     yield from conformance.all_checks(documents.document, documents.Shell)
     for row in (scripts, part_scripts, c_scripts):
         yield from row.all_checks(PROGRAM)
+    yield from graphbase.all_checks(documents.document)
     yield from c_library.all_checks(PROGRAM, documents.document)
     yield from c_many.all_checks(PROGRAM)
-    yield from graphbase.all_checks(documents.document)
 
 
 # these take longest, so they begin first

@@ -228,6 +228,26 @@ static void anomalies(void) {
     gb_recycle(g);
 }
 
+/* Vertices that were put into a greater block; one of the first block is in use still. */
+static void more_vertices(void) {
+    Graph *g = there(gb_new_graph(1L), "gb_new_graph"), *back;
+    g->vertices->name = "old";
+    g->uu.V = g->vertices;
+    g->util_types[8] = 'V';
+    gb_new_arc(g->vertices, g->vertices, 1L);
+    g->vertices = gb_typed_alloc(2, Vertex, g->data);
+    g->n = 2;
+    g->vertices[0].name = "new";
+    g->vertices[1].name = "newer";
+    gb_new_edge(g->vertices, g->vertices + 1, 2L);
+    back = saved(g, 0, "more vertices");
+    is(back->n == 2 && back->uu.V == back->vertices + 2, "the first block", back->n);
+    is_text(back->vertices->name, "new", "the first vertex");
+    is_text(back->uu.V->name, "old", "a vertex of the first block");
+    gb_recycle(back);
+    gb_recycle(g);
+}
+
 /* Fields of all kinds, vertices beside those of the graph, arcs on no list, a name twice. */
 static void fields(void) {
     Graph *g = there(gb_new_graph(2L), "gb_new_graph"), *back;
@@ -361,6 +381,7 @@ int main(int count, char **words) {
     random_numbers();
     anomalies();
     fields();
+    more_vertices();
     operands();
     results();
     printf("%ld looked at, %ld wrong\n", looked, wrong);

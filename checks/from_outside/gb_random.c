@@ -104,7 +104,8 @@ static void remove_edge(Graph *g) {
     g->m -= 2;
 }
 
-/* A graph of edges, of arcs, or of both, some parallel, and loops; of edges some are taken away again. */
+/* A graph of edges, of arcs, or of both, some parallel, and loops; of edges some are taken away again, and two vertices may
+ * share a list. */
 static Graph *random_graph(void) {
     long n = 1 + gb_unif_rand(7L), count = gb_unif_rand(12L), style = gb_unif_rand(3L), k;
     Graph *g = gb_new_graph(n);
@@ -119,6 +120,7 @@ static Graph *random_graph(void) {
         else gb_new_arc(u, v, gb_unif_rand(5L) - 2);
     }
     for (k = gb_unif_rand(3L); style == 0 && k > 0; k--) remove_edge(g);
+    if (gb_unif_rand(5L) == 0) g->vertices->arcs = g->vertices[gb_unif_rand(n)].arcs; /* two share a list */
     return g;
 }
 
@@ -193,7 +195,7 @@ static const char *const bases[] = {
     "* GraphBase graph (util_types ZZZIIIZZZZZZZZ,2V,2A)\n\"board(2,0,0,0,-1,0,0)\",2,2\n* Vertices\n\"0\",A0,0,0,0\n\"1\",A1,1,0,0\n"
     "* Arcs\nV1,0,1\nV0,0,1\n* Checksum 1066721325\n",
     "* by hand\n* GraphBase graph (util_types SVAIZZIVVASIZZ,2V,3A)\n\"a\",2,3,V0,A2,\"b c\",-7\n* Vertices\n\"one\",A0,\"s\",V1,A1,7\n"
-    "\"two\\\n, too\",A2,\"\",1,0,-9223372036854775808\n* Arcs\nV1,A1,3,5,V0\nV0,0,-4,+5,0\nV1,0,00012,1,1\n* Checksum -1\n",
+    "\"two\\\n, too\",A2,\"\",1,0,-9223372036854775808\n* Arcs\nV1,A1,3,5,V0\nV0,0,-4,-05,0\nV1,0,00012,1,1\n* Checksum -1\n",
     "* GraphBase graph (util_types ZZZZZZZZZZZZZZ,0V,0A)\n\"\",0,0\n* Vertices\n* Arcs\n* Checksum 10363\n"};
 
 /* Some bytes changed, left out or added, or the end cut off. */
@@ -226,30 +228,72 @@ static int has_more(const char *text) {
     return quote && sscanf(head, "util_types %*[A-Z],%ldV", &records) == 1 && sscanf(quote + 2, "%ld", &n) == 1 && n < records;
 }
 
+/* A file is read, or refused, as the proved library does it; whether it is read. */
+static int is_read(const char *text, size_t length) {
+    sgb_graph held = SGB_NO_GRAPH;
+    long code = 0;
+    uint64_t answer = sgb_open("stdin", 5, text, length, &held);
+    char *own = malloc(length + 1); /* so that no byte behind it is read */
+    Graph *g, *wanted;
+    int was_read;
+    memcpy(own, text, length);
+    g = sgb_read_graph(own, length, &code);
+    was_read = g != NULL;
+    if (has_more(text)) sgb_close(&held);
+    else {
+        is(g ? answer == SGB_OK : (long)answer == code, "a spoiled file", code, (long)answer);
+        wanted = held_graph(&answer, &held);
+        if (g && wanted) is(same(g, wanted), "a file", g->m, wanted->m);
+        gb_recycle(wanted);
+    }
+    free(own);
+    gb_recycle(g);
+    return was_read;
+}
+
+/* What the second file has, and what stands there instead; whether it is read then. */
+static const struct {
+    const char *old, *now;
+    int is_good;
+} changes[] = {
+    {"V1,A1,3,5", "V1,A1,3,5", 1}, {"V1,A1,3,5", "V1,A0,3,5", 0}, {"V0,0,-4", "V0,A0,-4", 0}, {"V0,0,-4", "V0,A2,-4", 1},
+    {"V1,0,00012", "0,0,00012", 0}, {"V1,0,00012", "1,0,00012", 0}, {"A2,\"\"", "A0,\"\"", 1}, {"V0,0,-4", "1,0,-4", 0},
+    {"5808", "5809", 0}, {"-9223372036854775808", "9223372036854775807", 1}, {"-9223372036854775808", "9223372036854775808", 0},
+    {"-9223372036854775808", "18446744073709551617", 0}, {"-9223372036854775808", "00000000000000000012", 1},
+    {"-9223372036854775808", "000000000000000000012", 0}, {"-9223372036854775808", "-", 0}, {"-9223372036854775808", "", 0},
+    {"Checksum -1", "Checksum -0", 0}, {"Checksum -1", "Checksum -01 and more", 1}, {"Checksum -1", "Checksum 5", 0},
+    {"Checksum -1", "Checksum -", 0}, {"Checksum -1", "Checksum -123456789012345678", 1}, {"Checksum -1", "checksum -1", 0},
+    {"Checksum -1", "Checksum -1234567890123456789", 0}, {"A0,\"s\"", "\nA0,\"s\"  ", 0}, {"\"one\",A0", "\"one\",\nA0", 1},
+    {"\"one\",A0", "\"one\",  \nA0", 1}, {"\"one\",A0", "\"one\",\n\nA0", 0}, {"\"one\",A0", "\"one\"\n,A0", 0},
+    {"\"one\",A0", "\"one\", A0", 0}, {"b c", "b \\\n\\\nc", 1}, {"b c", "b\nc", 0}, {"b c", "b\\c", 0}, {"A1,7", "A1,7,", 0},
+    {"A1,7", "A1,7   ", 1}, {"* Vertices", "* Vertices  ", 1}, {"* Vertices", " * Vertices", 0}, {"* Arcs", "* Arcs\n", 0},
+    {"2V,3A", "2V,4A", 0}, {"2V,3A", "2V,2A", 0}, {"2V,3A", "02V,003A) and more", 1}, {"2V,3A", "1000000001V,3A", 0},
+    {"2V,3A", "2V,999999999999999999A", 0}, {"\"a\",2,3", "\"a\",3,3", 0}, {"\"a\",2,3", "\"a\",2,-3", 0},
+    {"SVAIZZIVVASIZZ", "SVAIZZIVVASIZ", 0}, {"SVAIZZIVVASIZZ", "SVAIZZIVVASIZZZ", 0}, {"SVAIZZIVVASIZZ", "SVAIZZIVVASIZG", 0},
+    {"* by hand", "by hand", 0}, {"* by hand", "", 0}, {"* by hand", "*", 1}, {",3,5,V0", ",3,00,V0", 1}, {"V0,0,-4,-05", "V0,0,-4,+5", 0},
+};
+
+static void known_files(void) {
+    char text[2000];
+    size_t k;
+    for (k = 0; k < sizeof changes / sizeof *changes; k++) {
+        const char *place = strstr(bases[1], changes[k].old);
+        made = (long)k;
+        if (!place) is(0, "a change of what is not there", 0, 0);
+        else {
+            sprintf(text, "%.*s%s%s", (int)(place - bases[1]), bases[1], changes[k].now, place + strlen(changes[k].old));
+            is(is_read(text, strlen(text)) == changes[k].is_good, changes[k].now, 0, changes[k].is_good);
+        }
+    }
+}
+
 static void files(long count) {
     char text[2000];
     long read = 0;
     for (made = 0; made < count; made++) {
-        const char *base = bases[made % 3];
-        size_t length = spoiled(text, base);
-        sgb_graph held = SGB_NO_GRAPH;
-        long code = 0;
-        uint64_t answer = sgb_open("stdin", 5, text, length, &held);
-        char *own = malloc(length + 1); /* so that no byte behind it is read */
-        Graph *g, *wanted;
-        memcpy(own, text, length);
-        g = sgb_read_graph(own, length, &code);
-        free(own);
+        size_t length = spoiled(text, bases[made % 3]);
         text[length] = '\0';
-        read += g != NULL;
-        if (has_more(text)) sgb_close(&held);
-        else {
-            is(g ? answer == SGB_OK : (long)answer == code, "a spoiled file", code, (long)answer);
-            wanted = held_graph(&answer, &held);
-            if (g && wanted) is(same(g, wanted), "a file", g->m, wanted->m);
-            gb_recycle(wanted);
-        }
-        gb_recycle(g);
+        read += is_read(text, length);
     }
     is(read > count / 50 && read < count, "files that were read", read, count);
 }
@@ -259,6 +303,7 @@ int main(int count, char **words) {
     snprintf(path, sizeof path, "%s/random.gb", words[1]);
     gb_init_rand(atol(words[2]));
     graphs(atol(words[3]));
+    known_files();
     files(atol(words[4]));
     free(file);
     printf("%ld looked at, %ld wrong\n", looked, wrong);

@@ -10,6 +10,7 @@ import itertools
 import os
 import random
 import re
+import shutil
 import subprocess
 
 from . import c_library, conformance
@@ -125,11 +126,16 @@ def symbols(runs, tally):
             tally.check(status != 0 and b"is not rebuilt" in err, name, "is no stub:", (status, err))
 
 
+def has_boost():
+    words = ["c++", "-DSGB_GRAPHBASE_STUBS", INCLUDES[0], "-fsyntax-only", "-x", "c++", "-"]
+    return shutil.which("c++") and c_library.ran(*words, given=b"#include <boost/graph/stanford_graph.hpp>\n")[0] == 0
+
+
 def page(document):
     def checks(runs, tally):
-        """The commands of docs/GRAPHBASE.md give what stands there."""
+        """The commands of docs/GRAPHBASE.md give what stands there; without Boost's graphs, those that want none."""
         if c_library.is_there(tally, "libsgb.a", "libgb.a"):
-            document("docs/GRAPHBASE.md", 8)(runs, tally)
+            document("docs/GRAPHBASE.md", 8, [] if has_boost() else ["boost_distances", "./distances"])(runs, tally)
 
     return checks
 
