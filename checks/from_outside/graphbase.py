@@ -2,7 +2,7 @@
 
 The sources of libgb are compiled over libsgb.a, with AddressSanitizer where the compiler has it. gb_calls.c, gb_refused.c and
 gb_random.c look at what each call leaves, and the program of conformance/ is held against `sgb` for some rows of its table:
-`make examples` does so for all of them.
+for a graph of each form, and all refusals. `make examples` does so for all rows.
 """
 
 import glob
@@ -22,7 +22,6 @@ CHECKED = ["-fsanitize=address,undefined", "-fno-sanitize-recover=all"]
 ENVIRONMENT = {"ASAN_OPTIONS": "allocator_may_return_null=1"}
 WRAPPED = ["-Wl,--wrap=malloc,--wrap=calloc,--wrap=realloc"]
 GRAPHS, FILES = 200, 4000  # that gb_random makes and spoils
-STEP = 11  # of the graphs of the table each eleventh is held here
 PUBLIC = """
 gb_alloc gb_flip_cycle gb_fptr gb_free gb_init_rand gb_new_arc gb_new_edge gb_new_graph gb_recycle gb_save_string
 gb_trouble_code gb_unif_rand gb_virgin_arc hash_in hash_lookup hash_out hash_setup make_compound_id make_double_compound_id
@@ -70,7 +69,7 @@ def looked_at(tally, *words):
 
 
 def table(tally, path):
-    """The program of conformance/ over libgb: all refusals, and some graphs."""
+    """The program of conformance/ over libgb: all refusals, and a graph of each form."""
     script = path + ".sh"
     with open(script, "w", encoding="ascii") as file:
         # it gives nothing back when it ends
@@ -79,9 +78,13 @@ def table(tally, path):
     held = conformance.loaded("conformance/graphbase.py")
     programs = held.Programs(PROGRAM, script)
     rows = held.compare.rows()
-    graphs = [row for row in rows if isinstance(row, held.compare.Graph)]
-    refusals = [row for row in rows if not isinstance(row, held.compare.Graph)]
-    for row in itertools.chain(graphs[::STEP], refusals):
+    graphs, refusals = {}, []
+    for row in rows:
+        if isinstance(row, held.compare.Graph):
+            graphs.setdefault(row.expression.split("(")[0], row)
+        else:
+            refusals.append(row)
+    for row in itertools.chain(graphs.values(), refusals):
         programs.forget()
         for what, result in held.held_row(programs, row):
             tally.check(not isinstance(result, held.Different), what, held.compare.shown(row.expression), result)
