@@ -107,7 +107,7 @@ def calls(runs, tally):
 
 
 def symbols(runs, tally):
-    """libgb.a shows GraphBase's names and those of its own, and the headers are C99 and C++."""
+    """libgb.a shows GraphBase's names and those of its own, and the headers are C of 1989 and 1999, and C++."""
     if not c_library.is_there(tally, "libgb.a"):
         return
     got = c_library.ran("nm", "-g", "--defined-only", os.path.join(TOP, "libgb.a"))
@@ -120,7 +120,7 @@ def symbols(runs, tally):
         path = os.path.join(folder, name)
         with open(path, encoding="ascii") as file:
             is_stub = "#error" in file.read()
-        for language in ("-std=c99", "-x", "c"), ("-std=c++11", "-x", "c++"):
+        for language in ("-std=c89", "-x", "c"), ("-std=c99", "-x", "c"), ("-std=c++11", "-x", "c++"):
             words = ["c++" if "c++" in language else "cc", *language, *syntax]
             stub = ["-DSGB_GRAPHBASE_STUBS", "-include", "stddef.h"] if is_stub else []
             tally.same(f"{name}, {language[0]}", c_library.ran(*words, *stub, path), (0, b"", b""))
