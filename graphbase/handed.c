@@ -1,7 +1,8 @@
 /* Graphs handed to the proved library as files in memory, and taken of it so.
  *
- * GB_BASIC asks of an arc whether its list's next one lies behind it in memory, as the second arc of an edge does. So records
- * that lie side by side have numbers one after another in the file, and between others a number is left out. */
+ * GB_BASIC asks of an arc which record lies behind it in memory, since there the second arc of an edge is. So records of lists
+ * that lie side by side have numbers one after another in the file, and the last of them is followed by what lies behind it, on
+ * no list. */
 #include "handed.h"
 
 #include <stdlib.h>
@@ -16,12 +17,19 @@ typedef struct {
     long count, number;
 } stretch;
 
+/* A block of the graph's memory. */
+typedef struct {
+    const char *first, *end;
+} block;
+
 typedef struct {
     const Graph *g;
     const Arc **arcs; /* of all lists, each once, by their addresses */
     long count;
     stretch *stretches;
     long stretches_count;
+    block *blocks; /* by their addresses */
+    long blocks_count;
 } lists;
 
 static int is_vertex_of(const Graph *g, const Vertex *v) { return v >= g->vertices && v < g->vertices + g->n; }
@@ -97,6 +105,47 @@ static long number_of(const lists *l, const Arc *a) {
     return l->stretches[low].number + (a - l->stretches[low].first);
 }
 
+/* What lies behind */
+
+static int by_first(const void *one, const void *other) {
+    const block *p = one, *q = other;
+    return p->first < q->first ? -1 : p->first > q->first;
+}
+
+static void add_blocks(lists *l, const struct area_pointers *p) {
+    for (; p; p = p->next, l->blocks_count++) {
+        if (!l->blocks) continue;
+        l->blocks[l->blocks_count].first = p->first;
+        l->blocks[l->blocks_count].end = (const char *)p;
+    }
+}
+
+/* All blocks of the graph: they are counted first. */
+static long find_blocks(lists *l) {
+    add_blocks(l, *l->g->data);
+    add_blocks(l, *l->g->aux_data);
+    l->blocks = malloc(((size_t)l->blocks_count + 1) * sizeof *l->blocks);
+    if (!l->blocks) return no_room;
+    l->blocks_count = 0;
+    add_blocks(l, *l->g->data);
+    add_blocks(l, *l->g->aux_data);
+    qsort(l->blocks, (size_t)l->blocks_count, sizeof *l->blocks, by_first);
+    return 0;
+}
+
+/* The record behind one, where the same block has room for it; else NULL, and nobody can know what is there. */
+static const Arc *behind(const lists *l, const Arc *a) {
+    const char *at = (const char *)a;
+    long low = 0, high = l->blocks_count;
+    while (low < high) {
+        long middle = low + (high - low) / 2;
+        if (l->blocks[middle].first <= at) low = middle + 1;
+        else high = middle;
+    }
+    if (low == 0 || at >= l->blocks[low - 1].end) return NULL;
+    return (size_t)(l->blocks[low - 1].end - at) >= 2 * sizeof(Arc) ? a + 1 : NULL;
+}
+
 /* The file */
 
 static void write_arc_of(const lists *l, sgb_writer *w, const Arc *a) {
@@ -104,15 +153,22 @@ static void write_arc_of(const lists *l, sgb_writer *w, const Arc *a) {
     else sgb_write_number(w, 0);
 }
 
+static void write_record(const lists *l, sgb_writer *w, const Vertex *tip, const Arc *next, long len) {
+    if (is_vertex_of(l->g, tip)) sgb_write_place(w, 'V', tip - l->g->vertices);
+    else sgb_write_number(w, 0);
+    write_arc_of(l, w, next);
+    sgb_write_number(w, len);
+    sgb_write_end(w);
+}
+
 static void write_arcs(const lists *l, sgb_writer *w) {
     long k;
     for (k = 0; k < l->count; k++) {
-        const Arc *a = l->arcs[k];
-        if (k > 0 && begins_stretch(l, k)) sgb_write_line(w, "0,0,0");
-        sgb_write_place(w, 'V', a->tip - l->g->vertices);
-        write_arc_of(l, w, a->next);
-        sgb_write_number(w, a->len);
-        sgb_write_end(w);
+        const Arc *a = l->arcs[k], *last;
+        write_record(l, w, a->tip, a->next, a->len);
+        if (k + 1 < l->count && !begins_stretch(l, k + 1)) continue;
+        last = behind(l, a);
+        write_record(l, w, last ? last->tip : NULL, NULL, 0L);
     }
 }
 
@@ -133,8 +189,7 @@ static int write_vertices(const lists *l, sgb_writer *w) {
 static long write_file(const lists *l, sgb_writer *w) {
     const Graph *g = l->g;
     char line[100];
-    long gaps = l->stretches_count > 0 ? l->stretches_count - 1 : 0;
-    sprintf(line, "* GraphBase graph (util_types ZZZZZZZZZZZZZZ,%ldV,%ldA)", g->n, l->count + gaps);
+    sprintf(line, "* GraphBase graph (util_types ZZZZZZZZZZZZZZ,%ldV,%ldA)", g->n, l->count + l->stretches_count);
     sgb_write_line(w, line);
     sgb_write_string(w, "g", ID_BYTES);
     sgb_write_number(w, g->n);
@@ -156,9 +211,11 @@ long sgb_open_operand(const Graph *g, sgb_graph *held) {
     l.g = g;
     code = find_arcs(&l);
     if (!code) code = find_stretches(&l);
+    if (!code) code = find_blocks(&l);
     if (!code) code = write_file(&l, &w);
     free(l.arcs);
     free(l.stretches);
+    free(l.blocks);
     if (!code) {
         uint64_t answer = sgb_open("stdin", 5, w.bytes, w.length, held);
         code = answer == SGB_OK ? 0 : answer == SGB_NO_ROOM ? no_room : invalid_operand;

@@ -76,6 +76,8 @@ static void layouts(void) {
     is_text(g->id, "gb_new_graph(100)", "an id");
     for (k = 0; k < 300; k++) gb_new_edge(g->vertices + 7 * k % 100, g->vertices + 11 * k % 100, k);
     is(g->m == 600, "arcs of a new graph", g->m);
+    gb_recycle(there(intersection(g, g, 1L, 0L), "intersection of what has many blocks"));
+    switch_to_graph(g);
     edges(g, "edges of a new graph");
     /* after one arc the next two of an edge do not fit into a block any more: no byte behind it is written to */
     g = there(gb_new_graph(2L), "gb_new_graph");
@@ -288,6 +290,7 @@ static void fields(void) {
 
 static void operands(void) {
     Graph *g = there(board(3L, 0L, 0L, 0L, 1L, 0L, 0L), "board"), *h;
+    Arc *pair = gb_typed_alloc(2, Arc, g->aux_data);
     Graph *(*const of_two[])(Graph *, Graph *, long, long) = {gunion, intersection, product};
     Arc outside, *first = g->vertices->arcs;
     char *name = g->vertices->name;
@@ -313,6 +316,11 @@ static void operands(void) {
     h = there(complement(g, 0L, 0L, 0L), "complement");
     is(h->m == 2 && h->vertices->arcs->tip == h->vertices + 2, "an arc of a program's own", h->m);
     gb_recycle(h);
+    pair[0] = *first; /* behind it lies what leads to no vertex */
+    pair[1].tip = g->vertices + g->n;
+    g->vertices->arcs = pair;
+    gb_recycle(there(complement(g, 0L, 0L, 0L), "complement of what has an arc beside others"));
+    is_refused(lines(g, 0L), invalid_operand, "lines of what is no edge");
     g->vertices->arcs = first;
     g->vertices->name = "\"";
     is_refused(product(g, g, 0L, 0L), invalid_operand, "a name that no file has");

@@ -104,8 +104,15 @@ static void remove_edge(Graph *g) {
     g->m -= 2;
 }
 
-/* A graph of edges, of arcs, or of both, some parallel, and loops; of edges some are taken away again, and two vertices may
- * share a list. */
+/* Takes one arc off its list; the other one of an edge stays. */
+static void remove_arc(Graph *g) {
+    Vertex *v = g->vertices + gb_unif_rand(g->n);
+    if (v->arcs) take_off(v, v->arcs);
+    g->m -= gb_unif_rand(2L) && g->m > 0;
+}
+
+/* A graph of edges, of arcs, or of both, some parallel, and loops; some edges or arcs are taken away again, and two vertices
+ * may share a list. */
 static Graph *random_graph(void) {
     long n = 1 + gb_unif_rand(7L), count = gb_unif_rand(12L), style = gb_unif_rand(3L), k;
     Graph *g = gb_new_graph(n);
@@ -120,6 +127,7 @@ static Graph *random_graph(void) {
         else gb_new_arc(u, v, gb_unif_rand(5L) - 2);
     }
     for (k = gb_unif_rand(3L); style == 0 && k > 0; k--) remove_edge(g);
+    for (k = gb_unif_rand(6L) - 3; k > 0; k--) remove_arc(g);
     if (gb_unif_rand(5L) == 0) g->vertices->arcs = g->vertices[gb_unif_rand(n)].arcs; /* two share a list */
     return g;
 }
