@@ -274,7 +274,8 @@ static void fields(void) {
     is(back->n == 2 && back->m == 2 && back->uu.V == back->vertices + 3, "a vertex beside the others", back->n);
     is_text(back->uu.V->name, "beside", "its name");
     is(back->uu.V->u.V == back->vertices && back->vertices->u.V == back->uu.V, "addresses of vertices", 0);
-    is(back->vv.A == back->vertices->v.A && back->vv.A->tip == (Vertex *)1 && back->vv.A->len == LONG_MAX, "an arc on no list", 0);
+    is(back->vv.A == back->vertices->v.A, "an arc on no list", 0);
+    is(back->vv.A->tip == (Vertex *)1 && back->vv.A->len == LONG_MAX, "its tip and length", back->vv.A->len);
     is(back->vv.A->b.A == back->vertices->arcs && back->vertices->arcs->len == -7, "an address of an arc", 0);
     is(mate_of(back->vertices->arcs) == back->vertices[1].arcs, "the edge", 0);
     is_text(back->vertices->w.S, "a string", "a string");

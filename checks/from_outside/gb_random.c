@@ -1,6 +1,6 @@
-/* GraphBase's own calls on random graphs and files (checks/from_outside/graphbase.py). A graph is made arc by arc, and saved; what
- * an operation makes of it in memory is what the proved library makes of its file. Files are spoiled; they are read, or
- * refused, as the proved library reads them. It prints what differs, and last how many were looked at.
+/* GraphBase's own calls on random graphs and files (checks/from_outside/graphbase.py). A graph is made arc by arc, and
+ * saved; what an operation makes of it in memory is what the proved library makes of its file. Files are spoiled; they are
+ * read, or refused, as the proved library reads them. It prints what differs, and last how many were looked at.
  *
  *     gb_random FOLDER SEED GRAPHS FILES */
 #include <stdbool.h>
@@ -41,7 +41,8 @@ static void save(Graph *g) {
 static int same_lists(Graph *g, Graph *h, long k) {
     Arc *a = g->vertices[k].arcs, *b = h->vertices[k].arcs;
     for (; a && b; a = a->next, b = b->next)
-        if (a->tip - g->vertices != b->tip - h->vertices || a->len != b->len || (a->next == a + 1) != (b->next == b + 1)) return 0;
+        if (a->tip - g->vertices != b->tip - h->vertices || a->len != b->len || (a->next == a + 1) != (b->next == b + 1))
+            return 0;
     return !a && !b;
 }
 
@@ -200,10 +201,10 @@ static void graphs(long count) {
 /* ------------------------------------------------------------------------------------------------------------------- */
 
 static const char *const bases[] = {
-    "* GraphBase graph (util_types ZZZIIIZZZZZZZZ,2V,2A)\n\"board(2,0,0,0,-1,0,0)\",2,2\n* Vertices\n\"0\",A0,0,0,0\n\"1\",A1,1,0,0\n"
-    "* Arcs\nV1,0,1\nV0,0,1\n* Checksum 1066721325\n",
-    "* by hand\n* GraphBase graph (util_types SVAIZZIVVASIZZ,2V,3A)\n\"a\",2,3,V0,A2,\"b c\",-7\n* Vertices\n\"one\",A0,\"s\",V1,A1,7\n"
-    "\"two\\\n, too\",A2,\"\",1,0,-9223372036854775808\n* Arcs\nV1,A1,3,5,V0\nV0,0,-4,-05,0\nV1,0,00012,1,1\n* Checksum -1\n",
+    "* GraphBase graph (util_types ZZZIIIZZZZZZZZ,2V,2A)\n\"board(2,0,0,0,-1,0,0)\",2,2\n"
+    "* Vertices\n\"0\",A0,0,0,0\n\"1\",A1,1,0,0\n* Arcs\nV1,0,1\nV0,0,1\n* Checksum 1066721325\n",
+    "* by hand\n* GraphBase graph (util_types SVAIZZIVVASIZZ,2V,3A)\n\"a\",2,3,V0,A2,\"b c\",-7\n"
+    "* Vertices\n\"one\",A0,\"s\",V1,A1,7\n\"two\\\n, too\",A2,\"\",1,0,-9223372036854775808\n* Arcs\nV1,A1,3,5,V0\nV0,0,-4,-05,0\nV1,0,00012,1,1\n* Checksum -1\n",
     "* GraphBase graph (util_types ZZZZZZZZZZZZZZ,0V,0A)\n\"\",0,0\n* Vertices\n* Arcs\n* Checksum 10363\n"};
 
 /* Some bytes changed, left out or added, or the end cut off. */
@@ -278,7 +279,8 @@ static const struct {
     {"2V,3A", "2V,4A", 0}, {"2V,3A", "2V,2A", 0}, {"2V,3A", "02V,003A) and more", 1}, {"2V,3A", "1000000001V,3A", 0},
     {"2V,3A", "2V,999999999999999999A", 0}, {"\"a\",2,3", "\"a\",3,3", 0}, {"\"a\",2,3", "\"a\",2,-3", 0},
     {"SVAIZZIVVASIZZ", "SVAIZZIVVASIZ", 0}, {"SVAIZZIVVASIZZ", "SVAIZZIVVASIZZZ", 0}, {"SVAIZZIVVASIZZ", "SVAIZZIVVASIZG", 0},
-    {"* by hand", "by hand", 0}, {"* by hand", "", 0}, {"* by hand", "*", 1}, {",3,5,V0", ",3,00,V0", 1}, {"V0,0,-4,-05", "V0,0,-4,+5", 0},
+    {"* by hand", "by hand", 0}, {"* by hand", "", 0}, {"* by hand", "*", 1},
+    {",3,5,V0", ",3,00,V0", 1}, {"V0,0,-4,-05", "V0,0,-4,+5", 0},
 };
 
 static void known_files(void) {

@@ -45,7 +45,8 @@ static Graph *a_restored_graph(void) {
 
 /* Each call for memory is refused in turn: the answer is NULL, and why, until there is enough. */
 static void refused(void) {
-    Graph *(*const calls[])(void) = {a_board, a_complement, a_union, a_line_graph, an_induced_graph, a_new_graph, a_restored_graph};
+    Graph *(*const calls[])(void) = {a_board, a_complement, a_union, a_line_graph, an_induced_graph, a_new_graph,
+                                     a_restored_graph};
     size_t k;
     long granted;
     operand = board(4L, 0L, 0L, 0L, 1L, 0L, 0L);

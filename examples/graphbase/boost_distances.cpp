@@ -2,7 +2,7 @@
 // GraphBase as they are: of each vertex its name, the arcs on a shortest way to it, and the least length of a way; - where there
 // is none. The graph is that of a `.gb` file, or the union of those of two.
 //
-//     c++ -O2 -DSGB_GRAPHBASE_STUBS -Iinclude/graphbase examples/graphbase/boost_distances.cpp libgb.a libsgb.a -o boost_distances
+//     c++ -O2 -DSGB_GRAPHBASE_STUBS -Iinclude/graphbase examples/graphbase/boost_distances.cpp libgb.a libsgb.a
 #include <cstdio>
 #include <limits>
 #include <string>
