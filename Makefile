@@ -2,7 +2,8 @@
 # make            proves every crate, builds the programs, leaves them as ./sgb and ./sgb_levels
 # make demo       that, and three small graphs
 # make examples   tries the examples: forms of listings, by the readers installed, and back, Python, parts of a listing, the
-#                 cookbook, and callers of the library for C where make lib has left it, among them Dask's where it is installed
+#                 cookbook, and callers of the library for C and of GraphBase's own calls where make lib has left them, among
+#                 them Dask's where it is installed
 # make outside    checks the built program from outside: refused memory, failing devices, broken files, tour, examples
 # make conformance  holds the program against a table of graphs and refusals
 # make graphbase GRAPHBASE=FOLDER  holds it against the published library in FOLDER: gb_graph.h .. and libgb.a
@@ -11,7 +12,7 @@
 # make test       what runs without a proof, on programs and a library that are built unproved, in some five minutes
 # make check      the gate: all proofs from nothing, must-fail edits, the tests, the program
 # make edits      tries the must-fail edits that the gate leaves out, on a copy
-# make lib        proves the library for C, and leaves libsgb.a and libsgb.so (lib.mk)
+# make lib        proves the library for C, and leaves libsgb.a and libsgb.so, and libgb.a with GraphBase's own calls (lib.mk)
 # make rows       what the arrays of graphs cost in C, beside a plain loop that fills them (lib.mk)
 # make dist       proves all, and leaves in dist/ what runs on machines without the toolchain: tarballs, Debian packages and
 #                 wheels for x86-64 and aarch64, each tried (dist.mk)
@@ -59,6 +60,7 @@ examples: sgb
 	examples/tests/callers_test.py ./sgb ./sgb_levels
 	examples/tests/operations_test.py
 	examples/tests/dask_degrees_test.py ./sgb
+	examples/tests/graphbase_test.py ./sgb ./sgb_levels
 
 outside: sgb
 	checks/outside.py ./sgb

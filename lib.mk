@@ -1,9 +1,11 @@
-# The library for C: libsgb.a, libsgb.so, and how they are installed. The Makefile includes this.
+# The library for C: libsgb.a, libsgb.so, GraphBase's own calls over them, and how they are installed. The Makefile includes
+# this.
 #
-# make lib        proves the library for C, and leaves libsgb.a and libsgb.so beside include/sgb.h
-# make archives   makes these two of what `rt lib` left in crates/sgb_c/out, without a proof
-# make install-lib, make uninstall-lib   put them below $(LIBDIR), the headers below $(INCLUDEDIR), and sgb.pc, and take them
-#                 away again; nothing is built. make install does so too where the library is there.
+# make lib        proves the library for C, and leaves libsgb.a and libsgb.so beside include/sgb.h, and libgb.a
+# make archives   makes these of what `rt lib` left in crates/sgb_c/out, without a proof
+# make libgb.a    compiles graphbase/: the calls of include/graphbase, in C over sgb.h; nothing of it is proved
+# make install-lib, make uninstall-lib   put them below $(LIBDIR), the headers below $(INCLUDEDIR), sgb.pc and gb.pc, and take
+#                 them away again; nothing is built. make install does so too where the library is there.
 # make rows       what the arrays of boards and other graphs cost, beside a plain loop that fills them (bench/rows.c)
 
 # of the calls: that of include/sgb.h
@@ -34,25 +36,46 @@ archives: toolchain FORCE
 	mv out_lib/libsgb.a out_lib/$(SONAME) .
 	ln -sf $(SONAME) libsgb.so
 	rm -rf out_lib
-	@echo "Done: libsgb.a, libsgb.so, include/sgb.h"
+	@$(MAKE) --no-print-directory libgb.a
+	@echo "Done: libsgb.a, libsgb.so, include/sgb.h; libgb.a, include/graphbase"
+
+GB_HEADERS = $(sort $(wildcard include/graphbase/*.h))
+
+# what programs of GraphBase link with, in front of libsgb
+libgb.a: $(wildcard graphbase/*.[ch]) $(GB_HEADERS) include/sgb.h
+	rm -rf out_gb && mkdir out_gb
+	cd out_gb && $(CC) -std=c99 -O2 -fPIC -Wall -Wextra -pedantic -I../include/graphbase -I../include -c ../graphbase/*.c
+	rm -f libgb.a && ar rcs libgb.a out_gb/*.o
+	rm -rf out_gb
+
+comma = ,
+# a file of pkg-config: its name, what it is, and the two lines of flags
+pc = printf '%s\n' 'prefix=$(PREFIX)' 'libdir=$(subst $(PREFIX)/,$${prefix}/,$(LIBDIR))' \
+  'includedir=$(subst $(PREFIX)/,$${prefix}/,$(INCLUDEDIR))' '' 'Name: $(1)' 'Description: $(2)' 'Version: $(LIB_VERSION)' \
+  'Libs: -L"$${libdir}" $(3)' 'Cflags: -I"$${includedir}$(4)"' > "$(DESTDIR)$(LIBDIR)/pkgconfig/$(1).pc"
 
 install-lib:
-	@[ -f libsgb.a ] && [ -f $(SONAME) ] || { echo "make: libsgb.a and $(SONAME) are not there: make lib makes them" >&2; exit 1; }
+	@[ -f libsgb.a ] && [ -f $(SONAME) ] && [ -f libgb.a ] || \
+	  { echo "make: libsgb.a, $(SONAME) and libgb.a are not there: make lib makes them" >&2; exit 1; }
 	install -D -m 644 include/sgb.h "$(DESTDIR)$(INCLUDEDIR)/sgb.h"
 	install -D -m 644 include/sgb.hpp "$(DESTDIR)$(INCLUDEDIR)/sgb.hpp"
 	install -D -m 644 libsgb.a "$(DESTDIR)$(LIBDIR)/libsgb.a"
 	install -D -m 755 $(SONAME) "$(DESTDIR)$(LIBDIR)/$(SONAME)"
 	ln -sf $(SONAME) "$(DESTDIR)$(LIBDIR)/libsgb.so"
 	mkdir -p "$(DESTDIR)$(LIBDIR)/pkgconfig"
-	printf '%s\n' 'prefix=$(PREFIX)' 'libdir=$(subst $(PREFIX)/,$${prefix}/,$(LIBDIR))' \
-	  'includedir=$(subst $(PREFIX)/,$${prefix}/,$(INCLUDEDIR))' '' 'Name: sgb' \
-	  'Description: Graphs of the Stanford GraphBase as arrays, proved' 'Version: $(LIB_VERSION)' \
-	  'Libs: -L"$${libdir}" -lsgb' 'Cflags: -I"$${includedir}"' > "$(DESTDIR)$(LIBDIR)/pkgconfig/sgb.pc"
+	$(call pc,sgb,Graphs of the Stanford GraphBase as arrays$(comma) proved,-lsgb,)
+	for header in $(GB_HEADERS); do \
+	  install -D -m 644 $$header "$(DESTDIR)$(INCLUDEDIR)/graphbase/$${header##*/}" || exit 1; \
+	done
+	install -D -m 644 libgb.a "$(DESTDIR)$(LIBDIR)/libgb.a"
+	$(call pc,gb,Calls of the Stanford GraphBase over sgb,-lgb -lsgb,/graphbase)
 
 uninstall-lib:
 	rm -f "$(DESTDIR)$(INCLUDEDIR)/sgb.h" "$(DESTDIR)$(INCLUDEDIR)/sgb.hpp"
 	rm -f "$(DESTDIR)$(LIBDIR)/libsgb.a" "$(DESTDIR)$(LIBDIR)/libsgb.so" "$(DESTDIR)$(LIBDIR)/$(SONAME)"
-	rm -f "$(DESTDIR)$(LIBDIR)/pkgconfig/sgb.pc"
+	rm -f "$(DESTDIR)$(LIBDIR)/libgb.a" "$(DESTDIR)$(LIBDIR)/pkgconfig/sgb.pc" "$(DESTDIR)$(LIBDIR)/pkgconfig/gb.pc"
+	for header in $(GB_HEADERS); do rm -f "$(DESTDIR)$(INCLUDEDIR)/graphbase/$${header##*/}"; done
+	[ ! -d "$(DESTDIR)$(INCLUDEDIR)/graphbase" ] || rmdir --ignore-fail-on-non-empty "$(DESTDIR)$(INCLUDEDIR)/graphbase"
 
 # with BOARDS="EXPR .." those graphs alone
 rows: FORCE
@@ -62,7 +85,7 @@ rows: FORCE
 	out/rows $(foreach board,$(BOARDS),'$(board)')
 
 clean-lib:
-	rm -rf libsgb.a libsgb.so libsgb.so.* out_lib
+	rm -rf libsgb.a libsgb.so libsgb.so.* libgb.a out_lib out_gb
 
 # what takes the program away takes the library away; make install puts both there
 uninstall: uninstall-lib

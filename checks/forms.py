@@ -54,6 +54,7 @@ PLACES = [
     ("gsoi", "crates/sgb/CALLING.md", r"\bNAME\b"),
     ("gso", "conformance/graphs.tsv", r"\bNAME\("),
     ("gso", "conformance/graphbase.c", r"\bNAME\b"),
+    ("gso", "include/graphbase/gb_basic.h", r"\bNAME\("),
     ("gsoi", "checks/from_outside/random_requests.py", r"[\"'(,]NAME[(\"']"),
     ("o", "checks/calls/graphs.in", r"\bNAME\("),
     ("go", "checks/calls.py", r"^    \"NAME\b"),

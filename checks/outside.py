@@ -23,6 +23,7 @@ from from_outside import (
     answers, c_library, c_many, c_operations, c_scripts, conformance, digits, documents, files, great_listings, inputs, levels, memory,
     outputs, part_scripts, random_requests, scripts,
 )
+from from_outside import graphbase
 from from_outside.runs import PROGRAM, DidNotEnd, Runs, Tally
 
 
@@ -32,6 +33,7 @@ def all_checks():
     yield from conformance.all_checks(documents.document, documents.Shell)
     for row in (scripts, part_scripts, c_scripts):
         yield from row.all_checks(PROGRAM)
+    yield from graphbase.all_checks(documents.document)
     yield from c_library.all_checks(PROGRAM, documents.document)
     yield from c_many.all_checks(PROGRAM)
     yield from c_operations.all_checks(PROGRAM)

@@ -132,10 +132,28 @@ def left_by_make(path):
     return os.path.join(TOP, path)
 
 
+def graphbase(machine, room):
+    """The archive of GraphBase's own calls. No path is in it."""
+    folder, path = os.path.join(room, "graphbase"), os.path.join(room, "libgb.a")
+    shutil.rmtree(folder, ignore_errors=True)
+    os.makedirs(folder)
+    for name in sorted(os.listdir(os.path.join(TOP, "graphbase"))):
+        if name.endswith(".c"):
+            words = [machine.cc, "-std=c99", "-O2", "-fPIC", "-Wall", "-Wextra", "-Werror", "-Iinclude/graphbase", "-Iinclude"]
+            ran([*words, "-c", "graphbase/" + name, "-o", os.path.join(folder, name[:-2] + ".o")])
+    if os.path.exists(path):
+        os.remove(path)
+    ran([machine.ar, "rcsD", path, *sorted(os.path.join(folder, name) for name in os.listdir(folder))])
+    os.chmod(path, 0o644)
+    return path
+
+
 def library(machine, room):
-    """The library for C, as names and paths: the archive and the shared one. Programs keep the name `soname` of that."""
+    """The library for C, as names and paths: its archive, that of GraphBase's own calls, and the shared one. Programs keep the
+    name `soname` of that."""
+    own = {"libgb.a": graphbase(machine, room)}
     if machine.target is None:
-        return {name: left_by_make(name) for name in ("libsgb.a", "libsgb.so")}
+        return {**own, **{name: left_by_make(name) for name in ("libsgb.a", "libsgb.so")}}
     archive, shared = os.path.join(room, "libsgb.a"), os.path.join(room, "libsgb.so")
     shutil.copy(compiled(LIBRARY, machine, room), archive)
     os.chmod(archive, 0o644)
@@ -146,7 +164,7 @@ def library(machine, room):
     name = "libsgb.so." + calls_version().partition(".")[0]
     ran([machine.cc, "-shared", "-o", shared, "-Wl,-soname," + name, "-Wl,--version-script=" + exports, "-Wl,--whole-archive",
          archive, "-Wl,--no-whole-archive"])
-    return {"libsgb.a": archive, "libsgb.so": shared}
+    return {**own, "libsgb.a": archive, "libsgb.so": shared}
 
 
 def calls_version():

@@ -15,4 +15,4 @@ find bin include lib share ! -type d | LC_ALL=C sort | while IFS= read -r file; 
     cp -P "$file" "$prefix/$file"
 done
 # of the folders that are left empty, those that are this project's own
-[ -z "$remove" ] || find "$prefix/share/sgb" "$prefix/share/doc/sgb" -depth -type d -exec rmdir {} \;
+[ -z "$remove" ] || find "$prefix/share/sgb" "$prefix/share/doc/sgb" "$prefix/include/graphbase" -depth -type d -exec rmdir {} \;

@@ -32,13 +32,22 @@ def filled(name, **values):
     return text.encode()
 
 
-def pkg_config(prefix):
-    lines = [
-        "prefix=" + prefix, "libdir=${prefix}/lib", "includedir=${prefix}/include", "", "Name: sgb",
-        "Description: Graphs of the Stanford GraphBase as arrays, proved", "Version: " + calls_version(),
-        "Libs: -L${libdir} -lsgb", "Cflags: -I${includedir}",
-    ]
-    return "\n".join(lines).encode() + b"\n"
+# what pkg-config finds: what each is, what is linked, and the folder of its headers
+FOUND = {
+    "sgb": ("Graphs of the Stanford GraphBase as arrays, proved", "-lsgb", ""),
+    "gb": ("Calls of the Stanford GraphBase over sgb", "-lgb -lsgb", "/graphbase"),
+}
+
+
+def pkg_configs(prefix):
+    """The files of pkg-config, by their names."""
+    for name, (what, libraries, folder) in FOUND.items():
+        lines = [
+            "prefix=" + prefix, "libdir=${prefix}/lib", "includedir=${prefix}/include", "", "Name: " + name,
+            "Description: " + what, "Version: " + calls_version(), "Libs: -L${libdir} " + libraries,
+            "Cflags: -I${includedir}" + folder,
+        ]
+        yield name + ".pc", ("\n".join(lines).encode() + b"\n", 0o644)
 
 
 def tracked(folder):
@@ -58,11 +67,11 @@ def package_files():
 def shared_part():
     """What is the same for each processor."""
     tree = {}
-    for name in "sgb.h", "sgb.hpp":
-        add_file(tree, "include/" + name, "include/" + name)
+    for path in ["include/sgb.h", "include/sgb.hpp", *tracked("include/graphbase")]:
+        add_file(tree, path, path)
     add_file(tree, "share/man/man1/sgb.1", "man/sgb.1")
     add_file(tree, "share/bash-completion/completions/sgb", "completions/sgb.bash")
-    for name in "INSTALL.md", "CALLING_FROM_C.md", "COOKBOOK.md", "RECIPES.md":
+    for name in "INSTALL.md", "CALLING_FROM_C.md", "GRAPHBASE.md", "COOKBOOK.md", "RECIPES.md":
         add_file(tree, "share/doc/sgb/" + name, "docs/" + name)
     for path in tracked("examples") + tracked("conformance"):
         if not LEFT_OUT.match(path):
@@ -75,12 +84,14 @@ def prefix_tree(programs, library):
     tree = shared_part()
     for name, path in programs.items():
         tree["bin/" + name] = read(path), 0o755
-    tree["lib/libsgb.a"] = read(library["libsgb.a"]), 0o644
+    for name in "libsgb.a", "libgb.a":
+        tree["lib/" + name] = read(library[name]), 0o644
     name = soname(library["libsgb.so"])
     tree["lib/" + name] = read(library["libsgb.so"]), 0o755
     if name != "libsgb.so":
         tree["lib/libsgb.so"] = name  # where a linker looks
-    tree["lib/pkgconfig/sgb.pc"] = pkg_config("${pcfiledir}/../.."), 0o644
+    for name, file in pkg_configs("${pcfiledir}/../.."):
+        tree["lib/pkgconfig/" + name] = file
     for name in package_files():
         add_file(tree, "share/sgb/python/sgb/" + name, "python/sgb/" + name)
     tree["share/sgb/python/sgb/libsgb.so"] = "../../../../lib/libsgb.so"
@@ -90,7 +101,8 @@ def prefix_tree(programs, library):
 def debian_tree(tree):
     """The same for a Debian package."""
     moved = {"usr/" + path: there for path, there in tree.items() if not path.startswith("share/sgb/python/")}
-    moved["usr/lib/pkgconfig/sgb.pc"] = pkg_config("/usr"), 0o644
+    for name, file in pkg_configs("/usr"):
+        moved["usr/lib/pkgconfig/" + name] = file
     for name in package_files():
         moved["usr/lib/python3/dist-packages/sgb/" + name] = tree["share/sgb/python/sgb/" + name]
     return moved

@@ -117,9 +117,23 @@ def library_works(machine, prefix, room):
         words = [machine.runner, "-L", "/usr/" + machine.cc[: -len("-gcc")]] if machine.runner else []
         called = script(os.path.join(room, "run_" + name), " ".join(["exec", *words, f"'{made}'", '"$@"']))
         conforms(called, f"{machine.name}, a C program with {name}")
+    old_program_works(machine, prefix, room)
     if shutil.which("pkg-config") and not machine.runner:
-        words = ran(["pkg-config", "--cflags", "--libs", "sgb"], env={**os.environ, "PKG_CONFIG_PATH": lib + "/pkgconfig"})
-        ran(["sh", "-c", f'{machine.cc} "$0" {words.strip()} -o "$1"', os.path.join(HERE, "caller.c"), made])
+        old = os.path.join(prefix, "share/sgb/examples/graphbase/queen.c")
+        for name, source in ("sgb", os.path.join(HERE, "caller.c")), ("gb", old):
+            words = ran(["pkg-config", "--cflags", "--libs", name], env={**os.environ, "PKG_CONFIG_PATH": lib + "/pkgconfig"})
+            ran(["sh", "-c", f'{machine.cc} "$0" {words.strip()} -o "$1"', source, made])
+
+
+def old_program_works(machine, prefix, room):
+    """A program of the examples over GraphBase's own calls, compiled against what was installed."""
+    include, lib = os.path.join(prefix, "include/graphbase"), os.path.join(prefix, "lib")
+    source, made = os.path.join(prefix, "share/sgb/examples/graphbase/queen"), os.path.join(room, "queen")
+    words = [machine.cc, "-static", "-I" + include, source + ".c", *(os.path.join(lib, name) for name in ("libgb.a", "libsgb.a"))]
+    ran([*words, "-o", made])
+    with open(source + ".out", encoding="ascii") as file:
+        if ran(runs(machine, made)) != file.read():
+            raise Failed(f"{machine.name}: examples/graphbase/queen.c over libgb.a writes something else")
 
 
 def in_python(python, what, **more):

@@ -78,9 +78,9 @@ LIBRARIES = {
 
 
 def archives():
-    """Makes libsgb.a and libsgb.so of the archive that was proved and built, where that is newer; the status and what make says.
+    """Makes the libraries of the archive that was proved and built, where that is newer; the status and what make says.
     This is done before the first check begins, since they are made side by side, and many look at the libraries."""
-    paths = [os.path.join(TOP, name) for name in LIBRARIES]
+    paths = [os.path.join(TOP, name) for name in (*LIBRARIES, "libgb.a")]
     is_new = os.path.exists(ARCHIVE) and not all(
         os.path.exists(path) and os.path.getmtime(path) > os.path.getmtime(ARCHIVE) for path in paths
     )

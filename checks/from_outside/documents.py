@@ -34,7 +34,7 @@ class Shell:
         os.mkdir(self.folder)
         os.symlink(PROGRAM, os.path.join(self.folder, "sgb"))
         os.symlink(os.path.join(TOP, "crates/sgb_levels/out/sgb_levels"), os.path.join(self.folder, "sgb_levels"))
-        for there in ("conformance", "examples", "include", "python", "libsgb.a", "libsgb.so", "libsgb.so.1"):
+        for there in ("conformance", "examples", "include", "python", "libgb.a", "libsgb.a", "libsgb.so", "libsgb.so.1"):
             os.symlink(os.path.join(TOP, there), os.path.join(self.folder, there))
         self.environment = dict(os.environ, PATH=self.folder + os.pathsep + os.environ.get("PATH", os.defpath))
 
@@ -53,9 +53,9 @@ class Shell:
         return os.path.join(self.folder, name)
 
 
-def document(path, wanted):
+def document(path, wanted, left_out=()):
     def checks(runs, tally):
-        """Each command gives what stands below it, as far as that goes."""
+        """Each command gives what stands below it, as far as that goes; but for those in which one of these words stands."""
         shell = Shell(runs, path.replace("/", "."))
         found = commands(os.path.join(TOP, path))
         tally.check(len(found) >= wanted, path, "has only so many commands:", len(found))
@@ -65,6 +65,9 @@ def document(path, wanted):
                 # a file that is written by hand, as it is shown
                 with open(shell.file(name[1]), "w", encoding="utf-8") as file:
                     file.write("".join(line + "\n" for line in lines))
+            if any(word in command for word in left_out):
+                print(f"  skipped: {command}")
+                continue
             needed = "bash" if "<(" in command else command.split()[0]
             if needed in ("bash", "c++", "cargo") and not shutil.which(needed):
                 print(f"  skipped, without {needed}: {command}")

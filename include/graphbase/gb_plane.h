@@ -1,0 +1,5 @@
+/* GB_PLANE, planar graphs: not rebuilt, and nothing of it is here. With SGB_GRAPHBASE_STUBS defined this is an empty
+ * header, for those who name it and use none of it. */
+#ifndef SGB_GRAPHBASE_STUBS
+#error "gb_plane.h: GB_PLANE is not rebuilt (docs/GRAPHBASE.md); -DSGB_GRAPHBASE_STUBS makes this header an empty one"
+#endif
