@@ -55,19 +55,6 @@ name_gives view text name rest (Ok x) e given = name_read text name rest e ∙ g
 name_gives view text name rest (Err (Left left)) e given = name_read text name rest e ∙ given
 name_gives view text name rest (Err NoRoom) e given = after_name text name rest e given
 
--- the first expression inside is not read
-pub first_fails : {V : Type 0} (Is : V → Type 0) (second : Expression → List ℕ → Result (V × List ℕ) ℕ) (w : Wrong) (text : List ℕ) → Fails (TakesMemory text) w (expression_at text)
-    → Fails (MayTake Is text (then_read expression_at second text)) w (then_read expression_at second text)
-first_fails Is second (Left left) text h = bind_stops (expression_at text) (λ x. second x.0 x.1) left h
-first_fails Is second NoRoom text h = inl h
-
--- two graphs are not read
-pub operands_fail : (make : Operands → Expression) → ((o : Operands) → IsOnGraphs (make o)) → (w : Wrong) (text : List ℕ) → Fails (MayTake anything text (operands_with expression_at text)) w (operands_with expression_at text)
-    → Fails (MayTake IsOnGraphs text (read_as make (operands_with expression_at) text)) w (read_as make (operands_with expression_at) text)
-operands_fail make on (Left left) text h = bind_stops (operands_with expression_at text) (λ x. Ok (make x.0, x.1)) left h
-operands_fail make on NoRoom text (inl t) = inl t
-operands_fail make on NoRoom text (inr (o, rest, read, _)) = inr (make o, rest, bind_of (operands_with expression_at text) (λ x. Ok (make x.0, x.1)) (o, rest) read, on o)
-
 -- what is read after the first graph and a comma, and after the second graph
 abbrev numbers_after : Expression → Expression → List ℕ → Result (Operands × List ℕ) ℕ
 numbers_after first second = read_as (λ numbers. record { first = first; second = second; numbers = numbers }) (integers_at (codes ",") 2 (codes ")"))
