@@ -21,7 +21,7 @@ use Rattle.sgb_requests.specs.declared.requests.Request.{Request}
 use Rattle.sgb_requests.specs.declared.requests.Resume.{Resume}
 use Rattle.sgb_gen.specs.Generators.{IsGeneratorRefused}
 use Rattle.sgb_values.specs.FirstRefusals.{IsRefusedFirst}
-use Rattle.sgb.specs.Certain.{BeginsNowhere, IsBoard, IsCertain, IsRefusedAtOnce, NeedsNoMemory}
+use Rattle.sgb.specs.Certain.{BeginsNowhere, IsBoard, IsCertain, IsPast, IsRefusedAtOnce, NeedsNoMemory}
 use Rattle.sgb.specs.Outcomes.{answer_of, left_out, outcome_of, reads_input}
 use Rattle.sgb.specs.Runs.{IsGiven, Left}
 use Rattle.sgb_gen.specs.Generators.{IsLocalOf}
@@ -75,12 +75,10 @@ listing_refused f resume p refused board h = grind (arith, generator_other)
 -- its listing begins nowhere
 pub listing_begun : {T : Type 0} (f : Generator) (resume : Resume) (l : Local) (r : Result T Fault) → IsLocalOf (generator_value f) (Ok l)
     → ((code : Panic) → IsGeneratorRefused f code → Ok l ≡ Err code)
-    → (left_out (names_of (graph_described (described l))) resume ≡ Err fault.NoVertex → r ≡ Err fault.NoVertex)
+    → (IsPast (names_of (graph_described (described l))) resume → IfErr r (λ g. g ≢ fault.Panic NoRoom))
     → HasListingAtOnce f resume → IfErr r (λ g. g ≢ fault.Panic NoRoom)
-listing_begun f resume l r is refused nowhere (inl (p, same, from)) =
-    let ended = nowhere (from (graph_described (described l)) (grind (arith))) in
-    rw ended (λ e. cc)
-listing_begun f resume l r is refused nowhere (inr h) =
+listing_begun f resume l r is refused past (inl (p, same, from)) = past (from (graph_described (described l)) (grind (arith)))
+listing_begun f resume l r is refused past (inr h) =
     let none = refused h.0 h.1 in
     absurd cc
 

@@ -9,7 +9,7 @@ use Rattle.sgb_vec.specs.Sums.{bounded_sums, has_great_count}
 use Rattle.sgb_vec.specs.declared.panics.Panic.{Panic}
 use Rattle.sgb_vec.specs.declared.panics.Panic.TheVariants.{Bad, VeryBad, Early}
 use Rattle.sgb_graph.specs.Events.{list_from}
-use Rattle.sgb_graph.specs.Graphs.{numbers_from}
+use Rattle.sgb_graph.specs.Graphs.{GraphData, arc_record, numbers_from}
 use Rattle.sgb_graph.specs.Ids.{double_compound_id}
 use Rattle.sgb_graph.specs.Made.{graph_described}
 use Rattle.sgb_gen.specs.Boards.{board_id}
@@ -103,6 +103,15 @@ pub stdin_read :
     × (answer_of (request.Names expr.Stdin resume.Whole) (Err Early) ≡ Err (fault.Panic Early))
 unfolding digits numbers_from blocks block arc_line head_text
 stdin_read = (refl, refl)
+
+-- the arcs of the head are those that the graph counts, and not its records: a file may have records on no list
+abbrev seven_counted : GraphData
+seven_counted = record one_cell { m = 7; records = arc_record 0 None (pos 1) ∷ [] }
+
+pub count_listed : answer_of (request.List expr.Stdin resume.Whole) (Ok seven_counted)
+    ≡ Ok (codes "  The graph whose official name is\nboard(1,0,0,0,1,0,0)\n  has 1 vertices and 7 arcs:\n\n0\n")
+unfolding digits numbers_from blocks block arc_line head_text
+count_listed = refl
 
 -- ---- queens, what is seen of an answer, and what reads standard input
 

@@ -1,10 +1,10 @@
 -- Where the answer to a request about a family begins.
-use Rattle.std.proofs.Common.{rules, ◌≡◌, ◌∙◌, ◌+◌, ◌-◌, ◌<◌, ◌≤◌, min, ℕ, suc, List, Bool, true, false, length, map, drop, Option, Some, None, option_map, Result, refl, sym, ap, arith}
+use Rattle.std.proofs.Common.{rules, ◌≡◌, ◌≢◌, ◌∙◌, [], Ok, inl, inr, ◌+◌, ◌-◌, ◌<◌, ◌≤◌, min, ℕ, suc, List, Bool, true, false, length, map, drop, Option, Some, None, option_map, Result, refl, sym, ap, arith}
 use Rattle.std.specs.Bool.{OnTrue, OnFalse}
 use Rattle.std.specs.List.{Contains, slice_get}
 use Rattle.std.specs.Option.{IfSome}
 use Rattle.std.proofs.lemmas.Bool.{cases_lt}
-use Rattle.std.proofs.lemmas.List.{drop_min, length-drop}
+use Rattle.std.proofs.lemmas.List.{drop_all, drop_min, length-drop}
 use Rattle.sgb_vec.specs.Lexicographic.{IsRising}
 use Rattle.sgb_vec.specs.Names.{name_of_vector}
 use Rattle.sgb_graph.specs.Graphs.{GraphData}
@@ -12,6 +12,7 @@ use Rattle.sgb_graph.specs.Made.{graph_described}
 use Rattle.sgb_gen.specs.VectorGraphs.{VectorGraph, described_by, vertex_among}
 use Rattle.sgb_gen.proofs.RisingVectors.{vertex_in_rising}
 use Rattle.sgb_graph.specs.Vertices.{names_of}
+use Rattle.sgb.specs.Certain.{IsPast}
 use Rattle.sgb.specs.Locals.{left_out_after}
 use Rattle.sgb.specs.Outcomes.{left_out}
 use Rattle.sgb.specs.Texts.{blocks}
@@ -62,3 +63,12 @@ pub some_member : {X : Type 0} (r : Option X) (value : X → List ℕ) (start : 
     → option_map value r ≡ start → IfSome start (λ x. Contains members x) → IfSome r (λ x. Contains vectors (value x))
 some_member None value start members vectors same alike is = tt
 some_member (Some x) value start members vectors same alike is = grind (arith)
+
+-- a listing that is resumed after all vertices has no vector left
+pub none_left : (g : VectorGraph) (r : Resume) (k : ℕ) (start after : Option (List ℕ)) → Ok k ≡ left_out (names_of (graph_described (described_by g))) r
+    → drop k g.vectors ≡ drop (left_out_after g.vectors start) g.vectors → after ≡ start → IsPast (names_of (graph_described (described_by g))) r
+    → (r ≢ resume.Whole) × (drop (left_out_after g.vectors after) g.vectors ≡ [])
+none_left g r k start after from alike is (inl nowhere) = absurd (let e = from ∙ nowhere in cc)
+none_left g r k start after from alike is (inr (other, (j, place, enough))) =
+    let same : k ≡ j = let e = from ∙ place in cc in
+    (other, rw is (sym alike ∙ drop_all k g.vectors (omega (arith, same, enough, names_count g))))

@@ -41,6 +41,10 @@ kept_value told kept e is = kept_on (λ stdin. value_of stdin e) (has_stdin e) (
 
 -- ---- answers
 
+-- there is one to each input
+pub some_answer : (r : Request) (input : List ℕ) → (a : Result (List ℕ) Fault) × IsAnswered r input a
+some_answer r input = let (stdin, gives) = stdin_given in (answer_of r (stdin input), (stdin input, gives input, refl))
+
 pub answer_only : (r : Request) (input : List ℕ) (a b : Result (List ℕ) Fault) → IsAnswered r input a → IsAnswered r input b → a ≡ b
 answer_only r input a b is also = grind (arith, stdin_same)
 

@@ -1,5 +1,5 @@
 -- What a request is answered with whatever memory there is.
-use Rattle.std.specs.Prelude.{◌≡◌, ◌⊎◌, ℕ, false, List, Result, Ok, Err}
+use Rattle.std.specs.Prelude.{◌≡◌, ◌≢◌, ◌≤◌, ◌⊎◌, ℕ, false, List, length, Result, Ok, Err}
 use Rattle.sgb_vec.specs.declared.panics.Panic.{Panic}
 use Rattle.sgb_graph.specs.Graphs.{GraphData}
 use Rattle.sgb_gen.specs.Boards.{board}
@@ -14,6 +14,7 @@ use Rattle.sgb_gen.specs.declared.params.Generator.TheVariants as generator
 use Rattle.sgb_requests.specs.declared.requests.Request.{Request}
 use Rattle.sgb_requests.specs.declared.requests.Request.TheVariants as request
 use Rattle.sgb_requests.specs.declared.requests.Resume.{Resume}
+use Rattle.sgb_requests.specs.declared.requests.Resume.TheVariants as resumes
 use Rattle.sgb_requests.specs.declared.faults.Fault.TheVariants as fault
 use Rattle.sgb.specs.Outcomes.{answer_of, left_out, outcome_of}
 use Rattle.sgb.specs.Runs.{IsGiven, Left}
@@ -30,13 +31,19 @@ pub record IsRefusedAtOnce (e : Expression) : Type 0 where
 abbrev pub IsBoard : Expr → Type 0
 IsBoard e = (p : BoardParams) × (e ≡ expr.Generator (generator.Board p))
 
--- an expression is a board, and an answer is to begin after a name that no vertex of it has
+-- an answer is to begin after a name that none of these is, or is resumed after all of them
+abbrev pub IsPast : List (List ℕ) → Resume → Type 0
+IsPast names resume =
+    (left_out names resume ≡ Err fault.NoVertex)
+    ⊎ ((resume ≢ resumes.Whole) × ((k : ℕ) × (left_out names resume ≡ Ok k) × (length names ≤ k)))
+
+-- an expression is a board, and an answer is to begin after a name that no vertex of it has, or after its last vertex
 abbrev pub BeginsNowhere : Expr → Resume → Type 0
 BeginsNowhere e resume = (p : BoardParams) × (e ≡ expr.Generator (generator.Board p))
-    × ((g : GraphData) → made (board p) ≡ Ok g → left_out (names_of g) resume ≡ Err fault.NoVertex)
+    × ((g : GraphData) → made (board p) ≡ Ok g → IsPast (names_of g) resume)
 
 -- answering the request takes no memory: random numbers, the names of a board, what is refused at once, and the listing of a
--- board that is to begin after a name that no vertex has
+-- board that is to begin after a name that no vertex has, or after the last vertex
 abbrev pub NeedsNoMemory : Request → Type 0
 NeedsNoMemory (request.Names e resume) = IsBoard e ⊎ IsRefusedAtOnce (expression_of e)
 NeedsNoMemory (request.List e resume) = BeginsNowhere e resume ⊎ IsRefusedAtOnce (expression_of e)

@@ -27,9 +27,11 @@ pub trait Answer {
     // That writing it takes no memory.
     ghost certain: { Self → Type 0 };
 
-    /// Whether it reads standard input.
+    /// Whether it reads standard input. There is an answer to each input.
     fn reads_input(&self) -> bool
-        ensures { result ≡ reads self.now };
+        ensures read { result ≡ reads self.now }
+        ensures answered { (input : List ℕ) → (a : Result (List ℕ) Fault)
+            × answers self.now input a };
 
     /// Writes the answer where standard input has these bytes, with no flush at its end.
     ///
@@ -62,6 +64,9 @@ pub fn run_answer<A: Answer, R: Source, W: Sink, E: Sink>(
           err = change E.written E.has_failed errors.old errors.new;
           status = result;
         }) }
+    // What is said of each answer is said of one at least.
+    ensures answered { (input : List ℕ) → (a : Result (List ℕ) Fault)
+        × A.answers answer.now input a }
     // Where no input is read and writing takes no memory, the answer is never cut off for want of it.
     ensures certain { A.reads answer.now ≡ false → A.certain answer.now → IsAnswerGiven (A.answers answer.now)
         (record {
@@ -93,6 +98,8 @@ fn give<A: Answer, R: Source, W: Sink>(
         × ((a : Result (List ℕ) Fault) → A.answers answer.now used a
         → IsEndedFrom (A.reads answer.now && R.has_failed source.new) a
         (effect W.written W.has_failed out.old out.new) result) }
+    ensures answered { (input : List ℕ) → (a : Result (List ℕ) Fault)
+        × A.answers answer.now input a }
     ensures certain { A.reads answer.now ≡ false → A.certain answer.now
         → IfErr result (λ f. f ≢ Fault.Panic NoRoom) }
     ensures flushed { OnOk result (W.held out.new ≡ []) }
@@ -114,6 +121,8 @@ fn input_for<A: Answer, R: Source>(
     ensures used { IfOk result (λ bytes.
         AreUsed (A.reads answer.now) (R.remaining source.old) bytes.items) }
     ensures ended { IsReadFrom (A.reads answer.now && R.has_failed source.new) result }
+    ensures answered { (input : List ℕ) → (a : Result (List ℕ) Fault)
+        × A.answers answer.now input a }
     ensures unread { A.reads answer.now ≡ false → source.new ≡ source.old }
     ensures none { A.reads answer.now ≡ false → IsOk result }
     ensures bounded { LosesAtMost (most_input + 1) (R.remaining source.old)

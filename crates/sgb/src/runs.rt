@@ -82,16 +82,23 @@ impl Answer for Request {
     ghost certain = { λ r. NeedsNoMemory r };
 
     fn reads_input(&self) -> bool {
-        match self {
-            Request::Names(expression, _) => expression.has_stdin(),
-            Request::List(expression, _) => expression.has_stdin(),
-            Request::Save(expression) => expression.has_stdin(),
-            Request::Queen | Request::Flip(_) => false,
-        }
+        reads_stdin(self)
     }
 
     fn write<W: Sink>(&self, alloc: Global, input: Vec<u8>, out: &mut W) -> Result<(), Fault> {
         write_answer(alloc, self, input, out)
+    }
+}
+
+// Whether the expression of a request, if it has one, reads standard input.
+fn reads_stdin(request: &Request) -> bool
+    ensures { result ≡ reads_input request.now }
+{
+    match request {
+        Request::Names(expression, _) => expression.has_stdin(),
+        Request::List(expression, _) => expression.has_stdin(),
+        Request::Save(expression) => expression.has_stdin(),
+        Request::Queen | Request::Flip(_) => false,
     }
 }
 

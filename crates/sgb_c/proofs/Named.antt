@@ -66,8 +66,8 @@ module _ (text input : List ℕ) (e : Expr) (read : IsExpressionRead text (Ok e)
 
   pub text_refused : (r : Result OpenGraph Answer) → IfErr r (IsValueRefusal input (expression_of e)) → IfErr r (λ why. IsGraphNamed text input (Err why))
   text_refused (Ok o) refused = refused
-  text_refused (Err why) (p, told, (v, on, inl same)) = inr (p, told, (expression_of e, read.0, read.1, rw same at on))
-  text_refused (Err why) (p, told, (v, on, inr none)) = inl (unread.NoRoom, tt, told ∙ ap answer.Panic none)
+  text_refused (Err why) (p, told, (v, on, inl same)) = inr (inl (p, told, (expression_of e, read.0, read.1, rw same at on)))
+  text_refused (Err why) (p, told, (v, on, inr none)) = inr (inr (told ∙ ap answer.Panic none, (expression_of e, read.0, read.1)))
 
   pub text_first : (r : Result OpenGraph Answer) → ((x : Expression) → IsExpression text x → expression_of e ≡ x) → ((p : Panic) → IsRefusedFirst input (expression_of e) p → r ≡ Err (answer.Panic p))
       → (x : Expression) (p : Panic) → IsExpression text x → (IsTooLarge text → ⊥) → IsRefusedFirst input x p → (r ≡ Err (answer.Panic p)) ⊎ (r ≡ Err (answer.Panic NoRoom))
@@ -110,9 +110,9 @@ module _ {B : Type 0} (shown : B → OpenGraph) (text input : List ℕ) (g : Ope
   boxed_built (Ok b) same built = λ listed. built (subst (λ o. IsListed o) same listed)
   boxed_built (Err why) same built = same
 
-  pub boxed_refused : (r : Result B Answer) → IfErr r (λ why. why ≡ answer.Panic NoRoom) → IfErr r (λ why. IsGraphNamed text input (Err why))
-  boxed_refused (Ok b) none = none
-  boxed_refused (Err why) none = inl (unread.NoRoom, tt, none)
+  pub boxed_refused : (r : Result B Answer) → IfErr r (λ why. why ≡ answer.Panic NoRoom) → IsGraphNamed text input (Ok (graph_open g)) → IfErr r (λ why. IsGraphNamed text input (Err why))
+  boxed_refused (Ok b) none named = none
+  boxed_refused (Err why) none named = inr (inr (none, (named.0, named.1, named.2)))
 
 -- what opening a handle of no graph answers
 pub opened : {T : Type 0} (shown : T → GraphData) (text input : List ℕ) (held : Option T) (new : Option GraphData) (g : GraphData) (number : ℕ) → is_some held ≡ false

@@ -42,10 +42,14 @@ IsTextRefusal text why = (cause : Unread) × IsExpressionRead text (Err cause) �
 abbrev pub IsValueOfText : List ℕ → List ℕ → Result GraphData Panic → Type 0
 IsValueOfText text input value = (e : Expression) × (IsTooLarge text → ⊥) × IsExpression text e × IsValueOn input e value
 
--- the graph that a text names, or why there is none: the text is refused, or its value is a refusal, or memory ran out
+-- the graph that a text names, or why there is none: the text is refused, or its value is a refusal, or memory ran out once it
+-- was read
 abbrev pub IsGraphNamed : List ℕ → List ℕ → Result GraphData Answer → Type 0
 IsGraphNamed text input (Ok g) = IsValueOfText text input (Ok g)
-IsGraphNamed text input (Err why) = IsTextRefusal text why ⊎ ((p : Panic) × (why ≡ answer.Panic p) × IsValueOfText text input (Err p))
+IsGraphNamed text input (Err why) =
+    IsTextRefusal text why
+    ⊎ (((p : Panic) × (why ≡ answer.Panic p) × IsValueOfText text input (Err p))
+    ⊎ ((why ≡ answer.Panic NoRoom) × ((e : Expression) × (IsTooLarge text → ⊥) × IsExpression text e)))
 
 -- nothing that is handed over can be a misfit
 abbrev pub nothing_misfits : GraphData → Answer → Type 0

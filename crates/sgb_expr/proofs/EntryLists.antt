@@ -32,17 +32,17 @@ entry_comes separator rest h = elim (fixed_cases (codes "]") rest) [
 ]
 
 -- the separator or the entry is not there
-pub entries_wrong : (w : Wrong) (list : List EntryExpr) (place : ℕ) (separator rest : List ℕ) (whole : Result (List Entry × List ℕ) ℕ) → ((after : List ℕ) → rest ≢ codes "]" ++ after)
-    → place ≡ length list → separator ≡ separator_before place [] → Fails w (read_after separator (entry_at expression_at) rest)
-    → and_entries (listed list) (separator_before (length list) []) rest ≡ whole → Fails w whole
-entries_wrong (Left left) list place separator rest whole h at before e inv =
+pub entries_wrong : (memory : Type 0) (w : Wrong) (list : List EntryExpr) (place : ℕ) (separator rest : List ℕ) (whole : Result (List Entry × List ℕ) ℕ) → ((after : List ℕ) → rest ≢ codes "]" ++ after)
+    → place ≡ length list → separator ≡ separator_before place [] → Fails memory w (read_after separator (entry_at expression_at) rest)
+    → and_entries (listed list) (separator_before (length list) []) rest ≡ whole → Fails memory w whole
+entries_wrong memory (Left left) list place separator rest whole h at before e inv =
     let same : separator ≡ separator_before (length list) [] = before ∙ ap (λ n. separator_before n []) at in
     sym inv
     ∙ ap (with_first (listed list))
     (entry_comes (separator_before (length list) []) rest h
     ∙ then_stops (fixed_at (separator_before (length list) []) rest) (entry_at expression_at) (λ x. read_as (λ more. x.0 ∷ more) (entries_at expression_at (codes ",")) x.1) left
     (ap (λ s. read_after s (entry_at expression_at) rest) (sym same) ∙ e))
-entries_wrong NoRoom list place separator rest whole h at before e inv = tt
+entries_wrong memory NoRoom list place separator rest whole h at before e inv = e
 
 -- an entry is read after those
 entry_read : (first : List Entry) (entry : Entry) (separator rest begun after : List ℕ) (whole : Result (List Entry × List ℕ) ℕ) → ((after : List ℕ) → rest ≢ codes "]" ++ after)

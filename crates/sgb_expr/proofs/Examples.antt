@@ -6,7 +6,7 @@ use Rattle.std.proofs.lemmas.List.FromFn.{length-map-range_with_len, take-map-ra
 use Rattle.std.proofs.lemmas.List.Sums.{count_by-le-length}
 use Rattle.sgb_gen.specs.Shorthands.{complete, transitive, empty, circuit, cycle, disjoint_subsets, petersen}
 use Rattle.sgb_expr.specs.Expression.{Expression, OnNumbers, OnGraph, OnGraphs, Entry, Entries}
-use Rattle.sgb_expr.specs.Expressions.{IsExpression, IsTooLarge}
+use Rattle.sgb_expr.specs.Expressions.{IsExpression, IsOnGraphs, IsTooLarge, TakesMemory}
 use Rattle.sgb_expr.specs.FlipTexts.{IsFlip}
 use Rattle.sgb_expr.specs.inner.FlipTexts.{whole_flip_at}
 use Rattle.sgb_expr.specs.inner.Names.{generator_openings, openings}
@@ -145,6 +145,17 @@ finds_each : map has_stdin (Expression.Stdin ∷ Expression.OfGraph (OnGraph.Lin
     ∷ Expression.OfNumbers (OnNumbers.Wheel (pos 5) (pos 1) false) ∷ Expression.Induced (Expression.Generated (Subsets petersen)) (Entries.EntryThen (Entry.Number (pos 3)) Entries.NoEntries) false false false ∷ [])
     ≡ true ∷ true ∷ true ∷ true ∷ true ∷ false ∷ false ∷ []
 finds_each = refl
+
+-- texts that take memory, though they are none: with a line graph that is whole, with the `[` of entries
+takes_memory : TakesMemory (codes "lines(petersen(),-7)x") × TakesMemory (codes "induced(stdin,[")
+takes_memory = (
+  ([], codes "lines(petersen(),-7)", codes "x", refl, inr (_, whole_read _ _ reads_lines, tt)),
+  (codes "induced(stdin,", codes "[", [], refl, inl refl),
+)
+
+-- what is no operation on graphs
+on_no_graphs : (IsOnGraphs Expression.Stdin → ⊥) × (IsOnGraphs (Expression.Generated (Subsets petersen)) → ⊥) × (IsOnGraphs (Expression.OfNumbers (OnNumbers.Wheel (pos 5) (pos 1) false)) → ⊥)
+on_no_graphs = (λ h. h, λ h. h, λ h. h)
 
 -- what is asked of the random generator: leading zeros and a sign
 flip_example : whole_flip_at (codes "flip(-3,00,5,07)") ≡ Ok (record { start = negsuc 2; skip = pos 0; count = pos 5; m = pos 7 })

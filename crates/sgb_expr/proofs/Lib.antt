@@ -15,6 +15,8 @@ pub mod EntryReaders
 pub mod Forms
 -- expressions inside expressions: depths of at least the length are alike
 pub mod Nesting
+-- what takes memory in a text
+pub mod TakenMemory
 -- entries read one after another by a loop
 pub mod EntryLists
 -- what expressions of the code that hold entries are

@@ -3,7 +3,7 @@ use Rattle.std.proofs.Common.{◌≡◌, ◌≤◌, ◌<◌, ◌&&◌, ℕ, zero
 use Rattle.std.specs.Cmp.Lexicographic.{pointwise}
 use Rattle.std.proofs.lemmas.Bool.{and_parts, cases_lt}
 use Rattle.sgb_expr.specs.Expression.{Expression}
-use Rattle.sgb_expr.specs.Expressions.{IsNested}
+use Rattle.sgb_expr.specs.Expressions.{IsExpression, IsNested}
 use Rattle.sgb_text.specs.Languages.{As, Then}
 use Rattle.sgb_expr.specs.Names.{name_opening}
 use Rattle.sgb_expr.specs.inner.Names.{all_names, all_generator_names, generator_openings, openings}
@@ -167,6 +167,16 @@ expression_read text =
     ∙ bind_agrees (word_at openings text) (λ x. arguments_with (nested_at (length text)) x.0 x.1) (λ x. arguments_with expression_at x.0 x.1)
     (λ x e. (form_of x.0).agrees (IsNested (length text)) (nested_at (length text)) expression_at (length text) (inside_nested (length text))
     (λ u within. sym (expression_nested (length text) u within)) x.1 (omega (arith, opening_shorter text x.0 x.1 e)))
+
+-- what is left after a name is the end of the text
+pub opening_splits : (text : List ℕ) (name : FormName) (rest : List ℕ) → word_at openings text ≡ Ok (name, rest) → (word : List ℕ) × (text ≡ word ++ rest)
+opening_splits text name rest e = let f = reads_openings.found text name rest e in (f.word, f.whole)
+
+-- what is read as an expression is one, and what is left after it is the end of the text
+pub expression_splits : (text : List ℕ) (e : Expression) (rest : List ℕ) → expression_at text ≡ Ok (e, rest) → (word : List ℕ) × (text ≡ word ++ rest) × IsExpression word e
+expression_splits text e rest h =
+    let f = (reads_nested (length text)).found text e rest (sym (expression_nested (length text) text (omega arith)) ∙ h) in
+    (f.word, f.whole, (length text, f.is))
 
 -- what is left after an expression is no longer than the text
 pub expression_no_longer : (text : List ℕ) (e : Expression) (rest : List ℕ) → expression_at text ≡ Ok (e, rest) → length rest ≤ length text

@@ -1,6 +1,6 @@
 -- The expressions that name a graph, in GraphBase's official names; which texts are too large to be read.
-use Rattle.std.specs.Prelude.{◌≤◌, ◌<◌, ◌+◌, ◌⊎◌, ◌==◌, ℕ, zero, suc, List, length, take, count_by, Result, Ok, Err}
-use Rattle.sgb_expr.specs.Expression.{Expression, Generated, expression_of}
+use Rattle.std.specs.Prelude.{◌≡◌, ◌≤◌, ◌<◌, ◌+◌, ◌⊎◌, ◌==◌, ℕ, zero, suc, List, ◌++◌, length, take, count_by, codes, Result, Ok, Err}
+use Rattle.sgb_expr.specs.Expression.{Expression, Generated, OfGraph, OfGraphs, Induced, expression_of}
 use Rattle.sgb_text.specs.Languages.{After, As, IsLongestPrefixOf, IsNoWord}
 use Rattle.sgb_expr.specs.Forms.{IsGeneratorCall}
 use Rattle.sgb_expr.specs.Operations.{IsCallOf}
@@ -36,6 +36,19 @@ IsTextRead Word memory stands_for text (Err unread.TooLarge) = IsTooLarge text
 IsTextRead Word memory stands_for text (Err (unread.At k)) = (IsTooLarge text → ⊥) × IsNoWord Word text × IsLongestPrefixOf Word text k
 IsTextRead Word memory stands_for text (Err unread.NoRoom) = memory
 
+-- an operation on graphs
+abbrev pub IsOnGraphs : Expression → Type 0
+IsOnGraphs (OfGraph operation e) = Unit {0}
+IsOnGraphs (OfGraphs operation e f) = Unit {0}
+IsOnGraphs (Induced e _ self_loops multi directed) = Unit {0}
+IsOnGraphs _ = ⊥
+
+-- reading the text takes memory: an operation on graphs stands in it as a whole, or the `[` of a list of entries does
+abbrev pub TakesMemory : List ℕ → Type 0
+TakesMemory text =
+    (before part after : List ℕ) × (text ≡ before ++ (part ++ after))
+    × ((part ≡ codes "[") ⊎ ((e : Expression) × IsExpression part e × IsOnGraphs e))
+
 -- the text is read as this expression, or not read for this cause
 abbrev pub IsExpressionRead : List ℕ → Result Expr Unread → Type 0
-IsExpressionRead = IsTextRead IsExpression (Unit {0}) expression_of
+IsExpressionRead text = IsTextRead IsExpression (TakesMemory text) expression_of text

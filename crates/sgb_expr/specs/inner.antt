@@ -7,6 +7,8 @@ pub mod FlipTexts
 pub mod Gives
 -- how large a text may be that is read
 pub mod Measure
+-- where reading may be out of memory
+pub mod Memory
 -- all names, and what each begins with
 pub mod Names
 -- what the steps of reading an operation speak of

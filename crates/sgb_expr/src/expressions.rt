@@ -1,7 +1,7 @@
 //! The expressions that name a graph, and reading them.
 ghost use Rattle.std.specs.Prelude.{◌≡◌, Err, IfOk};
 ghost use Rattle.sgb_expr.specs.Expression.{Expression, expression_of};
-ghost use Rattle.sgb_expr.specs.Expressions.{IsExpression, IsExpressionRead, IsTooLarge};
+ghost use Rattle.sgb_expr.specs.Expressions.{IsExpression, IsExpressionRead, IsTooLarge, TakesMemory};
 ghost use Rattle.sgb_expr.specs.inner.Gives.{Gives};
 ghost use Rattle.sgb_expr.specs.inner.Reading.{whole_at};
 
@@ -82,7 +82,7 @@ pub enum Unread {
     TooLarge,
     /// It is no such text; its longest prefix that begins one has this many bytes.
     At(u32),
-    /// Out of memory.
+    /// Out of memory, which is taken for an operation on graphs that has been read, and for entries.
     NoRoom,
 }
 
@@ -98,7 +98,8 @@ pub enum Unread {
 ///
 /// `TooLarge` before all else where the text has more than 65,536 bytes, or some prefix of it has over 64 more `(`
 /// than `)`. `At(k)` where it is no expression; its first k bytes are its longest prefix that begins one. `NoRoom`
-/// when out of memory.
+/// when out of memory, and only where an operation on graphs stands in the text as a whole, or a `[`: any other text is
+/// read, or refused, whatever memory there is.
 pub fn read_expr(alloc: Global, text: &[u8]) -> Result<Expr, Unread>
     ensures read { IsExpressionRead text.now result }
     ensures only { (e : Expression) → IsExpression text.now e
@@ -117,7 +118,7 @@ pub fn read_expr(alloc: Global, text: &[u8]) -> Result<Expr, Unread>
 
 // The expression that the whole text is, or where it goes wrong.
 fn whole(alloc: Global, text: &[u8]) -> Result<Expr, Wrong>
-    ensures { Gives expression_of result (whole_at text.now) }
+    ensures { Gives (TakesMemory text.now) expression_of result (whole_at text.now) }
 {
     let (expression, rest) = expression(alloc, text)?;
     if rest.is_empty() {

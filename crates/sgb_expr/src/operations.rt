@@ -2,7 +2,9 @@
 ghost use Rattle.std.specs.Prelude.{◌≡◌, IfErr, IfOk, OnOk, [], ◌∷◌, ◌++◌, codes};
 ghost use Rattle.sgb_expr.specs.inner.CodeEntries.{list_of};
 ghost use Rattle.sgb_expr.specs.Expression.{entry_of, expression_of};
+ghost use Rattle.sgb_expr.specs.Expressions.{IsOnGraphs, TakesMemory};
 ghost use Rattle.sgb_expr.specs.inner.Gives.{Finds, Gives};
+ghost use Rattle.sgb_expr.specs.inner.Memory.{MayTake, anything};
 ghost use Rattle.sgb_expr.specs.inner.TwoGraphs.{operands_of};
 ghost use Rattle.sgb_expr.specs.declared.wrong.Wrong.TheVariants.{NoRoom};
 ghost use Rattle.sgb_expr.specs.inner.Operations.{bi_complete_call, gunion_call, induced_call, intersection_call, product_call, wheel_call};
@@ -21,7 +23,8 @@ use std::alloc::Global;
 /// The expression with which the text begins, and the text after it; or where the text goes wrong.
 #[cycle(expressions)]
 pub(crate) fn expression(alloc: Global, text: &[u8]) -> Result<(Expr, &[u8]), Wrong>
-    ensures { Gives (λ x. (expression_of x.0, x.1.now)) result (expression_at text.now) }
+    ensures { Gives (TakesMemory text.now) (λ x. (expression_of x.0, x.1.now)) result
+        (expression_at text.now) }
 {
     let (name, rest) = opening(text)?;
     arguments(alloc, name, rest)
@@ -31,7 +34,8 @@ pub(crate) fn expression(alloc: Global, text: &[u8]) -> Result<(Expr, &[u8]), Wr
 // wrong.
 #[cycle(expressions)]
 fn arguments(alloc: Global, name: FormName, text: &[u8]) -> Result<(Expr, &[u8]), Wrong>
-    ensures { Gives (λ x. (expression_of x.0, x.1.now)) result
+    ensures { Gives (MayTake IsOnGraphs text.now (arguments_with expression_at name text.now))
+        (λ x. (expression_of x.0, x.1.now)) result
         (arguments_with expression_at name text.now) }
 {
     match name {
@@ -63,7 +67,8 @@ fn arguments(alloc: Global, name: FormName, text: &[u8]) -> Result<(Expr, &[u8])
 // The arguments of a complement.
 #[cycle(expressions)]
 fn complement(alloc: Global, text: &[u8]) -> Result<(Expr, &[u8]), Wrong>
-    ensures { Gives (λ x. (expression_of x.0, x.1.now)) result
+    ensures { Gives (MayTake IsOnGraphs text.now (complement_with expression_at text.now))
+        (λ x. (expression_of x.0, x.1.now)) result
         (complement_with expression_at text.now) }
 {
     let (graph, rest) = expression(alloc, text)?;
@@ -80,7 +85,9 @@ fn complement(alloc: Global, text: &[u8]) -> Result<(Expr, &[u8]), Wrong>
 // The arguments of a line graph.
 #[cycle(expressions)]
 fn lines(alloc: Global, text: &[u8]) -> Result<(Expr, &[u8]), Wrong>
-    ensures { Gives (λ x. (expression_of x.0, x.1.now)) result (lines_with expression_at text.now) }
+    ensures { Gives (MayTake IsOnGraphs text.now (lines_with expression_at text.now))
+        (λ x. (expression_of x.0, x.1.now)) result
+        (lines_with expression_at text.now) }
 {
     let (graph, rest) = expression(alloc, text)?;
     let ([directed], rest) = integers::<1>(b",", rest, b")")?;
@@ -102,7 +109,8 @@ struct TwoGraphs {
 // The two graphs and two integers with which the text begins, to a `)`.
 #[cycle(expressions)]
 fn two_graphs(alloc: Global, text: &[u8]) -> Result<(TwoGraphs, &[u8]), Wrong>
-    ensures { Gives (λ x. (operands_of x.0, x.1.now)) result
+    ensures { Gives (MayTake anything text.now (operands_with expression_at text.now))
+        (λ x. (operands_of x.0, x.1.now)) result
         (operands_with expression_at text.now) }
 {
     let (first, rest) = expression(alloc, text)?;
@@ -120,7 +128,8 @@ fn two_graphs(alloc: Global, text: &[u8]) -> Result<(TwoGraphs, &[u8]), Wrong>
 // The arguments of an induced graph.
 #[cycle(expressions)]
 fn induced(alloc: Global, text: &[u8]) -> Result<(Expr, &[u8]), Wrong>
-    ensures { Gives (λ x. (expression_of x.0, x.1.now)) result
+    ensures { Gives (MayTake IsOnGraphs text.now (induced_with expression_at text.now))
+        (λ x. (expression_of x.0, x.1.now)) result
         (induced_with expression_at text.now) }
 {
     let (graph, rest) = expression(alloc, text)?;
@@ -148,7 +157,8 @@ fn induced_graph(graph: Box<Expr>, entries: Entries, numbers: [i64; 3]) -> Expr
 // The entries in brackets with which the text begins.
 #[cycle(expressions)]
 fn entry_list(alloc: Global, text: &[u8]) -> Result<(Entries, &[u8]), Wrong>
-    ensures { Gives (λ x. (list_of x.0, x.1.now)) result (entry_list_at expression_at text.now) }
+    ensures { Gives (TakesMemory text.now) (λ x. (list_of x.0, x.1.now)) result
+        (entry_list_at expression_at text.now) }
 {
     let mut list = Vec::new(alloc);
     let mut rest = fixed(b"[", text)?;
@@ -175,7 +185,8 @@ fn keep(list: &mut Vec<EntryExpr>, one: EntryExpr) -> Result<(), Wrong>
 // The entry with which the text begins: an integer, or else an expression.
 #[cycle(expressions)]
 fn entry(alloc: Global, text: &[u8]) -> Result<(EntryExpr, &[u8]), Wrong>
-    ensures { Gives (λ x. (entry_of x.0, x.1.now)) result (entry_at expression_at text.now) }
+    ensures { Gives (Unit {0}) (λ x. (entry_of x.0, x.1.now)) result
+        (entry_at expression_at text.now) }
 {
     let left = match integer(text) {
         Ok((number, rest)) => return Ok((EntryExpr::Number(number), rest)),

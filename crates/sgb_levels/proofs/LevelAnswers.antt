@@ -9,14 +9,15 @@ use Rattle.sgb_requests.specs.declared.faults.Fault.{Fault}
 use Rattle.sgb_requests.specs.declared.faults.Fault.TheVariants as fault
 use Rattle.sgb_vec.specs.Results.{IsValue}
 use Rattle.sgb_expr.specs.Expression.{Expression}
-use Rattle.sgb_values.specs.Values.{IsValueOn}
-use Rattle.sgb_values.proofs.StdinValues.{value_only}
+use Rattle.sgb_values.specs.Values.{IsValueOn, value_of}
+use Rattle.sgb_values.proofs.StdinValues.{some_on, value_only}
 use Rattle.sgb_levels.specs.Program.{AreLevelsOn}
 use Rattle.sgb.specs.Writing.{Effect, IsEnded, IsWritten}
 use Rattle.sgb.proofs.Endings.{change_of, effect_of, memory_at_once, refused_at_once}
 use Rattle.sgb_vec.proofs.Lists.{range-first, range-none}
 use Rattle.sgb_levels.specs.Distances.{AreDistances, IsDistanceIfAny}
 use Rattle.sgb_levels.specs.Lines.{IsLevelsAnswer, level_line, level_lines}
+use Rattle.sgb_levels.proofs.Searching.{distances_found}
 
 -- the line of a vertex stands before those after it
 pub level_lines-first : (names : List (List ℕ)) (distances : List (Option ℕ)) (v : ℕ) → v < length names
@@ -59,3 +60,26 @@ answer_refused T v p a s w failed (inr is) sound answer = rw is (memory_at_once 
 -- so it is with the value of an expression, of which there is one
 pub answer_on : (input : List ℕ) (e : Expression) (v : Result GraphData Panic) (a : Result (List ℕ) Fault) → IsValueOn input e v → AreLevelsOn input e a → IsLevelsAnswer v a
 answer_on input e v a on (other, is, answer) = subst (λ (x : Result GraphData Panic). IsLevelsAnswer x a) (value_only input e other v is on) answer
+
+-- there is an answer to each value, and to each input
+pub value_answered : (v : Result GraphData Panic) → (a : Result (List ℕ) Fault) × IsLevelsAnswer v a
+value_answered (Ok g) = let (distances, are) = distances_found g in (Ok (level_lines (names_of g) distances 0), (distances, are, refl))
+value_answered (Err p) = (Err (fault.Panic p), refl)
+
+pub input_answered : (e : Expression) (input : List ℕ) → (a : Result (List ℕ) Fault) × AreLevelsOn input e a
+input_answered e input =
+    let (value, on, _) = some_on (λ stdin. value_of stdin e) input in
+    let (a, answer) = value_answered value in
+    (a, (value, on, answer))
+
+-- and only one
+answer_one : (v : Result GraphData Panic) (a b : Result (List ℕ) Fault) → IsLevelsAnswer v a → IsLevelsAnswer v b → a ≡ b
+answer_one (Ok g) (Ok x) (Ok y) (xs, are, is) (ys, also, same) = ap Ok (is ∙ (ap (λ ds. level_lines (names_of g) ds 0) (distances_only g 0 xs ys are also) ∙ sym same))
+answer_one (Ok g) (Err f) b is also = absurd is
+answer_one (Ok g) (Ok x) (Err f) is also = absurd also
+answer_one (Err p) (Ok x) b is also = absurd is
+answer_one (Err p) (Err f) (Ok y) is also = absurd also
+answer_one (Err p) (Err f) (Err h) is also = ap Err (is ∙ sym also)
+
+pub answers_only : (e : Expression) (input : List ℕ) (a b : Result (List ℕ) Fault) → AreLevelsOn input e a → AreLevelsOn input e b → a ≡ b
+answers_only e input a b (v, on, is) also = answer_one v a b is (answer_on input e v b on also)

@@ -1,8 +1,6 @@
 -- What a call of the program leaves, by what its words ask for and how the answer ended.
-use Rattle.std.proofs.Common.{◌≡◌, ◌&&◌, ℕ, List, MatchResult, Result, Ok, Err, subst, inl, inr}
+use Rattle.std.proofs.Common.{◌≡◌, ◌&&◌, ℕ, List, MatchResult, Result, Ok, Err, inl, inr}
 use Rattle.std.specs.declared.io.ErrorKind.{ErrorKind}
-use Rattle.sgb_vec.specs.declared.panics.Panic.{Panic}
-use Rattle.sgb_graph.specs.Graphs.{GraphData}
 use Rattle.sgb_expr.specs.Expression.{Expression, expression_of}
 use Rattle.sgb_expr.specs.StdinUses.{has_stdin}
 use Rattle.sgb_expr.specs.declared.expressions.Expr.{Expr}
@@ -10,9 +8,8 @@ use Rattle.sgb_requests.specs.declared.faults.Fault.{Fault}
 use Rattle.sgb.specs.Program.{unread_fault}
 use Rattle.sgb.specs.Runs.{AreUsed, Input, IsRunFrom, Left}
 use Rattle.sgb.proofs.StdinValues.{kept_value}
-use Rattle.sgb_values.proofs.StdinValues.{value_only}
-use Rattle.sgb_levels.specs.Lines.{IsLevelsAnswer}
 use Rattle.sgb_levels.specs.Program.{AreLevelsOn, AreLevelsWritten, AskFor, IsLevelsRun, IsRefused}
+use Rattle.sgb_levels.proofs.LevelAnswers.{value_answered}
 
 -- the words ask for an expression, and it was answered, or they are refused, and that was reported
 pub levels_ran : {W E S : Type 0} (words : Result W E) (texts : W → List (List ℕ)) (kind : E → ErrorKind) (read : Result Expr Fault) (source : Input) (l : Left S)
@@ -29,4 +26,5 @@ pub levels_written : {S : Type 0} (e : Expression) (source : Input) (kept : List
     → AreLevelsWritten e source l
 levels_written e source kept l is run =
     let (held, told, value, on_held, on_kept) = kept_value source.bytes kept e is in
-    (held, told, λ a (other, on, answer). run a (value, on_kept, subst (λ (v : Result GraphData Panic). IsLevelsAnswer v a) (value_only held e other value on on_held) answer))
+    let (a, answer) = value_answered value in
+    (held, told, a, (value, on_held, answer), run a (value, on_kept, answer))

@@ -1,14 +1,19 @@
 -- A search by levels finds the distances.
-use Rattle.std.proofs.Common.{◌≡◌, take, drop, ℕ, zero, suc, ◌+◌, ◌≤◌, ◌<◌, ◌==◌, true, false, List, [], ◌∷◌, ◌++◌, Option, Some, None, length, get_or, replicate, refl, sym, ap, subst, ◌∙◌, inl, inr, arith}
+use Rattle.std.proofs.Common.{◌≡◌, take, drop, map, ℕ, zero, suc, ◌+◌, ◌≤◌, ◌<◌, ◌==◌, true, false, List, [], ◌∷◌, ◌++◌, Option, Some, None, length, get_or, replicate, refl, sym, ap, subst, ◌∙◌, inl, inr, arith}
 use Rattle.std.proofs.Math.Logic.{⊎_elim}
-use Rattle.std.specs.List.{All, Contains, flat_map}
+use Rattle.std.specs.List.{All, Contains, filter, flat_map, slice_get}
+use Rattle.std.specs.Option.{option_map_or}
+use Rattle.std.proofs.Math.Dec.{ltb}
+use Rattle.std.proofs.lemmas.Bool.{cases_lt, lt-ltb, ltb-true}
 use Rattle.std.proofs.lemmas.Bool.Decides.{Decides-eqb, nat_tests}
 use Rattle.std.proofs.lemmas.List.{get_or-replicate, get_or_past, length-replicate, nil_from_length, take-append-le, take_all}
-use Rattle.std.proofs.lemmas.List.Elements.{All-contains, All-map, Contains-get_or}
-use Rattle.sgb_vec.proofs.Lists.{All-flat_map, Contains-first, Contains-flat_map, Contains-none}
-use Rattle.sgb_graph.specs.Graphs.{GraphData, chain_of}
+use Rattle.std.proofs.lemmas.List.Elements.{All-contains, All-contains_itself, All-filter, All-map, Contains-get_or, filter_passes}
+use Rattle.std.proofs.lemmas.Option.{slice_get_past}
+use Rattle.sgb_vec.proofs.Lists.{All-flat_map, Contains-first, Contains-flat_map, Contains-none, Contains-passing}
+use Rattle.sgb_graph.specs.Graphs.{GraphData, chain_of, links_of}
 use Rattle.sgb_graph.specs.Growth.{IsKept, first_arc}
 use Rattle.sgb_graph.specs.declared.fields.Link.{Link}
+use Rattle.sgb_graph.specs.declared.fields.Vertex.{Vertex}
 use Rattle.sgb_graph.proofs.AddingArcs.{chain_of_vertex}
 use Rattle.sgb_graph.proofs.Growing.{lists_end, parts_of}
 use Rattle.sgb_graph.proofs.Tips.{tips_below}
@@ -30,21 +35,26 @@ arc_from g us v h =
     All-contains (λ x. (u : ℕ) × Contains us u × HasArc g u x) (flat_map (tips_from g) us) v (All-flat_map (λ x. (u : ℕ) × Contains us u × HasArc g u x) (tips_from g) us (λ i d below j e inside.
     (get_or us i d, Contains-get_or us i d below, Contains-get_or (tips_from g (get_or us i d)) j e inside))) h
 
+-- these are vertices to which arcs lead from a level, and all of them
+record AreTips (g : GraphData) (level tips : List ℕ) : Type 0 where
+  from : (v : ℕ) → Contains tips v → (u : ℕ) × Contains level u × HasArc g u v
+  all : (u v : ℕ) → Contains level u → v < length g.vertices → HasArc g u v → Contains tips v
+
 -- one more level
-searched-more : (g : GraphData) (k : ℕ) (found new : List (Option ℕ)) (level next : List ℕ) → IsSearched g k found level
-    → Marking (k + 1) (flat_map (tips_from g) level) (marks found []) (marks new next) → IsSearched g (k + 1) new next
-searched-more g k found new level next old marking = record {
+searched-more : (g : GraphData) (k : ℕ) (found new : List (Option ℕ)) (level next tips : List ℕ) → AreTips g level tips → IsSearched g k found level
+    → Marking (k + 1) tips (marks found []) (marks new next) → IsSearched g (k + 1) new next
+searched-more g k found new level next tips are old marking = record {
   size = marking.size ∙ old.size;
   start = λ some. marking.kept 0 0 (old.start some);
   paths = paths;
   here = λ v h. ⊎_elim (λ none. absurd (Contains-none v none)) (λ is. is) (marking.news v h);
   left = λ v d h. elim (marking.fresh v d h) [
     | inl before ↦ elim (old.left v d before) [
-      | inl has ↦ inr (λ w arc.
-          let (e, is) = marking.reached w (Contains-flat_map (tips_from g) level v w has arc) in
+      | inl has ↦ inr (λ w below arc.
+          let (e, is) = marking.reached w (are.all v w has below arc) in
           let same : d ≡ k = cc (old.here v has) in
           (e, omega (arith, (paths w e is).0, same), is))
-      | inr all ↦ inr (λ w arc. let (e, low, is) = all w arc in (e, low, marking.kept w e is))
+      | inr all ↦ inr (λ w below arc. let (e, low, is) = all w below arc in (e, low, marking.kept w e is))
     ]
     | inr (_, _, has) ↦ inl has
   ];
@@ -54,7 +64,7 @@ searched-more g k found new level next old marking = record {
     paths v d h = elim (marking.fresh v d h) [
       | inl before ↦ let (low, is) = old.paths v d before in (omega arith, is)
       | inr (same, tip, _) ↦
-          let (u, has, arc) = arc_from g level v tip in
+          let (u, has, arc) = are.from v tip in
           let (vs, walk, size, ends) = (old.paths u k (old.here u has)).1 in
           (omega arith, path_on g 0 u v d vs walk (omega arith) ends arc)
     ]
@@ -83,7 +93,8 @@ searched_next g k n lent found new level next kept searched size some lent_is is
     let within = All-flat_map (λ t. t < length g.vertices) (tips_from g) level (λ i d below. tips_within g kept (get_or level i d) (level_within g k found level searched i d below)) in
     let marking : Marking (k + 1) tips (marks found []) (marks new next) = rw is (marking-all (k + 1) (length g.vertices) tips (marks found []) searched.size within) in
     let back : take lent (new ++ drop (length new) found) ≡ new = grind (arith, take-append-le, take_all) in
-    rw back (searched-more g k found new level next searched marking, grind (arith, nat_tests, marking.count))
+    let are : AreTips g level tips = record { from = arc_from g level; all = λ u v has _ arc. Contains-flat_map (tips_from g) level u v has arc } in
+    rw back (searched-more g k found new level next tips are searched marking, grind (arith, nat_tests, marking.count))
 
 -- a list without marks
 unmarked-replicate : (n : ℕ) → unmarked (replicate n None) ≡ n
@@ -129,13 +140,27 @@ pub searched-none : (g : GraphData) (found : List (Option ℕ)) → length g.ver
     → IsSearched g 0 found [] × (unmarked found + length {A = ℕ} [] ≡ length g.vertices)
 searched-none g found empty none = searched_begun g found found [] [] none (λ some. absurd (omega arith)) (λ v h. absurd (Contains-none v h)) refl
 
--- where a level is empty, each walk leads from a vertex that was found to one that was, with as many arcs at least
-walk_found : (g : GraphData) (k : ℕ) (found : List (Option ℕ)) → IsSearched g k found [] → (vs : List ℕ) (u v d j : ℕ) → IsWalk g u vs → end_of u vs ≡ v → d + length vs ≤ j
+-- no arc leads from what is no vertex
+no_arc : (g : GraphData) (u v : ℕ) → length g.vertices ≤ u → HasArc g u v → ⊥
+no_arc g u v past arc =
+    let none : tips_from g u ≡ [] = ap (λ (x : Option Vertex). map (λ l. l.tip) (option_map_or (λ y. links_of g.records y.arcs) x [])) (slice_get_past g.vertices u past) in
+    Contains-none v (subst (λ ts. Contains ts v) none arc)
+
+-- so a walk to a vertex begins at one
+begins_within : (g : GraphData) (u v : ℕ) (vs : List ℕ) → IsWalk g u vs → end_of u vs ≡ v → v < length g.vertices → u < length g.vertices
+begins_within g u v [] walk ends below = omega arith
+begins_within g u v (w ∷ vs) (arc, walk) ends below = elim (cases_lt u (length g.vertices)) [
+  | inl lt ↦ lt
+  | inr ge ↦ absurd (no_arc g u w ge arc)
+]
+
+-- where a level is empty, each walk to a vertex leads from one that was found to one that was, with as many arcs at least
+walk_found : (g : GraphData) (k : ℕ) (found : List (Option ℕ)) → IsSearched g k found [] → (vs : List ℕ) (u v d j : ℕ) → v < length g.vertices → IsWalk g u vs → end_of u vs ≡ v → d + length vs ≤ j
     → IsFoundAt found u d → (e : ℕ) × (e ≤ j) × IsFoundAt found v e
-walk_found g k found searched [] u v d j walk ends size h = (d, omega arith, rw (← ends) h)
-walk_found g k found searched (w ∷ vs) u v d j (arc, walk) ends size h = elim (searched.left u d h) [
+walk_found g k found searched [] u v d j below walk ends size h = (d, omega arith, rw (← ends) h)
+walk_found g k found searched (w ∷ vs) u v d j below (arc, walk) ends size h = elim (searched.left u d h) [
   | inl has ↦ absurd (Contains-none u has)
-  | inr on ↦ let (e, low, is) = on w arc in walk_found g k found searched vs w v e j walk ends (omega arith) is
+  | inr on ↦ let (e, low, is) = on w (begins_within g w v vs walk ends below) arc in walk_found g k found searched vs w v e j below walk ends (omega arith) is
 ]
 
 -- the distances are found
@@ -148,8 +173,59 @@ searched-all g k n found level size empty level_searched = record {
     on_path : (v j : ℕ) → v < length g.vertices → IsPath g 0 v j → (e : ℕ) × (e ≤ j) × IsFoundAt found v e
     on_path v j below (vs, walk, steps, ends) =
         let searched = subst (IsSearched g k found) (nil_from_length level (size ∙ (Decides-eqb n 0).0 empty)) level_searched in
-        walk_found g k found searched vs 0 v 0 j walk ends (omega arith) (searched.start (omega (arith, below)))
+        walk_found g k found searched vs 0 v 0 j below walk ends (omega arith) (searched.start (omega (arith, below)))
 
     each : (v : ℕ) → v < length g.vertices → (o : Option ℕ) → get_or found v None ≡ o → IsDistanceIfAny g 0 v o
     each v below (Some d) is = record { path = (level_searched.paths v d is).1; least = λ j path. grind (arith, on_path v j below path) }
     each v below None is = λ j path. grind (arith, on_path v j below path)
+
+-- ---- there are distances in each graph
+
+-- of these vertices those that the graph has
+abbrev within_graph : GraphData → List ℕ → List ℕ
+within_graph g vs = filter (λ v. ltb v (length g.vertices)) vs
+
+-- the vertices to which arcs lead from a level
+level_tips : GraphData → List ℕ → List ℕ
+level_tips g level = within_graph g (flat_map (tips_from g) level)
+
+tips_are : (g : GraphData) (level : List ℕ) → AreTips g level (level_tips g level)
+unfolding level_tips
+tips_are g level = record {
+  from = λ v tip.
+      let tips = flat_map (tips_from g) level in
+      arc_from g level v (All-contains (Contains tips) (within_graph g tips) v (All-filter (λ w. ltb w (length g.vertices)) (Contains tips) tips (All-contains_itself tips)) tip);
+  all = λ u v has below arc.
+      Contains-passing (λ w. ltb w (length g.vertices)) (flat_map (tips_from g) level) v (lt-ltb v (length g.vertices) below) (Contains-flat_map (tips_from g) level u v has arc);
+}
+
+tips_below_size : (g : GraphData) (level : List ℕ) → All (λ v. v < length g.vertices) (level_tips g level)
+unfolding level_tips
+tips_below_size g level i d below =
+    ltb-true (get_or (level_tips g level) i d) (length g.vertices) (filter_passes (λ v. ltb v (length g.vertices)) (flat_map (tips_from g) level) i d below)
+
+-- a search goes on until a level is empty
+searched_on : (fuel : ℕ) (g : GraphData) (k : ℕ) (found : List (Option ℕ)) (level : List ℕ) → unmarked found + length level ≤ fuel → IsSearched g k found level
+    → (distances : List (Option ℕ)) × AreDistances g 0 distances
+searched_on fuel g k found [] enough searched = (found, searched-all g k 0 found [] refl refl searched)
+searched_on zero g k found (v ∷ level) enough searched = absurd (omega (arith, enough))
+searched_on (suc fuel) g k found (v ∷ level) enough searched =
+    let tips = level_tips g (v ∷ level) in
+    let more = all_marked (k + 1) tips (marks found []) in
+    let marking = marking-all (k + 1) (length g.vertices) tips (marks found []) searched.size (tips_below_size g (v ∷ level)) in
+    searched_on fuel g (k + 1) more.found more.next (omega (arith, enough, marking.count))
+    (searched-more g k found more.found (v ∷ level) more.next tips (tips_are g (v ∷ level)) searched marking)
+
+-- it begins with the first vertex, if there is one
+pub distances_found : (g : GraphData) → (distances : List (Option ℕ)) × AreDistances g 0 distances
+distances_found g = elim (cases_lt 0 (length g.vertices)) [
+  | inl some ↦
+      let none = replicate {A = Option ℕ} (length g.vertices) None in
+      let more = marked 0 0 (marks none []) in
+      let begun = searched-first g none more.found more.next some refl refl in
+      searched_on (length g.vertices) g 0 more.found more.next (omega (arith, begun.1)) begun.0
+  | inr past ↦
+      let none = replicate {A = Option ℕ} (length g.vertices) None in
+      let begun = searched-none g none (omega (arith, past)) refl in
+      searched_on (length g.vertices) g 0 none [] (omega (arith, begun.1)) begun.0
+]

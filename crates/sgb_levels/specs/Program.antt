@@ -40,13 +40,12 @@ IsRefused f l = IsReportedAs (refusal_line f) (status_of f) l
 abbrev pub AreLevelsOn : List ℕ → Expression → Result (List ℕ) Fault → Type 0
 AreLevelsOn input e answer = (value : Result GraphData Panic) × IsValueOn input e value × IsLevelsAnswer value answer
 
--- The distances in this expression's graph were written: standard input holds a text, the one that it tells, and the answer on
--- it was given, or the run was stopped, as runs of `sgb` are.
+-- The distances in this expression's graph were written: standard input holds a text, the one that it tells, there is an answer
+-- on it, and it was given, or the run was stopped, as runs of `sgb` are.
 abbrev pub AreLevelsWritten : {S : Type 0} → Expression → Input → Left S → Type 0
 AreLevelsWritten e source l =
     (held : List ℕ) × IfSome source.bytes (λ bytes. held ≡ bytes)
-    × ((a : Result (List ℕ) Fault) → AreLevelsOn held e a
-    → IsRunFrom (has_stdin e && source.failed) a l)
+    × (a : Result (List ℕ) Fault) × AreLevelsOn held e a × IsRunFrom (has_stdin e && source.failed) a l
 
 -- what these words ask for was done, or their refusal was reported
 abbrev pub IsLevelsRun : {S : Type 0} → List (List ℕ) → Input → Left S → Type 0

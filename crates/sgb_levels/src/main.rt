@@ -4,6 +4,8 @@
 //! `stdout`), and not proved.
 #![tactic(auto)]
 
+// That there are distances and answers, and one of each.
+mod laws;
 // Searches by levels.
 mod levels;
 // A call of the program.

@@ -21,6 +21,10 @@ abbrev pub accepted_middle : ℤ → Result Entry Panic
 accepted_middle (negsuc n1) = Err Bad
 accepted_middle (pos n1) = if nat_lt most_vertices n1 then Err VeryBad else Ok (entry.Copies n1)
 
+-- the rim of a wheel, or why it is refused before memory is taken: for its middle, or else for the rim
+abbrev pub accepted_rim : ℤ → ℤ → Bool → Result Description Panic
+accepted_rim n n1 directed = and_then (accepted_middle n1) (λ middle. board (line n (pos 1) (pos 1) directed))
+
 -- wheel(n, n1, directed): the board of two vertices, with n1 copies of the one, and board(n,0,0,0,1,1,directed) in the
 -- place of the other, which is a circle of n vertices, and where n is not positive the board of 8 by 8; that board's
 -- refusals come before those of the whole

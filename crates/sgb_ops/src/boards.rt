@@ -1,4 +1,5 @@
 //! The two boards that complete bipartite graphs and wheels are made of (GB_BASIC, bi_complete and wheel).
+ghost use Rattle.std.specs.Prelude.{◌≡◌, Err};
 ghost use Rattle.sgb_graph.specs.Descriptions.{IsAnswerOf};
 ghost use Rattle.sgb_gen.specs.Boards.{board};
 ghost use Rattle.sgb_ops.specs.Boards.{pair_of_vertices};
@@ -20,9 +21,10 @@ pub(crate) fn pair_of_vertices(alloc: Global, directed: bool) -> Result<Graph, P
 
 /// The board of `n` vertices in a circle; where `n` is not positive, the board of 8 by 8.
 ///
-/// `VeryBad` above 1,000,000,000 vertices. `NoRoom` when out of memory.
+/// `VeryBad` above 1,000,000,000 vertices, whatever memory there is. `NoRoom` when out of memory.
 pub(crate) fn rim_of_wheel(alloc: Global, n: i64, directed: bool) -> Result<Graph, Panic>
-    ensures { IsAnswerOf (board (rim_of_wheel n directed)) result }
+    ensures answer { IsAnswerOf (board (rim_of_wheel n directed)) result }
+    ensures refused { (e : Panic) → board (rim_of_wheel n directed) ≡ Err e → result ≡ Err e }
 {
     board(alloc, n, 0, 0, 0, 1, 1, directed)
 }

@@ -2,7 +2,9 @@
 ghost use Rattle.std.specs.Prelude.{◌≡◌, [], ◌∷◌, Ok, Err, IfOk, IfErr, IsOkUnless};
 ghost use Rattle.sgb_graph.specs.Descriptions.{IsAnswerOf};
 ghost use Rattle.sgb_ops.specs.declared.induced_graphs.entries.Entry.TheVariants as entry;
-ghost use Rattle.sgb_ops.specs.Wheel.{accepted_middle, wheel_of};
+ghost use Rattle.sgb_gen.specs.Boards.{board};
+ghost use Rattle.sgb_ops.specs.Wheel.{accepted_middle, accepted_rim, wheel_of};
+ghost use Rattle.sgb_ops.specs.inner.Boards.{rim_of_wheel};
 
 use crate::boards::{pair_of_vertices, rim_of_wheel};
 use crate::compounds::numbers_id;
@@ -16,11 +18,11 @@ use std::alloc::Global;
 /// middle is joined to each of the rim, with arcs from the middle where `directed` and edges where not. Where `n` is not
 /// positive, the rim is the board of 8 by 8. The id is `wheel(n,n1,directed)`.
 ///
-/// `Bad` where `n1` is negative; else `VeryBad` where it is above 1,000,000,000, both whatever memory there is; else where
-/// `n` is, or where they make more than 1,000,000,000 vertices. `NoRoom` when out of memory.
+/// `Bad` where `n1` is negative; else `VeryBad` where it is above 1,000,000,000; else where `n` is, all whatever memory
+/// there is; or where they make more than 1,000,000,000 vertices. `NoRoom` when out of memory.
 pub fn wheel(alloc: Global, n: i64, n1: i64, directed: bool) -> Result<Graph, Panic>
     ensures answer { IsAnswerOf (wheel_of n n1 directed) result }
-    ensures refused { (e : Panic) → accepted_middle n1 ≡ Err e → result ≡ Err e }
+    ensures refused { (e : Panic) → accepted_rim n n1 directed ≡ Err e → result ≡ Err e }
 {
     let middle = accepted_middle(n1)?;
     wheel_around(alloc, n, n1, middle, directed)
@@ -35,7 +37,8 @@ fn wheel_around(
     directed: bool,
 ) -> Result<Graph, Panic>
     requires { accepted_middle n1 ≡ Ok middle }
-    ensures { IsAnswerOf (wheel_of n n1 directed) result }
+    ensures answer { IsAnswerOf (wheel_of n n1 directed) result }
+    ensures refused { (e : Panic) → board (rim_of_wheel n directed) ≡ Err e → result ≡ Err e }
 {
     let rim = rim_of_wheel(alloc, n, directed)?;
     let entries = entries(alloc, middle, rim)?;

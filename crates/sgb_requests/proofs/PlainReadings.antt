@@ -1,14 +1,13 @@
 -- What words are read as, where it is known what they ask.
-use Rattle.std.proofs.Common.{◌≡◌, ◌∙◌, ◌↔◌, true≢false, false, List, None, Result, Ok, Err, inl, inr, refl, sym, ap, subst, codes, rules, arith}
+use Rattle.std.proofs.Common.{◌≡◌, ◌⊎◌, ◌∙◌, ◌↔◌, true≢false, false, List, None, Result, Ok, Err, inl, inr, refl, sym, ap, subst, codes, rules, arith}
 use Rattle.std.specs.Str.{bytes_eq}
 use Rattle.std.proofs.lemmas.Slice.Eq.{bytes_eq-Decides}
 use Rattle.clap.specs.Words.{Row, Text, first_of}
 use Rattle.sgb_requests.specs.CommandLine.{Asks, Enters}
 use Rattle.sgb_expr.specs.Expressions.{IsExpressionRead}
-use Rattle.sgb_expr.specs.declared.expressions.Unread.TheVariants as unread
 use Rattle.sgb_requests.specs.PlainWords.{IsFlipReadBy, IsQueenRead, IsReadBy}
 use Rattle.sgb_requests.specs.Reading.{IsFlipReadAs, IsReadAs}
-use Rattle.sgb_requests.specs.Requests.{IsAskedOf, IsCommandLineReadAs, IsInvalidCommandLine, IsRequest, IsResumeOf}
+use Rattle.sgb_requests.specs.Requests.{IsAskedOf, IsCommandLineReadAs, IsInvalidCommandLine, IsRefusedCommandLine, IsRequest, IsResumeOf}
 use Rattle.sgb_vec.specs.declared.panics.Panic.TheVariants.{NoRoom}
 use Rattle.sgb_expr.specs.declared.expressions.Expr.{Expr}
 use Rattle.sgb_requests.specs.declared.faults.Fault.{Fault}
@@ -51,6 +50,11 @@ faults_there : (words : List Text) (P : Fault → Type 0) → (IsInvalidCommandL
     → (f : Fault) → IsCommandLineReadAs words (Err f) → P f
 faults_there words P valid by_text no_room fault.Usage h = absurd (valid h)
 faults_there words P valid by_text no_room f h = search (rules)
+
+-- where the text is refused, or memory ran out before it was read, the words are refused
+text_refused : (words : List Text) (text : Text) → ((f : Fault) → IsReadAs text (Err f) → IsRefusedWithText words f) → (f : Fault) → IsReadAs text (Err f) ⊎ (f ≡ fault.Panic NoRoom) → IsRefusedCommandLine words f
+text_refused words text given f (inl h) = faults_here words (IsExpressionRead text) given f h
+text_refused words text given f (inr none) = subst (IsRefusedCommandLine words) (sym none) refl
 
 -- ---- a command with its expression
 
@@ -95,8 +99,8 @@ module _ (words : List Text) (name text : Text) (rows : List Row) (asks : Asks w
       → ((f : Fault) → IsAskedOf words name resume (Err f) → IsRefusedWithText words f) → (result : Result Request Fault) → IsCommandLineReadAs words result ↔ IsReadBy make text result
   options_read make there here refused (Ok r) = (there r, λ h. subst (IsRequest words) (sym h.2) (here h.0 (rows, text, asks, begins, h.1)))
   options_read make there here refused (Err f) = (
-    faults_there words (λ f. IsReadAs text (Err f)) (valid words name text rows asks resume begins) refused_same (unread.NoRoom, tt, refl) f,
-    faults_here words (IsExpressionRead text) (λ f h. refused f (rows, text, asks, begins, h)) f,
+    faults_there words (λ f. IsReadBy make text (Err f)) (valid words name text rows asks resume begins) (λ f h. inl (refused_same f h)) (inr refl) f,
+    text_refused words text (λ f h. refused f (rows, text, asks, begins, h)) f,
   )
 
 -- `names` and `list`
@@ -142,8 +146,8 @@ module _ (words : List Text) (text : Text) (so : AsksSo words (codes "save") tex
   pub save_read : (result : Result Request Fault) → IsCommandLineReadAs words result ↔ IsReadBy (λ e. request.Save e) text result
   save_read (Ok r) = (save_there r, λ h. subst (IsRequest words) (sym h.2) (so.rows, text, so.asks, h.1))
   save_read (Err f) = (
-    faults_there words (λ f. IsReadAs text (Err f)) (valid words (codes "save") text so.rows so.asks Whole so.begins) save_text (unread.NoRoom, tt, refl) f,
-    faults_here words (IsExpressionRead text) (λ f h. inr (inl (so.rows, text, so.asks, h))) f,
+    faults_there words (λ f. IsReadBy (λ e. request.Save e) text (Err f)) (valid words (codes "save") text so.rows so.asks Whole so.begins) (λ f h. inl (save_text f h)) (inr refl) f,
+    text_refused words text (λ f h. inr (inl (so.rows, text, so.asks, h))) f,
   )
 
 -- `flip`

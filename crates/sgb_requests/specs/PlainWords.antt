@@ -25,12 +25,12 @@ AreOptions words (After name) = IsPlain name × (words ≡ codes "--after" ∷ n
 AreOptions words (Skip k) = (count : List ℕ) × IsNumber 10 most_digits count k × (words ≡ codes "--skip" ∷ count ∷ [])
 
 -- what the words are read as, where one of them is the text of an expression: the request that is made of that expression,
--- or the refusal of the text
+-- or the refusal of the text; out of memory words are refused before it is read
 abbrev pub IsReadBy : (Expr → Request) → List ℕ → Result Request Fault → Type 0
 IsReadBy make text (Ok r) = (e : Expr) × IsReadAs text (Ok e) × (r ≡ make e)
-IsReadBy make text (Err f) = IsReadAs text (Err f)
+IsReadBy make text (Err f) = IsReadAs text (Err f) ⊎ (f ≡ fault.Panic NoRoom)
 
--- the same of the text of a flip; out of memory words are refused before it is read
+-- the same of the text of a flip
 abbrev pub IsFlipReadBy : List ℕ → Result Request Fault → Type 0
 IsFlipReadBy text (Ok r) = (p : FlipParams) × IsFlipReadAs text (Ok p) × (r ≡ request.Flip p)
 IsFlipReadBy text (Err f) = IsFlipReadAs text (Err f) ⊎ (f ≡ fault.Panic NoRoom)

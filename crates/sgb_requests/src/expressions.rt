@@ -31,7 +31,8 @@ impl From<Unread> for Fault {
 ///
 /// `TooLarge` before all else, whatever memory there is, where the text has more than 65,536 bytes, or some prefix of it
 /// has over 64 more `(` than `)`. `Expr(k)` where it is no expression; its first k bytes are its longest prefix that
-/// begins one. `Panic(NoRoom)` when out of memory.
+/// begins one. `Panic(NoRoom)` when out of memory, and only where an operation on graphs stands in the text as a whole, or
+/// a `[`.
 pub fn parse_expr(alloc: Global, text: &[u8]) -> Result<Expr, Fault>
     ensures read { IsReadAs text.now result }
     ensures only { (e : Expression) → IsExpression text.now e

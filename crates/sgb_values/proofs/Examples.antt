@@ -61,7 +61,9 @@ pub refused_at_once :
     IsRefusedFirst [] (OfGraph (Lines false) negative) Bad × IsRefusedFirst [] (Induced negative NoEntries false false false) Bad
     × IsRefusedFirst [] (OfGraphs (Gunion false false) negative too_great) Bad
     × IsRefusedFirst [] (OfNumbers (BiComplete (pos 1) (negsuc 0) false)) Bad × IsRefusedFirst [] (OfNumbers (Wheel (pos 3) (negsuc 0) false)) Bad
-refused_at_once = (refl, refl, refl, refl, refl)
+    × IsRefusedFirst [] (OfNumbers (Wheel (pos 1_000_000_001) (negsuc 0) false)) Bad × IsRefusedFirst [] (OfNumbers (Wheel (pos 1_000_000_001) (pos 1) false)) VeryBad
+unfolding repeated
+refused_at_once = (refl, refl, refl, refl, refl, refl, refl)
 
 -- entries: each is a number or a graph; the first refusal among them
 pub entries_valued :

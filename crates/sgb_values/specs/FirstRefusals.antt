@@ -5,7 +5,7 @@ use Rattle.sgb_vec.specs.declared.panics.Panic.TheVariants.{Early, Syntax}
 use Rattle.sgb_file.specs.Refused.{HasNoOpening}
 use Rattle.sgb_gen.specs.Generators.{IsGeneratorRefused}
 use Rattle.sgb_ops.specs.BiComplete.{accepted_parts}
-use Rattle.sgb_ops.specs.Wheel.{accepted_middle}
+use Rattle.sgb_ops.specs.Wheel.{accepted_rim}
 use Rattle.sgb_expr.specs.Expression.{Expression, Generated, OfNumbers, OfGraph, OfGraphs, Induced, Stdin, OnNumbers, BiComplete, Wheel}
 use Rattle.sgb_values.specs.Values.{most_input}
 
@@ -18,7 +18,7 @@ IsInputRefused input code =
 -- an operation on numbers is refused with this code for what they are, before memory is taken
 abbrev pub AreNumbersRefused : OnNumbers → Panic → Type 0
 AreNumbersRefused (BiComplete n1 n2 directed) code = accepted_parts n1 n2 ≡ Err code
-AreNumbersRefused (Wheel n n1 directed) code = accepted_middle n1 ≡ Err code
+AreNumbersRefused (Wheel n n1 directed) code = accepted_rim n n1 directed ≡ Err code
 
 -- an expression is refused with this code before memory is taken, where this is standard input: its operand that is made first
 -- is, or it has none, and its own numbers are

@@ -7,7 +7,7 @@
 //!
 //! What puts the line of an arc together is inlined in one place (`push_arc`): a simplex takes a twentieth less time
 //! so.
-ghost use Rattle.std.specs.Prelude.{◌≡◌, ◌≢◌, ◌≤◌, ◌+◌, [], ◌++◌, false, pos, length, option_map, reverse, Contains, Err, IfErr, IfSome, IsOkUnless, OnOk};
+ghost use Rattle.std.specs.Prelude.{◌≡◌, ◌≢◌, ◌≤◌, ◌+◌, [], ◌++◌, false, pos, drop, length, option_map, reverse, Contains, IfErr, IfSome, IsOk, IsOkUnless, OnOk};
 ghost use Rattle.std.specs.List.{flat_map};
 ghost use Rattle.sgb_file.specs.Devices.{change};
 ghost use Rattle.sgb_vec.specs.Limits.{most_dimensions};
@@ -25,10 +25,12 @@ ghost use Rattle.sgb.specs.inner.Remaining.{IsRest};
 ghost use Rattle.sgb.specs.inner.Texts.{most_line_bytes};
 ghost use Rattle.sgb.specs.Texts.{head, name_line};
 ghost use Rattle.sgb_gen.specs.Generators.{described};
-ghost use Rattle.sgb.specs.Outcomes.{left_out, list_answer};
+ghost use Rattle.sgb.specs.Certain.{IsPast};
+ghost use Rattle.sgb.specs.Outcomes.{list_answer};
+ghost use Rattle.sgb_vec.specs.declared.panics.Panic.TheVariants.{NoRoom};
 ghost use Rattle.sgb.specs.Writing.{IsEnded, IsLeftOrBegun, IsWritten, effect};
 // For the search alone.
-ghost use Rattle.std.specs.Prelude.{drop, IfOk};
+ghost use Rattle.std.specs.Prelude.{IfOk};
 
 use super::arc_lines::{begin_arc, end_counted_arc};
 use super::kept_names::KeptName;
@@ -117,8 +119,8 @@ impl<'l, W: Sink> Visitor<W> for ListAnswer<'l> {
     ghost gives = { λ v g old new result.
         IsEnded (list_answer (graph_described (described_by g)) v.resume.now)
         (effect W.written W.has_failed old new) result
-        × (left_out (names_of (graph_described (described_by g))) v.resume.now ≡ Err fault.NoVertex
-        → result ≡ Err fault.NoVertex) };
+        × (IsPast (names_of (graph_described (described_by g))) v.resume.now
+        → IfErr result (λ f. f ≢ fault.Panic NoRoom)) };
 }
 
 impl<'a, 'l, L: Listed<'a>, W: Sink> Visit<'a, L, W> for ListAnswer<'l> {
@@ -152,6 +154,10 @@ fn list_vectors<'a, L: Listed<'a>, W: Sink>(
     ensures head { IfErr result (λ f. f ≢ Fault.Write → IsLeftOrBegun
         (head_if head (graph_described (described_by (L.graph listed.old))))
         (effect W.written W.has_failed out.old out.new)) }
+    // Where there is no head and no vector is left no memory is taken.
+    ensures end { head ≡ false → drop (left_out_after (L.graph listed.old).vectors
+        (option_map (λ x. x.now) after.entry)) (L.graph listed.old).vectors ≡ []
+        → IfErr result (λ f. f ≢ Fault.Panic NoRoom) }
 {
     let vectors = vectors_after(listed.family(), after);
     let mut page = Page::new();
@@ -172,6 +178,7 @@ fn push_head_if<'a, L: Listed<'a>>(
     ensures text { OnOk result (page.new ≡ page.old
         ++ head_if asked (graph_described (described_by (L.graph listed.now)))) }
     ensures memory { IsOkUnless result Panic.NoRoom }
+    ensures none { asked ≡ false → IsOk result }
 {
     if !asked {
         return Ok(());
@@ -202,8 +209,9 @@ fn write_blocks<'a, L: Listed<'a>, W: Sink>(
     requires rest { IsRest (L.graph listed.old).vectors vectors }
     requires empty { page.old ≡ [] }
     requires sound { W.has_failed out.old ≡ false }
-    ensures { IsWritten (flat_map (local_block (L.graph listed.old)) vectors.entry)
+    ensures written { IsWritten (flat_map (local_block (L.graph listed.old)) vectors.entry)
         (change W.written W.has_failed out.old out.new) result }
+    ensures end { vectors.entry ≡ [] → IfErr result (λ f. f ≢ Fault.Panic NoRoom) }
 {
     let mut name = KeptName::new();
     let mut left = vectors;

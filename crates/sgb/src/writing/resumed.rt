@@ -2,7 +2,7 @@
 //!
 //! A name, or a number of vertices, is turned into the vector after which an answer begins (`start_of`, for names and
 //! for listings). So what `list_family` promises speaks of the graph alone.
-ghost use Rattle.std.specs.Prelude.{◌≡◌, drop, map, option_map, Contains, Err, IfSome};
+ghost use Rattle.std.specs.Prelude.{◌≡◌, ◌≢◌, false, drop, map, option_map, Contains, Err, IfSome};
 ghost use Rattle.std.specs.Result.{MatchResult};
 ghost use Rattle.sgb_graph.specs.Graphs.{GraphData};
 ghost use Rattle.sgb_vec.specs.Names.{name_of_vector};
@@ -16,7 +16,8 @@ use sgb_vec::{Family, Vector, Vectors, vector_of};
 
 /// Whether the answer has a head: where it is not resumed.
 pub(super) fn has_head(resume: &Resume) -> bool
-    ensures { (g : GraphData) → head_if result g ≡ head_for resume.now (head g) }
+    ensures head { (g : GraphData) → head_if result g ≡ head_for resume.now (head g) }
+    ensures resumed { resume.now ≢ Resume.Whole → result ≡ false }
 {
     match resume {
         Resume::Whole => true,

@@ -9,12 +9,12 @@ abbrev pub Finds : {X Y : Type 0} → (X → Y) → Result X Mismatch → Result
 Finds view (Ok x) read = read ≡ Ok (view x)
 Finds view (Err e) read = read ≡ Err e.left
 
--- reading stops here, or the memory ran out
-abbrev pub Fails : {Y : Type 0} → Wrong → Result Y ℕ → Type 0
-Fails (Left left) read = read ≡ Err left
-Fails NoRoom read = Unit {0}
+-- reading stops here, or the memory ran out, which it does only where this holds
+abbrev pub Fails : {Y : Type 0} → (memory : Type 0) → Wrong → Result Y ℕ → Type 0
+Fails memory (Left left) read = read ≡ Err left
+Fails memory NoRoom read = memory
 
--- the result, seen by view, is what reading gives, unless the memory ran out
-abbrev pub Gives : {X Y : Type 0} → (X → Y) → Result X Wrong → Result Y ℕ → Type 0
-Gives view (Ok x) read = read ≡ Ok (view x)
-Gives view (Err e) read = Fails e read
+-- the result, seen by view, is what reading gives, unless the memory ran out, which it does only where this holds
+abbrev pub Gives : {X Y : Type 0} → (memory : Type 0) → (X → Y) → Result X Wrong → Result Y ℕ → Type 0
+Gives memory view (Ok x) read = read ≡ Ok (view x)
+Gives memory view (Err e) read = Fails memory e read

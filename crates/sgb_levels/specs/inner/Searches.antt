@@ -8,9 +8,9 @@ use Rattle.sgb_levels.specs.Distances.{HasArc, IsPath}
 abbrev pub IsFoundAt : List (Option ℕ) → ℕ → ℕ → Type 0
 IsFoundAt found v d = slice_index_or found v None ≡ Some d
 
--- each arc from u leads to a vertex that was found, at the distance d + 1 at most
+-- each vertex to which an arc leads from u was found, at the distance d + 1 at most
 abbrev pub IsLeft : GraphData → List (Option ℕ) → ℕ → ℕ → Type 0
-IsLeft g found u d = (v : ℕ) → HasArc g u v → (e : ℕ) × (e ≤ d + 1) × IsFoundAt found v e
+IsLeft g found u d = (v : ℕ) → v < length g.vertices → HasArc g u v → (e : ℕ) × (e ≤ d + 1) × IsFoundAt found v e
 
 -- found are vertices up to the distance k from vertex 0, those of the level at that distance; the others were left
 pub record IsSearched (g : GraphData) (k : ℕ) (found : List (Option ℕ)) (level : List ℕ) : Type 0 where

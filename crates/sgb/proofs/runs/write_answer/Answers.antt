@@ -29,3 +29,6 @@ returns-in-Queen-clause-ended g c = search (rules, answer_from, value_of, queen_
 
 pub returns-in-Flip-clause-ended : goal.returns-in-Flip-clause-ended
 returns-in-Flip-clause-ended g c = search (rules, flip_answer, plain_answered, answer_of)
+
+pub returns-in-List-clause-certain : goal.returns-in-List-clause-certain
+returns-in-List-clause-certain g c = λ needs. c.answer_list.ensures.certain (rw c.in-List.is at needs)

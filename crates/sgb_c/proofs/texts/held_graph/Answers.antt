@@ -8,7 +8,7 @@ pub returns-in-Ok-clause-built : goal.returns-in-Ok-clause-built
 returns-in-Ok-clause-built c = boxed_built (λ h. h.value.graph) c.args.text.now c.args.input.now c.in-Ok.graph c.boxed.result c.boxed.ensures.graph c.in-Ok.ensures.built
 
 pub returns-in-Ok-clause-refused : goal.returns-in-Ok-clause-refused
-returns-in-Ok-clause-refused c = boxed_refused (λ h. h.value.graph) c.args.text.now c.args.input.now c.in-Ok.graph c.boxed.result c.boxed.ensures.memory
+returns-in-Ok-clause-refused c = boxed_refused (λ h. h.value.graph) c.args.text.now c.args.input.now c.in-Ok.graph c.boxed.result c.boxed.ensures.memory c.in-Ok.ensures.named
 
 pub returns-in-Ok-clause-first : goal.returns-in-Ok-clause-first
 returns-in-Ok-clause-first c = λ e p is small first. not_refused c.in-Ok.graph _ _ (c.in-Ok.ensures.first e p is small first)

@@ -1,5 +1,6 @@
 use Rattle.std.proofs.Common.{sym, ◌∙◌, subst}
 use Rattle.sgb_expr.specs.Expression.{expression_of}
+use Rattle.sgb_expr.specs.Expressions.{TakesMemory}
 use Rattle.sgb_expr.specs.inner.Gives.{Fails}
 use Rattle.sgb_expr.specs.inner.Reading.{whole_at}
 use Rattle.sgb_expr.specs.declared.wrong.Wrong.{Wrong}
@@ -9,7 +10,7 @@ use Rattle.sgb_expr.proofs.expressions.read_expr.Goals as goal
 
 pub overflow_sub-result : goal.overflow_sub-result
 overflow_sub-result c =
-    let stops = subst (λ (w : Wrong). Fails w (whole_at c.args.text.now)) c.in-Err-Left.field-0-is c.in-Err-Left.ensures in
+    let stops = subst (λ (w : Wrong). Fails (TakesMemory c.args.text.now) w (whole_at c.args.text.now)) c.in-Err-Left.field-0-is c.in-Err-Left.ensures in
     (whole_wrong c.args.text.now c.in-Err-Left.left stops).within
 
 pub returns-in-Ok-clause-read : goal.returns-in-Ok-clause-read
@@ -21,6 +22,6 @@ returns-in-Ok-clause-only c = λ e is. ok_same (expression_of c.in-Ok.expression
 
 pub returns-in-Err-Left-clause-read : goal.returns-in-Err-Left-clause-read
 returns-in-Err-Left-clause-read c =
-    let stops = subst (λ (w : Wrong). Fails w (whole_at c.args.text.now)) c.in-Err-Left.field-0-is c.in-Err-Left.ensures in
+    let stops = subst (λ (w : Wrong). Fails (TakesMemory c.args.text.now) w (whole_at c.args.text.now)) c.in-Err-Left.field-0-is c.in-Err-Left.ensures in
     let wrong = whole_wrong c.args.text.now c.in-Err-Left.left stops in
     ((λ h. let t = c.is_too_large.ensures.1 h in cc (t, c.if-is_too_large.false)), wrong.none, wrong.longest)

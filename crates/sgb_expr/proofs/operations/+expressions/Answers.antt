@@ -4,6 +4,7 @@ use Rattle.std.proofs.lemmas.Bool.Decides.{Decides-eqb}
 use Rattle.std.proofs.lemmas.Result.{err_from_is_err_and}
 use Rattle.sgb_expr.specs.Listed.{listed}
 use Rattle.sgb_expr.specs.Expression.{entry_of, expression_of}
+use Rattle.sgb_expr.specs.Expressions.{TakesMemory}
 use Rattle.sgb_expr.specs.declared.entries.EntryExpr.{EntryExpr}
 use Rattle.sgb_expr.specs.inner.Reading.{entry_at, expression_at}
 use Rattle.sgb_expr.specs.inner.Gives.{Fails}
@@ -12,7 +13,8 @@ use Rattle.sgb_text.proofs.Readers.{bind_of, bind_stops}
 use Rattle.sgb_expr.proofs.EntryLists.{entries_end, entries_wrong, entry_kept, separator_counts}
 use Rattle.sgb_expr.proofs.EntryReaders.{entry_no_longer}
 use Rattle.sgb_text.proofs.Lengths.{fixed_takes}
-use Rattle.sgb_expr.proofs.Nesting.{expression_no_longer, name_read, name_wrong, opening_shorter}
+use Rattle.sgb_expr.proofs.Nesting.{expression_no_longer, name_wrong, opening_shorter}
+use Rattle.sgb_expr.proofs.TakenMemory.{entries_fail, fails_there, name_gives, second_fails, taken_bracket}
 use Rattle.sgb_expr.proofs.operations.+expressions.Goals as goal
 
 pub expression-returns-in_err-name : goal.expression-returns-in_err-name
@@ -27,13 +29,23 @@ expression-arguments-requires t c =
 
 pub expression-returns : goal.expression-returns
 expression-returns t c =
-    rw (name_read c.args.text.now c.in_ok-name.name c.in_ok-name.rest.now c.in_ok-name.ensures) c.arguments.ensures
+    name_gives (λ x. (expression_of x.0, x.1.now)) c.args.text.now c.in_ok-name.name c.in_ok-name.rest.now c.arguments.result c.in_ok-name.ensures c.arguments.ensures
 
 pub two_graphs-expression-requires-2 : goal.two_graphs-expression-requires-2
 two_graphs-expression-requires-2 t c =
     let first = expression_no_longer c.args.text.now (expression_of c.in_ok-first.first) c.in_ok-first.rest.now c.in_ok-first.ensures in
     let comma = fixed_takes (codes ",") c.in_ok-first.rest.now c.in_ok-begun.begun.now c.in_ok-begun.ensures in
     (omega (arith, first, comma, c.decreases), tt)
+
+pub two_graphs-returns-in_err-second : goal.two_graphs-returns-in_err-second
+two_graphs-returns-in_err-second t c =
+    let p = err_from_is_err_and c.from_residual-in_err-second.result c.from_residual-in_err-second.ensures.1 in
+    rw (p.1, p.2) (second_fails _ c.args.text.now _ _ _ c.in_ok-first.ensures c.in_ok-begun.ensures c.in_err-second.ensures)
+
+pub induced-returns-in_err-entries : goal.induced-returns-in_err-entries
+induced-returns-in_err-entries t c =
+    let p = err_from_is_err_and c.from_residual-in_err-entries.result c.from_residual-in_err-entries.ensures.1 in
+    rw (p.1, p.2) (entries_fail _ c.args.text.now _ _ _ c.in_ok-graph.ensures c.in_ok-begun.ensures c.in_err-entries.ensures)
 
 pub induced-entry_list-requires : goal.induced-entry_list-requires
 induced-entry_list-requires t c =
@@ -51,15 +63,22 @@ pub entry_list-returns-in_err-begun : goal.entry_list-returns-in_err-begun
 entry_list-returns-in_err-begun t c =
     let p = err_from_is_err_and c.from_residual-in_err-begun.result c.from_residual-in_err-begun.ensures.1 in
     let none = strip_prefix_is Decides-eqb c.entries.rest.now (codes "]") None c.in_default.ensures.cases in
-    rw (p.1, p.2) (entries_wrong (Left _) c.entries.list.items _ c.separator_before.result.now c.entries.rest.now _ none (search rules) c.separator_before.ensures
+    rw (p.1, p.2) (entries_wrong (TakesMemory c.args.text.now) (Left _) c.entries.list.items _ c.separator_before.result.now c.entries.rest.now _ none (search rules) c.separator_before.ensures
     (bind_stops _ (entry_at expression_at) _ c.in_err-begun.ensures) c.entries.invariant.read)
 
 pub entry_list-returns-in_err-one : goal.entry_list-returns-in_err-one
 entry_list-returns-in_err-one t c =
     let p = err_from_is_err_and c.from_residual-in_err-one.result c.from_residual-in_err-one.ensures.1 in
     let none = strip_prefix_is Decides-eqb c.entries.rest.now (codes "]") None c.in_default.ensures.cases in
-    rw (p.1, p.2) (entries_wrong _ c.entries.list.items _ c.separator_before.result.now c.entries.rest.now _ none (search rules) c.separator_before.ensures
-    (subst (Fails _) (sym (bind_of _ (entry_at expression_at) _ c.in_ok-begun.ensures)) c.in_err-one.ensures) c.entries.invariant.read)
+    let bracket = taken_bracket c.args.text.now _ c.in_ok-rest.ensures in
+    rw (p.1, p.2) (entries_wrong (TakesMemory c.args.text.now) c.in_err-one.field-0.0 c.entries.list.items _ c.separator_before.result.now c.entries.rest.now _ none (search rules) c.separator_before.ensures
+    (subst (Fails (TakesMemory c.args.text.now) c.in_err-one.field-0.0) (sym (bind_of _ (entry_at expression_at) _ c.in_ok-begun.ensures))
+    (fails_there (TakesMemory c.args.text.now) bracket c.in_err-one.field-0.0 _ c.in_err-one.ensures)) c.entries.invariant.read)
+
+pub entry_list-returns-in_err-keep : goal.entry_list-returns-in_err-keep
+entry_list-returns-in_err-keep t c =
+    let p = err_from_is_err_and c.from_residual-in_err-keep.result c.from_residual-in_err-keep.ensures.1 in
+    rw (p.1, p.2, c.in_err-keep.ensures.refused) (taken_bracket c.args.text.now _ c.in_ok-rest.ensures)
 
 pub entry_list-entries-smaller : goal.entry_list-entries-smaller
 entry_list-entries-smaller t c =

@@ -45,8 +45,13 @@ pair_there : (n n1 : ℤ) (d : Bool) (middle : Entry) (rim pair : GraphData) (re
 pair_there n n1 d middle rim pair result around accepted made two answer =
     rim_there n n1 d middle rim result around accepted made (onward (board (pair_of_vertices d)) pair (after_pair n n1 d middle rim) result two answer)
 
-pub returns : goal.returns
-returns c =
+-- nothing that is made of a rim that was made is refused for it
+rim_made : {T : Type 0} (n : ℤ) (d : Bool) (rim : T) (result : Result GraphData Panic) → SFits w64 n → ((e : Panic) → board (rim_of_wheel (kept n) d) ≡ Err e → Ok rim ≡ Err e)
+    → (e : Panic) → board (rim_of_wheel n d) ≡ Err e → result ≡ Err e
+rim_made n d rim result fits made e is = let none = made e (ap (λ k. board (rim_of_wheel k d)) (to_z-of_z w64 n fits) ∙ is) in absurd cc
+
+pub returns-clause-answer : goal.returns-clause-answer
+returns-clause-answer c =
     let n = c.args.n in
     let n1 = c.args.n1 in
     let d = c.args.directed in
@@ -56,11 +61,11 @@ returns c =
     let id = c.numbers_id.ensures ∙ (ap (λ k. wheel_id k (kept n1) d) (to_z-of_z w64 n c.ranges.n) ∙ ap (λ k. wheel_id n k d) (to_z-of_z w64 n1 c.ranges.n1)) in
     let made = c.set_id.ensures ∙ ap (λ t. with_id t built) id in
     let answer = subst (λ es. IsAnswerOf (induced_of pair es false false d) (Ok built)) c.in_ok-entries.ensures.ok c.in_ok-built.ensures.answer in
-    pair_there n n1 d c.args.middle c.in_ok-rim.rim pair (Ok new) c.ranges.n c.requires c.in_ok-rim.ensures c.in_ok-pair.ensures
+    pair_there n n1 d c.args.middle c.in_ok-rim.rim pair (Ok new) c.ranges.n c.requires c.in_ok-rim.ensures.answer c.in_ok-pair.ensures
     (changed (induced_of pair (c.args.middle ∷ entry.Graph c.in_ok-rim.rim ∷ []) false false d) built new (with_wheel_id n n1 d) answer (λ x is h. wheel_made n n1 d x built new h made))
 
-pub returns-in_err-built : goal.returns-in_err-built
-returns-in_err-built c =
+pub returns-in_err-built-clause-answer : goal.returns-in_err-built-clause-answer
+returns-in_err-built-clause-answer c =
     let n = c.args.n in
     let n1 = c.args.n1 in
     let d = c.args.directed in
@@ -69,11 +74,29 @@ returns-in_err-built c =
     let p = err_from_is_err_and c.from_residual-in_err-built.result c.from_residual-in_err-built.ensures.1 in
     let answer = subst (λ es. IsAnswerOf (induced_of pair es false false d) (Err e)) c.in_ok-entries.ensures.ok c.in_err-built.ensures.answer in
     rw (p.1, p.2)
-    (pair_there n n1 d c.args.middle c.in_ok-rim.rim pair (Err e) c.ranges.n c.requires c.in_ok-rim.ensures c.in_ok-pair.ensures
+    (pair_there n n1 d c.args.middle c.in_ok-rim.rim pair (Err e) c.ranges.n c.requires c.in_ok-rim.ensures.answer c.in_ok-pair.ensures
     (refused_onward (induced_of pair (c.args.middle ∷ entry.Graph c.in_ok-rim.rim ∷ []) false false d) e (named n n1 d) answer))
 
-pub returns-in_err-rim : goal.returns-in_err-rim
-returns-in_err-rim c = search (rules, err_from_is_err_and, IsAnswerOf, board, rim_of_wheel, to_z-of_z, refused_onward, after_rim, graph_described)
+pub returns-in_err-rim-clause-answer : goal.returns-in_err-rim-clause-answer
+returns-in_err-rim-clause-answer c = search (rules, err_from_is_err_and, IsAnswerOf, board, rim_of_wheel, to_z-of_z, refused_onward, after_rim, graph_described)
 
-pub returns-in_err-pair : goal.returns-in_err-pair
-returns-in_err-pair c = search (rules, err_from_is_err_and, rim_there, refused_onward, board, pair_of_vertices, after_pair, graph_described)
+pub returns-in_err-pair-clause-answer : goal.returns-in_err-pair-clause-answer
+returns-in_err-pair-clause-answer c = search (rules, err_from_is_err_and, rim_there, refused_onward, board, pair_of_vertices, after_pair, graph_described)
+
+-- a rim that was made is not refused
+pub returns-clause-refused : goal.returns-clause-refused
+returns-clause-refused c = rim_made c.args.n c.args.directed c.in_ok-rim.rim _ c.ranges.n c.in_ok-rim.ensures.refused
+
+pub returns-in_err-built-clause-refused : goal.returns-in_err-built-clause-refused
+returns-in_err-built-clause-refused c = rim_made c.args.n c.args.directed c.in_ok-rim.rim _ c.ranges.n c.in_ok-rim.ensures.refused
+
+pub returns-in_err-pair-clause-refused : goal.returns-in_err-pair-clause-refused
+returns-in_err-pair-clause-refused c = rim_made c.args.n c.args.directed c.in_ok-rim.rim _ c.ranges.n c.in_ok-rim.ensures.refused
+
+pub returns-in_err-entries-clause-refused : goal.returns-in_err-entries-clause-refused
+returns-in_err-entries-clause-refused c = rim_made c.args.n c.args.directed c.in_ok-rim.rim _ c.ranges.n c.in_ok-rim.ensures.refused
+
+pub returns-in_err-rim-clause-refused : goal.returns-in_err-rim-clause-refused
+returns-in_err-rim-clause-refused c = λ e is.
+    let p = err_from_is_err_and c.from_residual.result c.from_residual.ensures.1 in
+    rw (p.1, p.2) (c.in_err-rim.ensures.refused e (ap (λ k. board (rim_of_wheel k c.args.directed)) (to_z-of_z w64 c.args.n c.ranges.n) ∙ is))

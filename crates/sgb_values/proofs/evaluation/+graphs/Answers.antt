@@ -17,7 +17,7 @@ use Rattle.sgb_ops.specs.Intersection.{intersection_of}
 use Rattle.sgb_ops.specs.Lines.{line_graph_of}
 use Rattle.sgb_ops.specs.Product.{product_graph_of}
 use Rattle.sgb_ops.specs.BiComplete.{accepted_parts, bi_complete_of}
-use Rattle.sgb_ops.specs.Wheel.{accepted_middle, wheel_of}
+use Rattle.sgb_ops.specs.Wheel.{accepted_rim, wheel_of}
 use Rattle.sgb_vec.specs.Results.{IsValue}
 use Rattle.sgb_gen.specs.Generators.{made}
 use Rattle.sgb_values.specs.Values.{value_of, values_of}
@@ -155,7 +155,7 @@ pub evaluate-returns-in-BiComplete-clause-refused : goal.evaluate-returns-in-BiC
 evaluate-returns-in-BiComplete-clause-refused t c = search (rules, numbers_refused, accepted_parts, to_z-of_z)
 
 pub evaluate-returns-in-Wheel-clause-refused : goal.evaluate-returns-in-Wheel-clause-refused
-evaluate-returns-in-Wheel-clause-refused t c = search (rules, numbers_refused, accepted_middle, to_z-of_z)
+evaluate-returns-in-Wheel-clause-refused t c = search (rules, numbers_refused, accepted_rim, to_z-of_z)
 
 pub evaluate-returns-in-Stdin-clause-refused : goal.evaluate-returns-in-Stdin-clause-refused
 evaluate-returns-in-Stdin-clause-refused t c =

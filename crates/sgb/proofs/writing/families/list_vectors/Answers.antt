@@ -1,7 +1,8 @@
-use Rattle.std.proofs.Common.{rules, subst}
+use Rattle.std.proofs.Common.{◌∙◌, true≢false, rules, subst, sym}
 use Rattle.sgb_vec.specs.Lexicographic.{IsRising}
 use Rattle.sgb.specs.inner.Pages.{page_bytes}
 use Rattle.sgb.specs.inner.Texts.{most_line_bytes}
+use Rattle.sgb.proofs.CertainAnswers.{exit_certain}
 use Rattle.sgb.proofs.CutOff.{begun_by, cut_more, exit_cut, exit_uncut, exit_unwritten, written_after}
 use Rattle.sgb.proofs.LocalListings.{blocks_of_rest}
 use Rattle.sgb.proofs.writing.families.list_vectors.Goals as goal
@@ -9,8 +10,18 @@ use Rattle.sgb.proofs.writing.families.list_vectors.Goals as goal
 pub push_head_if-requires : goal.push_head_if-requires
 push_head_if-requires g c = search (rules, most_line_bytes, page_bytes)
 
-pub returns-in_err-push_head_if : goal.returns-in_err-push_head_if
-returns-in_err-push_head_if g c = search (rules, exit_unwritten, exit_uncut)
+pub returns-in_err-push_head_if-clause-written : goal.returns-in_err-push_head_if-clause-written
+returns-in_err-push_head_if-clause-written g c = search (rules, exit_unwritten, exit_uncut)
+
+pub returns-in_err-push_head_if-clause-head : goal.returns-in_err-push_head_if-clause-head
+returns-in_err-push_head_if-clause-head g c = search (rules, exit_unwritten, exit_uncut)
+
+-- without a head nothing is out of memory before the blocks
+pub returns-in_err-push_head_if-clause-end : goal.returns-in_err-push_head_if-clause-end
+returns-in_err-push_head_if-clause-end g c = λ plain none. absurd (true≢false (sym (c.in_err-push_head_if.ensures.none plain)))
+
+pub returns-in_err-put_page-clause-end : goal.returns-in_err-put_page-clause-end
+returns-in_err-put_page-clause-end g c = λ plain none. exit_certain _ _ c.from_residual-in_err-put_page.ensures.1 (λ e. let fault = c.in_err-put_page.ensures.fault in cc)
 
 pub returns-in_err-put_page-clause-written : goal.returns-in_err-put_page-clause-written
 returns-in_err-put_page-clause-written g c =
@@ -28,6 +39,7 @@ returns g c =
     let rest = rw c.family.ensures.members at c.vectors_after-vectors.ensures in
     let put = rw (c.in_ok-push_head_if.ensures.text, c.new-page.ensures) at c.in_ok-put_page.ensures.written.output in
     record {
-      written = rw (blocks_of_rest graph rise c.family.ensures.ends _ _ rest) (written_after _ _ _ _ _ _ _ put c.write_blocks.ensures);
-      head = begun_by _ _ _ _ _ _ _ _ _ put c.write_blocks.ensures;
+      written = rw (blocks_of_rest graph rise c.family.ensures.ends _ _ rest) (written_after _ _ _ _ _ _ _ put c.write_blocks.ensures.written);
+      head = begun_by _ _ _ _ _ _ _ _ _ put c.write_blocks.ensures.written;
+      end = λ plain none. c.write_blocks.ensures.end (rest ∙ none);
     }

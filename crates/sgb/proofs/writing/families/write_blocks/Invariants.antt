@@ -1,4 +1,4 @@
-use Rattle.std.proofs.Common.{◌≡◌, [], false, length}
+use Rattle.std.proofs.Common.{◌≡◌, ◌≤◌, [], false, length}
 use Rattle.std.specs.List.{flat_map}
 use Rattle.sgb.specs.inner.Locals.{local_block}
 use Rattle.sgb.specs.inner.Remaining.{IsRest}
@@ -13,6 +13,7 @@ invariant-loop-x g l =
     × (g.W.Sink.has_failed l.out ≡ false)
     × IsRest graph.vectors l.left
     × (g.L.Listed.graph l.listed ≡ graph)
+    × (length l.left ≤ length l.fn.vectors)
 
 -- each turn leaves out one vector
 abbrev pub decreases-loop-x : goal.decreases-loop-x

@@ -4,15 +4,17 @@ use Rattle.sgb_graph.specs.Vertices.{names_of}
 use Rattle.sgb_gen.specs.VectorGraphs.{described_by}
 use Rattle.sgb.specs.Outcomes.{head_for, left_out}
 use Rattle.sgb.specs.Texts.{blocks, head}
-use Rattle.sgb.proofs.CertainAnswers.{exit_nowhere, not_nowhere}
+use Rattle.sgb.proofs.CertainAnswers.{exit_certain, place_other}
 use Rattle.sgb.proofs.Endings.{ended_after, exit_ended, refused_after}
-use Rattle.sgb.proofs.ResumedListings.{blocks_after, left_out_of_graph, some_member}
+use Rattle.sgb.proofs.ResumedListings.{blocks_after, left_out_of_graph, none_left, some_member}
 use Rattle.sgb.proofs.writing.families.ListAnswerVisit.visit.Goals as goal
 
 pub returns-in_err-start : goal.returns-in_err-start
 returns-in_err-start g c =
-    let nowhere = left_out_of_graph (g.L.Listed.graph c.args.listed.now) c.args.self.resume.now _ (rw c.family.ensures.members at c.in_err-start.ensures) in
-    search (rules, nowhere, exit_ended, refused_after, exit_nowhere, left_out, head_for, head, blocks, names_of, graph_described)
+    let nowhere = left_out_of_graph (g.L.Listed.graph c.args.listed.now) c.args.self.resume.now _ (rw c.family.ensures.members at c.in_err-start.ensures) in (
+      search (rules, nowhere, exit_ended, refused_after, left_out, head_for, head, blocks, names_of, graph_described),
+      λ past. exit_certain _ _ c.from_residual.ensures.1 (place_other _ c.args.self.resume.now _ (sym nowhere)),
+    )
 
 pub list_vectors-requires : goal.list_vectors-requires
 list_vectors-requires g c =
@@ -28,6 +30,8 @@ returns g c =
     let from = left_out_of_graph vectors c.args.self.resume.now (Ok begins.0) begins.1 in
     let after = blocks_after vectors begins.0 (option_map (λ vector. vector.items) c.in_ok-start.start) (option_map (λ x. x.now) c.slice_of.result) begins.2 c.slice_of.ensures in
     let written = rw c.prepare.ensures at c.list_vectors.ensures.written in (
-      ended_after (left_out (names_of graph) c.args.self.resume.now) begins.0 text _ _ from (rw (after, sym (c.has_head.ensures graph)) written),
-      not_nowhere (left_out (names_of graph) c.args.self.resume.now) _ from,
+      ended_after (left_out (names_of graph) c.args.self.resume.now) begins.0 text _ _ from (rw (after, sym (c.has_head.ensures.head graph)) written),
+      λ past.
+          let (resumed, none) = none_left vectors c.args.self.resume.now begins.0 (option_map (λ vector. vector.items) c.in_ok-start.start) (option_map (λ x. x.now) c.slice_of.result) from begins.2 c.slice_of.ensures past in
+          c.list_vectors.ensures.end (c.has_head.ensures.resumed resumed) (rw c.prepare.ensures none),
     )
