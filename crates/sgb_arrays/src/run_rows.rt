@@ -1,8 +1,8 @@
 //! The lists of a run.
 //!
 //! Tips are vertices of the whole graph. Where a list is had by strides each is one sum; else they are found from their vectors
-//! by `place_of`, with no search.
-ghost use Rattle.std.specs.Prelude.{◌≡◌, ◌++◌, ◌+◌, ◌*◌, ◌<◌, ◌≤◌, ℕ, length, map, reverse, slice_get, Some, All, Contains, IfErr, IfOk, IsOkUnless, OnOk, ⊤};
+//! with no search, of a sum by counts that are made once for the run (`places`).
+ghost use Rattle.std.specs.Prelude.{◌≡◌, ◌++◌, ◌+◌, ◌*◌, ◌<◌, ◌≤◌, ℕ, length, map, reverse, slice_get, Some, All, Contains, IfErr, IfOk, IfSome, IsOkUnless, OnOk, ⊤};
 ghost use Rattle.sgb_gen.specs.LocalLists.{LocalArc};
 ghost use Rattle.sgb_gen.specs.VectorGraphs.{HasEnds, described_by, vertex_among};
 ghost use Rattle.sgb_gen.specs.Strides.{lengths_to, tips_ahead, tips_back};
@@ -16,7 +16,7 @@ ghost use Rattle.sgb_arrays.specs.Runs.{AreRows, IsRunRefusal, IsThere};
 use crate::refusals::Wrong;
 use crate::rows::Rows;
 use crate::runs::{has_run, vectors_from};
-use sgb_gen::{Links, Listed, Local, Strides, Visit, Visitor};
+use sgb_gen::{CountedPlaces, Links, Listed, Local, Strides, Visit, Visitor};
 use sgb_vec::{Family, Panic};
 use std::alloc::Global;
 
@@ -84,7 +84,8 @@ fn rows_in<'a, L: Listed<'a>>(
     if !has_run(listed.family(), first, count) {
         return Err(Wrong::Vertices);
     }
-    match put_rows(alloc, listed, first, count, links) {
+    let places = listed.places(links);
+    match put_rows(alloc, listed, &places, first, count, links) {
         Ok(rows) => Ok(rows),
         Err(_) => Err(Wrong::NoRoom),
     }
@@ -94,11 +95,13 @@ fn rows_in<'a, L: Listed<'a>>(
 fn put_rows<'a, L: Listed<'a>>(
     alloc: Global,
     listed: &mut L,
+    places: &Option<CountedPlaces<'a>>,
     first: u32,
     count: u32,
     links: &mut Links,
 ) -> Result<Rows, Panic>
-    requires { first + count ≤ length (L.graph listed.old).vectors }
+    requires there { first + count ≤ length (L.graph listed.old).vectors }
+    requires places { IfSome places.now (λ p. p ≡ (L.graph listed.old).vectors) }
     ensures rows { IfOk result (λ rows. AreRows (graph_described (described_by (L.graph
         listed.old))) first count rows.starts.items rows.tips.items rows.lengths.items) }
     ensures memory { IsOkUnless result Panic.NoRoom }
@@ -110,7 +113,7 @@ fn put_rows<'a, L: Listed<'a>>(
     let _size = family.size();
     for k in 0..count {
         let x = left.front().unwrap();
-        rows.push_vertex(listed, first + k, x, links)?;
+        rows.push_vertex(listed, places, first + k, x, links)?;
         rows.push_start()?;
         let _some = left.advance();
     }
@@ -122,11 +125,13 @@ impl Rows {
     fn push_vertex<'a, L: Listed<'a>>(
         &mut self,
         listed: &mut L,
+        places: &Option<CountedPlaces<'a>>,
         v: u32,
         x: &[u32],
         links: &mut Links,
     ) -> Result<(), Panic>
         requires vertex { slice_get (L.graph listed.old).vectors v ≡ Some x.now }
+        requires places { IfSome places.now (λ p. p ≡ (L.graph listed.old).vectors) }
         requires rising { IsRising (L.graph listed.old).vectors }
         requires ends { All (HasEnds (L.graph listed.old).vectors) (L.graph listed.old).moves }
         ensures tips { OnOk result (self.new.tips.items ≡ self.old.tips.items ++ map (λ l. l.tip)
@@ -142,7 +147,7 @@ impl Rows {
             return self.push_strides(strides);
         }
         listed.arcs_at(x, links)?;
-        self.push_arcs(listed, links)
+        self.push_arcs(listed, places, links)
     }
 
     // Appends the arcs of a list that is had by strides.
@@ -201,8 +206,14 @@ impl Rows {
     }
 
     // Appends the arcs of a vector.
-    fn push_arcs<'a, L: Listed<'a>>(&mut self, listed: &L, links: &Links) -> Result<(), Panic>
-        requires { (k : ℕ) (arc : LocalArc) → slice_get links.now.arcs k ≡ Some arc
+    fn push_arcs<'a, L: Listed<'a>>(
+        &mut self,
+        listed: &L,
+        places: &Option<CountedPlaces<'a>>,
+        links: &Links,
+    ) -> Result<(), Panic>
+        requires places { IfSome places.now (λ p. p ≡ (L.graph listed.now).vectors) }
+        requires tips { (k : ℕ) (arc : LocalArc) → slice_get links.now.arcs k ≡ Some arc
             → Contains (L.graph listed.now).vectors arc.tip }
         ensures tips { OnOk result (self.new.tips.items ≡ self.old.tips.items
             ++ map (λ a. vertex_among (L.graph listed.now).vectors a.tip)
@@ -214,9 +225,21 @@ impl Rows {
     {
         for i in 0..links.len() {
             let link = links.get(i);
-            self.tips.push(listed.place_of(link.tip))?;
+            self.tips.push(vertex_of(listed, places, link.tip))?;
             self.lengths.push(i64::from(link.len))?;
         }
         Ok(())
+    }
+}
+
+// The vertex of a vector: by counts that are kept, where there are such.
+fn vertex_of<'a, L: Listed<'a>>(listed: &L, places: &Option<CountedPlaces<'a>>, x: &[u32]) -> u32
+    requires places { IfSome places.now (λ p. p ≡ (L.graph listed.now).vectors) }
+    requires member { Contains (L.graph listed.now).vectors x.now }
+    ensures { result ≡ vertex_among (L.graph listed.now).vectors x.now }
+{
+    match places {
+        Some(places) => places.place_of(x),
+        None => listed.place_of(x),
     }
 }

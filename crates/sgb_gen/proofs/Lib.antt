@@ -156,3 +156,5 @@ pub mod SubsetsCounts
 pub mod SubsetsPairs
 -- the moves of subsets as pairs of vectors
 pub mod SubsetsMovePairs
+-- the place of a vector of a sum, by counts that are kept
+pub mod KeptCounts

@@ -30,6 +30,8 @@ pub mod MovedCoordinates
 pub mod StraightLists
 -- how far a displacement leads on among the vectors
 pub mod Strides
+-- counts by which the vectors of a sum are found
+pub mod KeptCounts
 -- lists of one width, one after another
 pub mod Tables
 -- from how many places a piece moves by a displacement, at one length

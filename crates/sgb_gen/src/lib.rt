@@ -13,6 +13,8 @@ mod generators;
 mod laws;
 // The arcs of one vertex, with the vectors where they lead.
 mod links;
+// The places of the vectors of a sum, by counts that are kept.
+mod counted_places;
 // What a listing asks of a generator's graph, with no graph.
 mod listed;
 // Accepted parameters of any generator.
@@ -35,6 +37,7 @@ mod vector_tables;
 mod visits;
 
 pub use accepted::{Board, BoardLists, Run, Runs, Simplex, Stride, Strides, Subsets, common};
+pub use counted_places::CountedPlaces;
 pub use generators::{board, simplex, subsets};
 pub use laws::{
     displacements_have_their_norm, moves_stay_on_board, moves_turn_back, riders_stop,

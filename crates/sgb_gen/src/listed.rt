@@ -14,6 +14,7 @@ ghost use Rattle.sgb_gen.specs.Subsets.{subsets_vector_graph};
 ghost use Rattle.sgb_gen.specs.VectorGraphs.{HasEnds, VectorGraph, described_by, vertex_among};
 
 use crate::accepted::{BoardLists, Runs, Simplex, Strides, Subsets};
+use crate::counted_places::CountedPlaces;
 use crate::links::Links;
 use sgb_graph::Id;
 use sgb_vec::{BoxFamily, Family, Panic, SumFamily};
@@ -75,6 +76,12 @@ pub trait Listed<'a> {
         ensures lengths { IfSome result (λ s. s.lengths ≡ map (λ l. l.len)
             (chain_of (graph_described (described_by (graph self.now))) v)) };
 
+    /// The vectors, each found at once by counts that are kept; made for a run, where many are looked for. `None` where they
+    /// are found as soon by `place_of`, where the counts want more than a megabyte, or out of memory. The memory is from where
+    /// that of the links comes.
+    fn places(&self, links: &Links) -> Option<CountedPlaces<'a>>
+        ensures { IfSome result (λ p. p ≡ (graph self.now).vectors) };
+
     /// The vertex of a vector: its place among the vectors, counted from 0. No memory is taken.
     fn place_of(&self, x: &[u32]) -> u32
         requires { Contains (graph self.now).vectors x.now }
@@ -114,6 +121,10 @@ impl<'a> Listed<'a> for BoardLists<'a> {
         BoardLists::strides(self, x, v)
     }
 
+    fn places(&self, _links: &Links) -> Option<CountedPlaces<'a>> {
+        None
+    }
+
     fn place_of(&self, x: &[u32]) -> u32 {
         self.board.family().place_of(x)
     }
@@ -150,6 +161,10 @@ impl<'a> Listed<'a> for &'a Simplex {
         None
     }
 
+    fn places(&self, links: &Links) -> Option<CountedPlaces<'a>> {
+        (**self).places(links.alloc())
+    }
+
     fn place_of(&self, x: &[u32]) -> u32 {
         (**self).family().place_of(x)
     }
@@ -184,6 +199,10 @@ impl<'a> Listed<'a> for &'a Subsets {
 
     fn strides<'b>(&'b self, _x: &'b [u32], _v: u32) -> Option<Strides<'b>> {
         None
+    }
+
+    fn places(&self, links: &Links) -> Option<CountedPlaces<'a>> {
+        (**self).places(links.alloc())
     }
 
     fn place_of(&self, x: &[u32]) -> u32 {

@@ -1,16 +1,14 @@
 //! What an open graph has for a run of its vertices, as arrays.
-ghost use Rattle.std.specs.Prelude.{◌≡◌, ◌+◌, length, IfErr, IfOk, IfSome, OnOk, ⊤};
-ghost use Rattle.std.specs.Bool.{OnTrue};
+ghost use Rattle.std.specs.Prelude.{◌≡◌, ◌+◌, length, IfErr, IfOk, OnOk, ⊤};
 ghost use Rattle.sgb_graph.specs.Graphs.{chain_of};
 ghost use Rattle.sgb_arrays.specs.Fields.{HoldsInts, IsIntsRefusal, ints_of};
 ghost use Rattle.sgb_arrays.specs.OpenGraphs.{IsListed, graph_open};
 ghost use Rattle.sgb_arrays.specs.Runs.{AreNames, AreRows, AreTips, HaveNameLengths, HaveRowLengths, HaveTipLengths, IsFillRefusal, IsSizeRefusal, IsThere, name_at, parts_of};
 
-use super::{OpenGraph, built};
+use super::OpenGraph;
 use crate::fields::{fill_ints, fill_local_ints};
 use crate::graph_names::{fill_names, names_len};
 use crate::names::Names;
-use crate::packed::packed_rows;
 use crate::refusals::Wrong;
 use crate::rows::Rows;
 use crate::run_arcs::arcs_of_run;
@@ -18,7 +16,6 @@ use crate::run_names::names_of_run;
 use crate::run_rows::rows_of_run;
 use crate::runs::is_there;
 use sgb_gen::Local;
-use sgb_vec::Panic;
 use std::alloc::Global;
 
 impl OpenGraph {
@@ -292,39 +289,7 @@ fn rows_for(
     if starts as u64 != u64::from(count) + 1 {
         return Err(Wrong::Length);
     }
-    if is_built_sooner(local, first, count) {
-        if let Ok(Some(rows)) = rows_of_all(alloc, local) {
-            return Ok(rows);
-        }
-    }
     rows_of_run(alloc, local, first, count)
-}
-
-// Whether the lists of a run are had sooner by building the graph: all lists of a simplex or of subsets, where to find the
-// vertex of a vector takes long.
-fn is_built_sooner(local: &Local, first: u32, count: u32) -> bool
-    ensures first { OnTrue result (first ≡ 0) }
-    ensures count { OnTrue result
-        (count ≡ length (graph_open (OpenGraph.Listed local.now)).vertices) }
-{
-    if first != 0 || count != local.size() {
-        return false;
-    }
-    match local {
-        Local::Board(_) => false,
-        Local::Simplex(_) | Local::Subsets(_) => true,
-    }
-}
-
-// All lists of a generator's graph, by building it.
-fn rows_of_all(alloc: Global, local: &Local) -> Result<Option<Rows>, Panic>
-    ensures { IfOk result (λ kept. IfSome kept (λ rows. AreRows
-        (graph_open (OpenGraph.Listed local.now)) 0
-        (length (graph_open (OpenGraph.Listed local.now)).vertices) rows.starts.items
-        rows.tips.items rows.lengths.items)) }
-{
-    let graph = built(alloc, local)?;
-    packed_rows(alloc, &graph)
 }
 
 // The names of a run of a generator's graph, for an array of so many starts.

@@ -11,6 +11,7 @@ mod counts;
 mod known;
 mod lists;
 
+use crate::counted_places::CountedPlaces;
 use crate::params::SimplexParams;
 use crate::shifts::{can_move_unit, unit_moved};
 use crate::vector_graphs::{put_coordinates, vector_names};
@@ -105,6 +106,13 @@ impl Simplex {
         ensures { result.now ≡ self.now.sum }
     {
         &self.family
+    }
+
+    // Its vectors, each found by counts that are kept, where these want no more than a megabyte.
+    pub(crate) fn places(&self, alloc: Global) -> Option<CountedPlaces<'_>>
+        ensures { IfSome result (λ p. p ≡ simplex_vectors self.now) }
+    {
+        CountedPlaces::new(alloc, &self.family, self.sizes())
     }
 
     // The bounds of its vectors.

@@ -2,7 +2,7 @@
 //!
 //! In a graph that is built the subsets that are joined with a vertex are found by a walk from the first vertex:
 //! `common` takes the lesser entries of eight at a time.
-ghost use Rattle.std.specs.Prelude.{◌≡◌, ◌⊎◌, Err, ◌<◌, [], ◌∷◌, pos, length, map, min, slice_get, Some, Ok, OnOk, IsOkUnless, if◌then◌else◌, ◌≤◌, ◌^◌};
+ghost use Rattle.std.specs.Prelude.{IfSome, ◌≡◌, ◌⊎◌, Err, ◌<◌, [], ◌∷◌, pos, length, map, min, slice_get, Some, Ok, OnOk, IsOkUnless, if◌then◌else◌, ◌≤◌, ◌^◌};
 ghost use Rattle.sgb_gen.specs.Subsets.{accepted_subsets, subsets_id, is_wanted_size, moves_to_place, subsets_vectors, moves_of_subsets, subsets_vector_graph, common_size};
 ghost use Rattle.sgb_vec.specs.Bounds.{simplex_of};
 ghost use Rattle.sgb_graph.specs.Descriptions.{IsAnswerOf};
@@ -17,6 +17,7 @@ mod lists;
 mod pairs;
 mod sizes;
 
+use crate::counted_places::CountedPlaces;
 use crate::params::SubsetsParams;
 use crate::vector_graphs::{put_coordinates, vector_names};
 use sgb_graph::{Graph, Id, IdWriter};
@@ -123,6 +124,13 @@ impl Subsets {
         ensures { result.now ≡ self.now.sum }
     {
         &self.family
+    }
+
+    // Its vectors, each found by counts that are kept, where these want no more than a megabyte.
+    pub(crate) fn places(&self, alloc: Global) -> Option<CountedPlaces<'_>>
+        ensures { IfSome result (λ p. p ≡ subsets_vectors self.now) }
+    {
+        CountedPlaces::new(alloc, &self.family, self.sizes())
     }
 
     // The bounds of its vectors.

@@ -1,5 +1,5 @@
 use Rattle.std.proofs.Common.{◌∙◌, ◌≡◌, ◌<◌, ◌+◌, ◌++◌, ◌∷◌, [], ℕ, ap, refl, length, map, arith, rules, All, Contains, subst, sym}
-use Rattle.std.specs.Prelude.{Some, slice_get}
+use Rattle.std.specs.Prelude.{IfSome, Some, slice_get}
 use Rattle.std.proofs.lemmas.List.{length-map}
 use Rattle.sgb_vec.specs.Lexicographic.{IsRising}
 use Rattle.sgb_graph.specs.Graphs.{chain_of}
@@ -23,12 +23,12 @@ loop-k-init g c = record {
 }
 
 pub vectors_from-left-requires : goal.vectors_from-left-requires
-vectors_from-left-requires g c = omega (arith, c.requires, ap length c.family-family.ensures.members)
+vectors_from-left-requires g c = omega (arith, c.requires.there, ap length c.family-family.ensures.members)
 
 pub unwrap-x-requires : goal.unwrap-x-requires
 unwrap-x-requires g c =
     let listed = g.L.Listed.graph c.args.listed.now in
-    let within : c.args.first + c.loop-k.k < length listed.vectors = omega (arith, c.requires) in
+    let within : c.args.first + c.loop-k.k < length listed.vectors = omega (arith, c.requires.there) in
     some_front c.front.result c.loop-k.left listed.vectors (c.args.first + c.loop-k.k) c.loop-k.invariant.left within c.front.ensures.none
 
 pub push_vertex-requires : goal.push_vertex-requires
@@ -39,6 +39,7 @@ push_vertex-requires g c =
     let vertex : slice_get now.vectors (c.args.first + c.loop-k.k) ≡ Some c.unwrap-x.result.now = rw c.loop-k.invariant.same there in
     let rising : IsRising now.vectors = rw c.loop-k.invariant.same (subst IsRising c.family-family.ensures.members (g.met.L.Members.Family.rising c.family-family.result.now)) in
     let ends : All (HasEnds now.vectors) now.moves = subst (λ (h : VectorGraph). All (HasEnds h.vectors) h.moves) (sym c.loop-k.invariant.same) c.family-family.ensures.ends in
+    let places : IfSome c.args.places.now (λ p. p ≡ now.vectors) = rw c.loop-k.invariant.same c.requires.places in
     search rules
 
 pub loop-k-preserved : goal.loop-k-preserved

@@ -1,5 +1,5 @@
 use Rattle.std.proofs.Common.{ℕ, ◌≡◌, ◌∙◌, ◌++◌, ◌∷◌, [], ap, map, refl, sym, arith, rules, Contains}
-use Rattle.std.specs.Prelude.{Some, slice_get}
+use Rattle.std.specs.Prelude.{IfSome, Some, slice_get}
 use Rattle.std.proofs.lemmas.Option.{get_or_from_slice_get, slice_get_within}
 use Rattle.sgb_gen.specs.LocalLists.{LocalArc, list_in}
 use Rattle.sgb_arrays.proofs.LocalRuns.{row_said, tips_contained}
@@ -15,6 +15,7 @@ pub push_arcs-requires : goal.push_arcs-requires
 push_arcs-requires g c =
     let tips : (k : ℕ) (arc : LocalArc) → slice_get c.arcs_at.new.links.arcs k ≡ Some arc → Contains (g.L.Listed.graph c.arcs_at.new.self).vectors arc.tip =
     tips_contained (g.L.Listed.graph c.args.listed.now) (g.L.Listed.graph c.arcs_at.new.self) c.arcs_at.new.links.arcs c.in_ok-arcs_at.ensures.same c.in_ok-arcs_at.ensures.tips in
+    let places : IfSome c.args.places.now (λ p. p ≡ (g.L.Listed.graph c.arcs_at.new.self).vectors) = rw c.in_ok-arcs_at.ensures.same c.requires.places in
     search rules
 
 pub returns-in-Some-clause-tips : goal.returns-in-Some-clause-tips
