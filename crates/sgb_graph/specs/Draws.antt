@@ -19,8 +19,7 @@ seed_of (negsuc n) = modulus - 1 - n % modulus
 abbrev pub rotated : ℕ → ℕ → ℕ
 rotated seed k = seed / 2 ^ (k % 31) + seed % 2 ^ (k % 31) * 2 ^ (31 - k % 31)
 
--- Y: the seed, 1, and then each is the last but one less the last, less the seed rotated as often as the
--- last one's number says
+-- Y: the seed, 1, and then each is the last but one less the last, less the seed rotated as often as the last one's number says
 unfoldable pub y_number : ℕ → ℕ → ℕ
 y_number seed zero = seed
 y_number seed (suc zero) = 1
