@@ -37,8 +37,7 @@ IsRunOf answer l = MatchBool l.out.told.failed
     (IsStopped fault.Write answer l)
     (IsGiven answer l ⊎ IsStopped (fault.Panic NoRoom) answer l)
 
--- only a refusal was reported: the output sink is untouched, this line went to standard error unless that failed, and this
--- status was returned
+-- only a refusal was reported: the output sink is untouched, standard error took this line or failed, and this is the status
 pub record IsReportedAs {S : Type 0} (text : List ℕ) (code : ℕ) (l : Left S) : Type 0 where
   pub out : IsUntouched l.out
   pub line : AppendsUnlessFailed l.err text

@@ -59,8 +59,7 @@ pub record AreNames (g : GraphData) (first count : ℕ) (starts bytes : List ℕ
 abbrev pub IsRunRefusal : GraphData → ℕ → ℕ → Wrong → Type 0
 IsRunRefusal g first count why = ((why ≡ wrong.Vertices) × (IsThere g first count → ⊥)) ⊎ (why ≡ wrong.NoRoom)
 
--- why arrays of a run are not filled: some of its vertices are none of the graph; or all are, and the arrays do not fit; or, where
--- this takes memory, out of memory
+-- why arrays of a run are not filled: vertices that are none of the graph; else arrays that do not fit, or want of memory
 abbrev pub IsFillRefusal : GraphData → ℕ → ℕ → (fits memory : Type 0) → Wrong → Type 0
 IsFillRefusal g first count fits memory wrong.Vertices = IsThere g first count → ⊥
 IsFillRefusal g first count fits memory wrong.Length = IsThere g first count × (fits → ⊥)

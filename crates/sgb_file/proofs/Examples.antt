@@ -7,4 +7,3 @@ pub mod Refusals
 pub mod Limits
 pub mod Saving
 pub mod SavedGraphs
-pub mod Devices

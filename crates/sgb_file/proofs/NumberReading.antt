@@ -1,18 +1,15 @@
 -- Lemmas on numbers that are read digit by digit.
-use Rattle.std.specs.Prelude.{◌≡◌, ℕ, ◌+◌, ◌-◌, ◌*◌, ◌^◌, ◌<◌, ◌≤◌, true, List, [], ◌∷◌, Option, Some, IfSome, length, take, nat_le, nat_lt}
+use Rattle.std.specs.Prelude.{◌≡◌, ℕ, ◌+◌, ◌-◌, ◌*◌, ◌^◌, ◌<◌, ◌≤◌, true, List, [], ◌∷◌, Option, Some, length, take, nat_le, nat_lt}
 use Rattle.std.specs.List.{list_all}
 use Rattle.std.specs.Str.Parse.{AllDigits, digits_value}
 use Rattle.std.proofs.Common.{get_or, arith, sym, ◌∙◌}
 use Rattle.std.proofs.lemmas.Bool.{and_parts, and_from}
-use Rattle.std.proofs.lemmas.List.{length-take, take_all}
+use Rattle.std.proofs.lemmas.List.{length-take}
 use Rattle.std.proofs.lemmas.List.Folds.{list_all_more}
 use Rattle.std.proofs.lemmas.Bool.Decides.{nat_tests}
 use Rattle.std.proofs.lemmas.Int.Digits.{digits_value_more, digits_value-lt}
 use native.Mathlib.Nat.{pow-le-pow_right}
 use Rattle.sgb_file.specs.inner.FieldValues.{is_decimal_digit, number_of}
-use Rattle.sgb_file.specs.inner.Found.{value_if_digits}
-use Rattle.std.proofs.lemmas.List.Sums.{AllPass-from_list_all}
-use Rattle.sgb_file.proofs.LineLemmas.{list_all-take}
 
 pub all_digits : (text : List ℕ) → list_all is_decimal_digit text ≡ true → AllDigits 10 text
 all_digits [] h = tt
@@ -64,20 +61,6 @@ goes_on most text i h here short within =
     let all = list_all_more is_decimal_digit text i 0 within in
     grind (arith, nat_tests, length-take, value_below, and_from, more, all)
 
--- the same where all are digits, at most 20
-pub next_digit : (digits : List ℕ) (i : ℕ) → list_all is_decimal_digit digits ≡ true → length digits ≤ 20 → i < length digits → GoesOn 20 digits i
-next_digit digits i h short within =
-    goes_on 20 digits i (list_all-take is_decimal_digit i digits h) (AllPass-from_list_all is_decimal_digit digits h i 0 within) short within
-
--- the same of a byte that counts no more than 9
+-- the same of a byte that counts no more than 9, of at most 18
 pub counts_on : (text : List ℕ) (i d : ℕ) → list_all is_decimal_digit (take i text) ≡ true → nat_le d 9 ≡ is_decimal_digit (get_or text i 0) → d ≤ 9 → length text ≤ 18 → i < length text → GoesOn 18 text i
 counts_on text i d h is counts short within = goes_on 18 text i h (sym is ∙ at_most_passes d 9 counts) short within
-
--- all of the bytes are digits
-pub ends_as_digits : (text : List ℕ) (i value : ℕ) → length text ≤ i → list_all is_decimal_digit (take i text) ≡ true → value ≡ digits_value 10 (take i text)
-    → Some value ≡ value_if_digits text
-ends_as_digits text i value past h e = grind (arith, take_all)
-
--- at most 18 digits write a number below this power
-pub small_if_digits : (text : List ℕ) (found : Option ℕ) → found ≡ value_if_digits text → length text ≤ 18 → IfSome found (λ n. n < 10 ^ 18)
-small_if_digits text found e short = grind (arith, value_below)

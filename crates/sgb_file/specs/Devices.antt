@@ -1,5 +1,5 @@
 -- What sources give and sinks take, where they tell their bytes, and when a device has failed.
-use Rattle.std.specs.Prelude.{◌≡◌, ℕ, ◌++◌, ◌-◌, ◌||◌, ◌==◌, min, take, drop, length, Bool, true, List, [], Option, Result, Ok, Err}
+use Rattle.std.specs.Prelude.{◌≡◌, ℕ, ◌++◌, Bool, true, List, [], Option, Result, Ok, Err}
 use Rattle.std.specs.Bool.{MatchBool}
 use Rattle.std.specs.Io.KnownBytes.{Appends}
 
@@ -43,18 +43,6 @@ pub record CutSourceState : Type 0 where
   pub left : ℕ
   pub failed : Bool
 
--- whether the next take of a source that is cut short fails
-abbrev pub take_fails : CutSourceState → Bool
-take_fails source = source.failed || source.left == 0
-
--- how many bytes a source that is cut short puts into a buffer of this length
-abbrev pub take_count : CutSourceState → ℕ → ℕ
-take_count source room = min (min (min source.each source.left) (length source.bytes)) room
-
--- the source after its next count bytes
-abbrev pub after_take : CutSourceState → ℕ → CutSourceState
-after_take source count = record source { bytes = drop count source.bytes; left = source.left - count }
-
 -- a sink that is cut short: the bytes taken, how many it takes at once and in all from here on, whether a flush
 -- fails, and whether it has failed
 pub record CutSinkState : Type 0 where
@@ -63,18 +51,6 @@ pub record CutSinkState : Type 0 where
   pub left : ℕ
   pub flush_fails : Bool
   pub failed : Bool
-
--- whether the next put of a sink with room for this many bytes fails
-abbrev pub put_fails : ℕ → CutSinkState → Bool
-put_fails capacity sink = sink.failed || (sink.left == 0 || length sink.taken == capacity)
-
--- how many bytes a sink with room for this many bytes takes of so many
-abbrev pub put_count : ℕ → CutSinkState → ℕ → ℕ
-put_count capacity sink offered = min (min (min sink.each sink.left) (capacity - length sink.taken)) offered
-
--- the sink after it took a prefix of these bytes
-abbrev pub after_put : CutSinkState → List ℕ → ℕ → CutSinkState
-after_put sink bs count = record sink { taken = sink.taken ++ take count bs; left = sink.left - count }
 
 -- a reader or writer of std's, and whether it has failed
 pub record Adapted (Inner : Type 0) : Type 0 where

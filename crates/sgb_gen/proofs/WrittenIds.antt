@@ -1,18 +1,17 @@
 -- The texts of ids, parameter by parameter.
-use Rattle.std.proofs.Common.{arith, ◌≡◌, ℕ, ℤ, List, [], ◌∷◌, ◌++◌, codes, refl, sym, ap, ◌∙◌, append_assoc, append-nil}
+use Rattle.std.proofs.Common.{arith, ◌≡◌, ℕ, ℤ, List, [], ◌∷◌, ◌++◌, codes, map, refl, sym, ap, ◌∙◌, append_assoc, append-nil}
 use Rattle.std.specs.Fmt.{signed_decimal}
 use Rattle.std.specs.List.{join_with_byte}
 use Rattle.std.proofs.lemmas.List.Concat.{flat_map-append}
 use Rattle.sgb_graph.specs.IdTexts.{numbers_text}
 use Rattle.sgb_gen.specs.Boards.{BoardData, board_id}
-use Rattle.sgb_gen.specs.VectorGraphs.{integer_texts}
 use Rattle.sgb_graph.specs.IdTexts.{flag_text}
 use Rattle.sgb_gen.specs.Simplexes.{SimplexData, simplex_id}
 use Rattle.sgb_gen.specs.Subsets.{SubsetsData, subsets_id}
 use Rattle.sgb_graph.specs.IdTexts.{hexadecimal_text}
 
 -- numbers and other texts after them, with commas between them
-join_numbers_before : (numbers : List ℤ) (t : List ℕ) (ts : List (List ℕ)) → join_with_byte 44 (integer_texts numbers ++ t ∷ ts) ≡ numbers_text numbers ++ join_with_byte 44 (t ∷ ts)
+join_numbers_before : (numbers : List ℤ) (t : List ℕ) (ts : List (List ℕ)) → join_with_byte 44 (map signed_decimal numbers ++ t ∷ ts) ≡ numbers_text numbers ++ join_with_byte 44 (t ∷ ts)
 join_numbers_before [] t ts = refl
 join_numbers_before (n ∷ []) t ts =
     sym (ap (λ u. u ++ join_with_byte 44 (t ∷ ts)) (append-nil (signed_decimal n ++ 44 ∷ [])) ∙ append_assoc (signed_decimal n) (44 ∷ []) (join_with_byte 44 (t ∷ ts)))

@@ -1,5 +1,6 @@
 -- The graphs of boards [GB_BASIC, board].
-use Rattle.std.specs.Prelude.{◌==◌, ℕ, ℤ, pos, nat_abs, nat_lt, Bool, List, [], ◌∷◌, ◌++◌, length, Result, Ok, Err, codes, if◌then◌else◌}
+use Rattle.std.specs.Prelude.{◌==◌, ℕ, ℤ, pos, nat_abs, nat_lt, Bool, List, [], ◌∷◌, ◌++◌, length, map, Result, Ok, Err, codes, if◌then◌else◌}
+use Rattle.std.specs.Fmt.{signed_decimal}
 use Rattle.sgb_vec.specs.Boxes.{box, box_of}
 use Rattle.sgb_vec.specs.Results.{and_then}
 use Rattle.sgb_vec.specs.Sizes.{board_of}
@@ -9,11 +10,10 @@ use Rattle.sgb_graph.specs.Descriptions.{Description}
 use Rattle.sgb_graph.specs.IdTexts.{flag_text}
 use Rattle.sgb_gen.specs.declared.params.BoardParams.{BoardParams}
 use Rattle.sgb_gen.specs.Limits.{most_piece}
-use Rattle.sgb_gen.specs.VectorGraphs.{Move, VectorGraph, call_text, described_by, integer_texts}
+use Rattle.sgb_gen.specs.VectorGraphs.{Move, VectorGraph, call_text, described_by}
 use Rattle.sgb_gen.specs.Moves.{sides_of, board_moves}
 
--- an accepted board: n1 to n4 as its official name has them, the sizes that they stand for, the piece, which is
--- not 0, wrap and the flag
+-- an accepted board: n1 to n4 as its official name has them, their sizes, the piece, which is not 0, wrap and the flag
 pub record BoardData : Type 0 where
   pub params : List ℤ
   pub sizes : List ℕ
@@ -26,8 +26,7 @@ abbrev pub piece_of : ℤ → Result ℤ Panic
 piece_of piece =
     if nat_lt most_piece (nat_abs piece) then Err VeryBad else Ok (if nat_abs piece == 0 then pos 1 else piece)
 
--- the board of these parameters, or why they are refused: too many dimensions first, then too many vertices,
--- then a piece too great
+-- the board of these parameters, or why they are refused: too many dimensions, then too many vertices, then a piece too great
 abbrev pub accepted_board : BoardParams → Result BoardData Panic
 accepted_board p =
     and_then (board_of p.n1 p.n2 p.n3 p.n4) (λ shape.
@@ -38,7 +37,7 @@ accepted_board p =
 -- its id: board(n1,n2,n3,n4,piece,wrap,directed)
 unfoldable pub board_id : BoardData → List ℕ
 board_id b =
-    call_text (codes "board") (integer_texts (b.params ++ (b.piece ∷ b.wrap ∷ [])) ++ flag_text b.directed ∷ [])
+    call_text (codes "board") (map signed_decimal (b.params ++ (b.piece ∷ b.wrap ∷ [])) ++ flag_text b.directed ∷ [])
 
 -- its moves, from one vertex to another
 abbrev pub moves_of_board : BoardData → List Move

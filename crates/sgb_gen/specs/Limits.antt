@@ -4,7 +4,3 @@ use Rattle.std.specs.Prelude.{ℕ}
 -- the piece of a board is at most this number, and at least its negative
 abbrev pub most_piece : ℕ
 most_piece = 2_147_483_647
-
--- the bits of size_bits
-abbrev pub size_bits_width : ℕ
-size_bits_width = 128

@@ -18,8 +18,7 @@ pub record LinksData : Type 0 where
 abbrev pub local_arc : List (List ℕ) → Link → LocalArc
 local_arc vectors link = record { tip = get_or vectors link.tip []; len = link.len }
 
--- the list of x in the graph whose vertices are these vectors and whose events are these moves: the arcs at its
--- vertex, those of later events first
+-- the list of x in the graph of these vectors whose events are these moves: the arcs at its vertex, those of later moves first
 unfoldable pub list_at : Bool → List (List ℕ) → List Move → List ℕ → List LocalArc
 list_at directed vectors moves x =
     map (local_arc vectors) (list_of directed (map (event_among vectors) moves) (vertex_among vectors x))

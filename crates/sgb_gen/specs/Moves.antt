@@ -19,8 +19,7 @@ is_bit_set (negsuc n) k = n / 2 ^ k % 2 == 0
 -- the sides of these sizes, where bit k is that of the first: a side wraps where its bit of wrap is 1
 abbrev pub sides_from_bit : ℕ → List ℕ → ℤ → List Side
 sides_from_bit k [] wrap = []
-sides_from_bit k (n ∷ sizes) wrap =
-    record { size = n; wraps = is_bit_set wrap k } ∷ sides_from_bit (k + 1) sizes wrap
+sides_from_bit k (n ∷ sizes) wrap = record { size = n; wraps = is_bit_set wrap k } ∷ sides_from_bit (k + 1) sizes wrap
 
 -- the sides of a board: bit 0 is that of the first coordinate
 abbrev pub sides_of : List ℕ → ℤ → List Side
@@ -60,11 +59,9 @@ places_count sides = product_of (map (λ s. s.size) sides)
 -- the lengths of a rider's moves from x by t: all from 1 on below the least at which the place does not exist
 -- or is x. As many steps as there are places always lead out of the board or back to x
 abbrev pub rider_reach : List Side → List ℕ → List ℤ → List ℕ
-rider_reach sides x t =
-    take_while (λ l. is_elsewhere x (place sides x t l)) (range_with_len 1 (places_count sides))
+rider_reach sides x t = take_while (λ l. is_elsewhere x (place sides x t l)) (range_with_len 1 (places_count sides))
 
--- the lengths of the moves from x by t: of a leaper, where piece is positive, 1 where that place exists; of a rider
--- where it is negative
+-- the lengths of the moves from x by t: of a leaper (piece is positive) 1, where that place exists; else those of a rider
 abbrev pub reach : List Side → ℤ → List ℕ → List ℤ → List ℕ
 reach sides (pos p) x t = filter (λ l. is_some (place sides x t l)) (1 ∷ [])
 reach sides (negsuc p) x t = rider_reach sides x t

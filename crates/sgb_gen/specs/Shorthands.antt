@@ -1,21 +1,13 @@
--- GraphBase's short names of some boards and subsets, as the parameters that they stand for
--- [GB_BASIC]. What is said of each holds for n of 1 and more; for others the name is that of whatever graph its
--- parameters make, as the board of 8 by 8.
+-- GraphBase's short names of some boards and subsets, as the parameters that they stand for [GB_BASIC]. What is said of each
+-- holds for n of 1 and more; for others the name is that of whatever graph its parameters make, as the board of 8 by 8.
 use Rattle.std.specs.Prelude.{ℤ, pos, negsuc, ◌-ℤ◌, Bool, true, false}
 use Rattle.sgb_gen.specs.declared.params.BoardParams.{BoardParams}
 use Rattle.sgb_gen.specs.declared.params.SubsetsParams.{SubsetsParams}
 
 -- a board of one dimension
 abbrev pub line : ℤ → ℤ → ℤ → Bool → BoardParams
-line n piece wrap directed = record {
-  n1 = n;
-  n2 = pos 0;
-  n3 = pos 0;
-  n4 = pos 0;
-  piece = piece;
-  wrap = wrap;
-  directed = directed;
-}
+line n piece wrap directed =
+    record { n1 = n; n2 = pos 0; n3 = pos 0; n4 = pos 0; piece = piece; wrap = wrap; directed = directed }
 
 -- complete(n): an edge between any two vertices
 abbrev pub complete : ℤ → BoardParams
@@ -39,16 +31,8 @@ cycle n = line n (pos 1) (pos 1) true
 
 -- disjoint_subsets(n,k): the subsets of k of n elements, with an edge between any two that are disjoint
 abbrev pub disjoint_subsets : ℤ → ℤ → SubsetsParams
-disjoint_subsets n k = record {
-  n = k;
-  n0 = pos 1;
-  n1 = pos 1 -ℤ n;
-  n2 = pos 0;
-  n3 = pos 0;
-  n4 = pos 0;
-  size_bits = 1;
-  directed = false;
-}
+disjoint_subsets n k =
+    record { n = k; n0 = pos 1; n1 = pos 1 -ℤ n; n2 = pos 0; n3 = pos 0; n4 = pos 0; size_bits = 1; directed = false }
 
 -- petersen(): the Petersen graph
 abbrev pub petersen : SubsetsParams

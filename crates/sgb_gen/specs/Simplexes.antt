@@ -1,5 +1,6 @@
 -- The graphs of simplexes [GB_BASIC, simplex].
 use Rattle.std.specs.Prelude.{ℕ, ◌+◌, ◌-◌, nat_lt, ℤ, Bool, ◌&&◌, List, [], ◌∷◌, ◌++◌, length, map, filter, slice_index, slice_set, sum, Result, Ok, codes}
+use Rattle.std.specs.Fmt.{signed_decimal}
 use Rattle.std.specs.List.{flat_map, range_with_len}
 use Rattle.sgb_vec.specs.Results.{and_then}
 use Rattle.sgb_vec.specs.Bounds.{simplex_of}
@@ -8,10 +9,9 @@ use Rattle.sgb_vec.specs.declared.panics.Panic.{Panic}
 use Rattle.sgb_graph.specs.Descriptions.{Description}
 use Rattle.sgb_graph.specs.IdTexts.{flag_text}
 use Rattle.sgb_gen.specs.declared.params.SimplexParams.{SimplexParams}
-use Rattle.sgb_gen.specs.VectorGraphs.{Move, VectorGraph, call_text, described_by, integer_texts}
+use Rattle.sgb_gen.specs.VectorGraphs.{Move, VectorGraph, call_text, described_by}
 
--- an accepted simplex: n and n0 to n4 as its official name has them, the sum and the bounds that they stand
--- for, and the flag
+-- an accepted simplex: n and n0 to n4 as its official name has them, the sum and the bounds that they stand for, and the flag
 pub record SimplexData : Type 0 where
   pub params : List ℤ
   pub sum : BoundedSum
@@ -51,7 +51,7 @@ moves_to bounds v =
 
 -- its id: simplex(n,n0,n1,n2,n3,n4,directed)
 unfoldable pub simplex_id : SimplexData → List ℕ
-simplex_id s = call_text (codes "simplex") (integer_texts s.params ++ flag_text s.directed ∷ [])
+simplex_id s = call_text (codes "simplex") (map signed_decimal s.params ++ flag_text s.directed ∷ [])
 
 -- its vertices: the vectors of the bounded sum
 abbrev pub simplex_vectors : SimplexData → List (List ℕ)

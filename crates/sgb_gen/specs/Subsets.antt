@@ -1,5 +1,6 @@
 -- The graphs of subsets [GB_BASIC, subsets].
 use Rattle.std.specs.Prelude.{ℕ, ◌+◌, ◌/◌, ◌%◌, ◌^◌, ◌==◌, min, nat_lt, ℤ, Bool, ◌&&◌, List, [], ◌∷◌, ◌++◌, length, map, filter, take, slice_index_or, Result, Ok, codes}
+use Rattle.std.specs.Fmt.{signed_decimal}
 use Rattle.std.specs.List.{flat_map, range_with_len}
 use Rattle.sgb_vec.specs.Results.{and_then}
 use Rattle.sgb_vec.specs.Bounds.{simplex_of}
@@ -8,11 +9,9 @@ use Rattle.sgb_vec.specs.declared.panics.Panic.{Panic}
 use Rattle.sgb_graph.specs.Descriptions.{Description}
 use Rattle.sgb_graph.specs.IdTexts.{flag_text, hexadecimal_text}
 use Rattle.sgb_gen.specs.declared.params.SubsetsParams.{SubsetsParams}
-use Rattle.sgb_gen.specs.Limits.{size_bits_width}
-use Rattle.sgb_gen.specs.VectorGraphs.{Move, VectorGraph, call_text, described_by, integer_texts}
+use Rattle.sgb_gen.specs.VectorGraphs.{Move, VectorGraph, call_text, described_by}
 
--- accepted subsets: n and n0 to n4 as the official name has them, the sum and the bounds that they stand for,
--- size_bits and the flag
+-- accepted subsets: n and n0 to n4 as the official name has them, their sum and bounds, size_bits and the flag
 pub record SubsetsData : Type 0 where
   pub params : List ℤ
   pub sum : BoundedSum
@@ -32,9 +31,9 @@ common_size [] v = 0
 common_size (x ∷ u) [] = 0
 common_size (x ∷ u) (y ∷ v) = min x y + common_size u v
 
--- bit c of size_bits is 1
+-- bit c of size_bits, which has 128 bits, is 1
 abbrev pub is_wanted_size : ℕ → ℕ → Bool
-is_wanted_size size_bits c = nat_lt c size_bits_width && (size_bits / 2 ^ c % 2 == 1)
+is_wanted_size size_bits c = nat_lt c 128 && (size_bits / 2 ^ c % 2 == 1)
 
 -- the moves to the i-th vector: from each vector up to it, itself too, with which it has a wanted size in common
 abbrev pub moves_to_place : ℕ → List (List ℕ) → ℕ → List Move
@@ -46,7 +45,7 @@ moves_to_place size_bits vectors i =
 -- their id: subsets(n,n0,n1,n2,n3,n4,0xH,directed)
 unfoldable pub subsets_id : SubsetsData → List ℕ
 subsets_id s =
-    call_text (codes "subsets") (integer_texts s.params ++ (hexadecimal_text s.size_bits ∷ flag_text s.directed ∷ []))
+    call_text (codes "subsets") (map signed_decimal s.params ++ (hexadecimal_text s.size_bits ∷ flag_text s.directed ∷ []))
 
 -- their vertices: the vectors of the bounded sum
 abbrev pub subsets_vectors : SubsetsData → List (List ℕ)

@@ -2,7 +2,6 @@
 use Rattle.std.specs.Prelude.{ℕ, ℤ, pos, Bool, List, [], ◌∷◌, ◌++◌, map, replicate, slice_index, codes, nat_eq}
 use Rattle.std.specs.List.{Contains, position_or_len, join_with_byte}
 use Rattle.std.specs.Cmp.Lexicographic.{pointwise}
-use Rattle.std.specs.Fmt.{signed_decimal}
 use Rattle.sgb_vec.specs.Names.{name_of_vector}
 use Rattle.sgb_graph.specs.Events.{Event}
 use Rattle.sgb_graph.specs.Descriptions.{Description}
@@ -21,8 +20,7 @@ pub record Move : Type 0 where
 abbrev pub HasEnds : List (List ℕ) → Move → Type 0
 HasEnds vectors m = Contains vectors m.from × Contains vectors m.to
 
--- a graph whose vertices are vectors: its id, whether its events are arcs and not edges, its vertices in order, and its
--- events in order
+-- a graph whose vertices are vectors: its id, whether its events are arcs and not edges, its vertices and its events in order
 pub record VectorGraph : Type 0 where
   pub id : List ℕ
   pub directed : Bool
@@ -39,11 +37,9 @@ vertex_among vectors v = position_or_len (λ w. same_vector w v) vectors
 
 -- the event of a move, where the vectors are the vertices
 abbrev pub event_among : List (List ℕ) → Move → Event
-event_among vectors m =
-    record { from = vertex_among vectors m.from; to = vertex_among vectors m.to; len = pos m.len }
+event_among vectors m = record { from = vertex_among vectors m.from; to = vertex_among vectors m.to; len = pos m.len }
 
--- the utility fields u, v, w, x, y, z of a vector's vertex: x, y and z hold its first three entries, and 0 for
--- those that it does not have
+-- the utility fields u to z of a vector's vertex: x, y and z hold its first three entries, and 0 for those that it has not
 abbrev pub fields_of_vector : List ℕ → List Util
 fields_of_vector v =
     Nothing ∷ Nothing ∷ Nothing ∷ Int (pos (slice_index v 0)) ∷ Int (pos (slice_index v 1)) ∷ Int (pos (slice_index v 2)) ∷ []
@@ -53,14 +49,9 @@ abbrev pub kinds_of_family : List (List ℕ) → List Kind
 kinds_of_family [] = replicate 14 Z
 kinds_of_family (v ∷ vectors) = Z ∷ Z ∷ Z ∷ I ∷ I ∷ I ∷ replicate 8 Z
 
--- the id of a generated graph: the generator's name, and in parentheses the texts of its parameters, with
--- commas (44) between them
+-- the id of a generated graph: its generator's name, and in parentheses the texts of its parameters with commas (44) between
 abbrev pub call_text : List ℕ → List (List ℕ) → List ℕ
 call_text name words = name ++ codes "(" ++ join_with_byte 44 words ++ codes ")"
-
--- integers as texts
-abbrev pub integer_texts : List ℤ → List (List ℕ)
-integer_texts params = map signed_decimal params
 
 -- the graph whose vertices are the vectors and whose events are the moves
 unfoldable pub family_graph : List ℕ → Bool → List (List ℕ) → List Move → Description

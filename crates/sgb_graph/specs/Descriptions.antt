@@ -7,9 +7,8 @@ use Rattle.sgb_graph.specs.Events.{Event, HasArcsOf}
 use Rattle.sgb_graph.specs.declared.fields.Kind.{Kind}
 use Rattle.sgb_graph.specs.declared.fields.Util.{Util}
 
--- a graph as its construction tells it: its id, whether its events are arcs or edges, the events in order, the
--- kinds of its utility fields, the graph's own six fields, and each vertex's name and six fields. The fields of
--- its arcs hold nothing
+-- a graph as its construction tells it: its id, whether its events are arcs or edges, the events in order, the kinds of its
+-- utility fields, the graph's own six fields, and each vertex's name and six fields. The fields of its arcs hold nothing
 pub record Description : Type 0 where
   pub id : List ℕ
   pub directed : Bool

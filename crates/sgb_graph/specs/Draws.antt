@@ -19,8 +19,7 @@ seed_of (negsuc n) = modulus - 1 - n % modulus
 abbrev pub rotated : ℕ → ℕ → ℕ
 rotated seed k = seed / 2 ^ (k % 31) + seed % 2 ^ (k % 31) * 2 ^ (31 - k % 31)
 
--- Y: the seed, 1, and then each is the last but one less the last, less the seed rotated as often as the
--- last one's number says
+-- Y: the seed, 1, and then each is the last but one less the last, less the seed rotated as often as the last one's number says
 unfoldable pub y_number : ℕ → ℕ → ℕ
 y_number seed zero = seed
 y_number seed (suc zero) = 1
@@ -48,8 +47,7 @@ draw seed t = x_number seed (55 * (5 + (t + 1) / 55) + 55 - (t + 1) % 55)
 abbrev pub bound_below : ℕ → ℕ
 bound_below m = modulus - modulus % m
 
--- the uniform draw below m from draw k on is this number, and `last` is the number of the draw that it is
--- made of: the first one from k on that is not thrown away
+-- the uniform draw below m from draw k on is this number, made of draw `last`: the first from k on that is not thrown away
 pub record IsUniformDraw (seed m k number last : ℕ) : Type 0 where
   pub from_place : k ≤ last
   pub taken : draw seed last < bound_below m

@@ -49,8 +49,7 @@ list_of directed events v = list_from directed 0 events v
 abbrev pub HasEndsBelow : ℕ → Event → Type 0
 HasEndsBelow n e = (e.from < n) × (e.to < n)
 
--- the graph's arcs are those of the events: its number of arcs, its records and each vertex's list, which comes
--- to an end; the events are between its vertices
+-- the graph's arcs are those of the events, which are between its vertices: their number, the records, each list, which ends
 pub record HasArcsOf (directed : Bool) (events : List Event) (g : GraphData) : Type 0 where
   pub count : g.m ≡ length (all_records directed events)
   pub tips : map (λ r. r.tip) g.records ≡ map (λ r. At r.tip) (all_records directed events)

@@ -63,14 +63,10 @@ pub record KeepsAllButArcs (old new : GraphData) : Type 0 where
 abbrev pub with_first : ℕ → ℕ → List Vertex → List Vertex
 with_first k u vertices = at_place (λ x. record x { arcs = Some k }) u vertices
 
--- the graph with one arc more, from u to v: it is the last record and the first on the list of u, before what
--- was the first
+-- the graph with one arc more, from u to v: it is the last record and the first on the list of u, before what was the first
 abbrev pub with_arc : GraphData → ℕ → ℕ → ℤ → GraphData
-with_arc g u v len = record g {
-  m = g.m + 1;
-  vertices = with_first (length g.records) u g.vertices;
-  records = g.records ++ arc_record v (first_arc g.vertices u) len ∷ [];
-}
+with_arc g u v len =
+    record g { m = g.m + 1; vertices = with_first (length g.records) u g.vertices; records = g.records ++ arc_record v (first_arc g.vertices u) len ∷ [] }
 
 -- what follows the lower record, number k, of a new edge: where it is a loop, the higher one
 abbrev pub after_lower : ℕ → List Vertex → ℕ → ℕ → Option ℕ
@@ -126,13 +122,10 @@ with_numbers x y z v = record v { util = put_numbers x y z v.util }
 abbrev pub with_number_kinds : List Kind → List Kind
 with_number_kinds kinds = slice_set (slice_set (slice_set kinds 3 I) 4 I) 5 I
 
--- the graph with these numbers in the fields x, y, z of vertex v, and 0 in those of other vertices that have no
--- number there
+-- the graph with these numbers in the fields x, y, z of vertex v, and 0 in those of other vertices that have no number there
 abbrev pub with_ints : GraphData → ℕ → ℤ → ℤ → ℤ → GraphData
-with_ints g v x y z = record g {
-  kinds = with_number_kinds g.kinds;
-  vertices = at_place (with_numbers x y z) v (map with_some_numbers g.vertices);
-}
+with_ints g v x y z =
+    record g { kinds = with_number_kinds g.kinds; vertices = at_place (with_numbers x y z) v (map with_some_numbers g.vertices) }
 
 -- the graph with this number in its own field uu (of its kinds the one at place 8)
 abbrev pub with_uu : ℤ → GraphData → GraphData

@@ -20,15 +20,8 @@ no_fields = replicate 6 Nothing
 
 -- a graph with these events, of arcs where directed, else of edges, and these names and id, that uses no utility field
 abbrev pub plain : Bool → List Event → List (List ℕ) → List ℕ → Description
-plain directed events names id = record {
-  id = id;
-  directed = directed;
-  events = events;
-  kinds = no_kinds;
-  util = no_fields;
-  names = names;
-  fields = map (λ x. no_fields) names;
-}
+plain directed events names id =
+    record { id = id; directed = directed; events = events; kinds = no_kinds; util = no_fields; names = names; fields = map (λ x. no_fields) names }
 
 -- the number of the first arc of a list
 abbrev pub first_number : List Link → Option ℕ
@@ -48,10 +41,8 @@ graph_described d = record {
   m = length (all_records d.directed d.events);
   kinds = d.kinds;
   util = d.util;
-  vertices =
-      map (λ p. record { name = p.1.0; arcs = first_number (list_of d.directed d.events p.0); util = p.1.1 })
+  vertices = map (λ p. record { name = p.1.0; arcs = first_number (list_of d.directed d.events p.0); util = p.1.1 })
       (enumerate_from 0 (zip d.names d.fields));
-  records =
-      map (λ p. arc_record p.1.tip (number_after p.0 (list_of d.directed d.events p.1.start)) p.1.len)
+  records = map (λ p. arc_record p.1.tip (number_after p.0 (list_of d.directed d.events p.1.start)) p.1.len)
       (enumerate_from 0 (all_records d.directed d.events));
 }

@@ -34,8 +34,7 @@ is_vertex _ = false
 abbrev pub leads_to_vertex : List ArcRec → ℕ → Bool
 leads_to_vertex records k = option_map_or (λ r. is_vertex r.tip) (slice_get records k) false
 
--- the lists of the graph are lists: from every record, on a list or not, the way by next comes to an end, and each arc on
--- the list of a vertex leads to a vertex
+-- lists are lists: from every record, on one or not, the way by next ends; and each arc on a vertex's list leads to a vertex
 abbrev pub is_sound : GraphData → Bool
 is_sound g =
     list_all (λ k. ends_of g.records (Some k)) (range_with_len 0 (length g.records))

@@ -41,6 +41,8 @@ pub mod Results
 pub mod AnswersOnward
 -- the wanted arcs of a complement
 pub mod ComplementEvents
+-- the ids of results, whole or cut
+pub mod CompoundIds
 -- names made of names are texts
 pub mod JoinedNames
 -- lines and the events between them, one by one

@@ -44,13 +44,11 @@ accepted_entries n entries =
     else (if list_any is_unnumbered entries then Err Bad
     else (if nat_lt most_vertices (merged_count entries + sum_by size_of_entry entries) then Err VeryBad else Ok entries))
 
--- the first of the vertices that stand in the place of vertex v alone: the merged vertices come first, and then those of
--- the vertices before v
+-- the first of the vertices in the place of vertex v alone: merged vertices come first, and then those of the vertices before v
 abbrev pub first_copy : List Entry → ℕ → ℕ
 first_copy entries v = merged_count entries + sum_by size_of_entry (take v entries)
 
--- the vertices that stand in the place of a vertex with this entry, whose own ones begin here: merged vertex k is
--- vertex k - 1
+-- the vertices that stand in the place of a vertex with this entry, whose own ones begin here: merged vertex k is vertex k - 1
 abbrev pub copies_by : ℕ → Entry → List ℕ
 copies_by start (entry.Copies k) = range_with_len start k
 copies_by start (entry.Graph inner) = range_with_len start (order_of inner)
@@ -60,9 +58,8 @@ copies_by start (entry.Merged k) = (k - 1) ∷ []
 abbrev pub copies_of : List Entry → ℕ → List ℕ
 copies_of entries v = option_map_or (copies_by (first_copy entries v)) (slice_get entries v) []
 
--- the names of the vertices that stand in the place of the vertex of this name alone: none; the name; the name and
--- the name with `'`; the name with `:0` to `:k-1`; the name with `:` and each name of the graph. The name is cut where it
--- would not fit
+-- the names of the vertices that stand in the place of the vertex of this name alone: none; the name; the name and the name
+-- with `'`; the name with `:0` to `:k-1`; the name with `:` and each name of the graph. The name is cut where it would not fit
 abbrev pub names_of_copies : List ℕ → Entry → List (List ℕ)
 names_of_copies text (entry.Copies zero) = []
 names_of_copies text (entry.Copies (suc zero)) = text ∷ []

@@ -23,8 +23,7 @@ events_between g entries directed = flat_map (λ v. flat_map (λ u. flat_map (λ
     (filter (λ t. directed || not (a.tip == v) || nat_le u t) (copies_of entries a.tip)))
     (taken directed g v)) (copies_of entries v)) (places_of g)
 
--- the events inside the entries and then those between copies, without loops unless they are wanted, with parallel
--- ones merged where they are not
+-- the events inside the entries and then those between copies: loops, and parallel ones apart, only where they are wanted
 abbrev pub induced_events : GraphData → List Entry → Bool → Bool → Bool → List Event
 induced_events g entries self multi directed =
     merged_unless multi directed

@@ -1,5 +1,4 @@
--- The intersection of two graphs on the vertices of the first; vertices correspond by their places
--- [GB_BASIC, intersection].
+-- The intersection of two graphs on the vertices of the first; vertices correspond by their places [GB_BASIC, intersection].
 use Rattle.std.specs.Prelude.{ℕ, ℤ, ◌==◌, min, Bool, true, false, List, [], ◌∷◌, map, filter, flat_map, count_by, take, codes, nat_lt, if◌then◌else◌, Result, Ok}
 use Rattle.std.specs.List.{range_with_len, enumerate_from}
 use Rattle.sgb_vec.specs.declared.panics.Panic.{Panic}

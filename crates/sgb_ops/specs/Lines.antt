@@ -32,8 +32,7 @@ has_way_back g line =
 abbrev pub is_of_edges : GraphData → List Line → Bool
 is_of_edges g lines = list_all (has_way_back g) lines && (length lines == g.m / 2)
 
--- the lines, or why they are refused: no graph of edges where one is wanted; then more lines than a graph can
--- have vertices
+-- the lines, or why they are refused: no graph of edges where one is wanted; then more lines than a graph can have vertices
 abbrev pub accepted_lines : GraphData → Bool → List Line → Result (List Line) Panic
 accepted_lines g directed lines =
     if not directed && not (is_of_edges g lines) then Err Invalid

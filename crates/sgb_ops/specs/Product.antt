@@ -31,8 +31,7 @@ type_number Strong = 2
 abbrev pub step : GraphData → ℕ × ℕ → ℕ × ℕ → ℤ → Event
 step h p q far = record { from = p.0 * order_of h + p.1; to = q.0 * order_of h + q.1; len = far }
 
--- the steps in the second coordinate, for each y, each arc taken of it and each x; and then those in the first, for each
--- x, each arc taken of it and each y
+-- steps in the second coordinate, for each y, each arc taken of it and each x; then in the first, for each x, each arc, each y
 abbrev pub single_steps : GraphData → GraphData → Bool → List Event
 single_steps g h directed =
     flat_map (λ y. flat_map (λ b. map (λ x. step h (x, y) (x, b.tip) b.len) (places_of g)) (taken directed h y)) (places_of h)

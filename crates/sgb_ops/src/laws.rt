@@ -1,8 +1,9 @@
-ghost use Rattle.std.specs.Prelude.{◌≡◌, ◌≢◌, ◌⊎◌, ◌<◌, ◌≤◌, ◌+◌, ℕ, Bool, false, true, List, length, map, reverse, sum_by, flat_map, All, AllPairs, Contains, Err, Some, slice_get};
+ghost use Rattle.std.specs.Prelude.{◌≡◌, ◌≢◌, ◌⊎◌, ◌<◌, ◌≤◌, ◌+◌, ◌-◌, ◌++◌, ℕ, Bool, false, true, List, length, map, reverse, sum_by, flat_map, All, AllPairs, Contains, Err, Some, slice_get};
 ghost use Rattle.std.specs.List.{list_any, range_with_len};
 ghost use Rattle.sgb_vec.specs.declared.panics.Panic.TheVariants.{Invalid};
 ghost use Rattle.sgb_graph.specs.Events.{Event, HasArcsOf};
 ghost use Rattle.sgb_graph.specs.Graphs.{GraphData};
+ghost use Rattle.sgb_graph.specs.Ids.{compound_id, cut_id, double_compound_id, most_id_bytes};
 ghost use Rattle.sgb_ops.specs.Copies.{own_copies};
 ghost use Rattle.sgb_ops.specs.Entries.{copies_of, is_unnumbered, merged_count, size_of_entry};
 ghost use Rattle.sgb_ops.specs.Lines.{is_of_edges, line_graph_of, lines_of_graph};
@@ -59,4 +60,25 @@ pub fn lines_law()
     ensures { (events : List Event) (g : GraphData) → HasArcsOf false events g
         → (is_of_edges g (lines_of_graph g false) ≡ true)
         × (line_graph_of g false ≢ Err Invalid) }
+{}
+
+/// The ids of operands stand whole in the id of a result where that has at most 160 bytes. Else one operand's is cut, so
+/// that the result's has 160; of two both are cut, to the same number of bytes or one more of the second, so that the
+/// result's has room for 159 (GB_GRAPH, make_compound_id and make_double_compound_id).
+pub fn compound_ids_law()
+    ensures one_fits { (s1 id s2 : List ℕ) → length (s1 ++ id ++ s2) ≤ most_id_bytes
+        → compound_id s1 id s2 ≡ s1 ++ id ++ s2 }
+    ensures one_is_cut { (s1 id s2 : List ℕ) → length (s1 ++ s2) ≤ 151
+        → most_id_bytes < length (s1 ++ id ++ s2)
+        → (k : ℕ) × (compound_id s1 id s2 ≡ s1 ++ cut_id k id ++ s2)
+        × (length (s1 ++ cut_id k id ++ s2) ≡ most_id_bytes) }
+    ensures both_fit { (s1 id1 s2 id2 s3 : List ℕ)
+        → length (s1 ++ id1 ++ s2 ++ id2 ++ s3) ≤ most_id_bytes
+        → double_compound_id s1 id1 s2 id2 s3 ≡ s1 ++ id1 ++ s2 ++ id2 ++ s3 }
+    ensures both_are_cut { (s1 id1 s2 id2 s3 : List ℕ) → length (s1 ++ s2 ++ s3) ≤ 151
+        → most_id_bytes < length (s1 ++ id1 ++ s2 ++ id2 ++ s3)
+        → (k j : ℕ) × (k ≤ j) × (j ≤ k + 1)
+        × (length (s1 ++ s2 ++ s3) + (k + 4) + (j + 4) ≡ most_id_bytes - 1)
+        × (double_compound_id s1 id1 s2 id2 s3
+        ≡ s1 ++ cut_id k id1 ++ s2 ++ cut_id j id2 ++ s3) }
 {}

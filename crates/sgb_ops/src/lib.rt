@@ -39,7 +39,10 @@ pub use complements::complement;
 pub use gunions::gunion;
 pub use induced_graphs::{Entry, induced, induced_from};
 pub use intersections::intersection;
-pub use laws::{copies_law, lines_law, merged_are_apart, merging_law, taken_lead_up, taking_law};
+pub use laws::{
+    compound_ids_law, copies_law, lines_law, merged_are_apart, merging_law, taken_lead_up,
+    taking_law,
+};
 pub use line_graphs::lines;
 pub use products::product;
 pub use wheels::wheel;

@@ -21,8 +21,7 @@ IsResumeOf None (Some count) (Skip k) = IsNumber 10 most_digits count k
 IsResumeOf (Some text) None (After name) = name ≡ text
 IsResumeOf _ _ _ = ⊥
 
--- an invalid command line: clap refuses the words, or there is no command, or both options stand, or K is no number of 1 to
--- 18 digits
+-- an invalid command line: clap refuses the words, there is no command, both options stand, or K is no number of 1 to 18 digits
 abbrev pub IsInvalidCommandLine : List Text → Type 0
 IsInvalidCommandLine words =
     ((fault_of command_line words ≢ []) ⊎ (subcommand_of command_line words ≡ None))

@@ -27,9 +27,11 @@ pub struct BoxFamily {
 }
 
 impl Model for BoxFamily {
-    ghost use Rattle.std.specs.Prelude.{List, ℕ, ◌≡◌, ◌≤◌, length};
+    ghost use Rattle.std.specs.Prelude.{List, ℕ, ◌≡◌, ◌≤◌};
     ghost use Rattle.sgb_vec.specs.Limits.{most_vertices};
     ghost use Rattle.sgb_vec.specs.Boxes.{product_of};
+    // For the search alone.
+    ghost use Rattle.std.specs.Prelude.{length};
 
     ghost Value = { List ℕ };
 

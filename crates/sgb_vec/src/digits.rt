@@ -1,7 +1,9 @@
 //! Digits in a radix, and the number that they write.
-ghost use Rattle.std.specs.Prelude.{◌≡◌, ◌+◌, ◌^◌, ◌<◌, ◌≤◌};
+ghost use Rattle.std.specs.Prelude.{◌≡◌, ◌^◌, ◌<◌, ◌≤◌};
 ghost use Rattle.std.specs.Str.Parse.{IsNumeral, digits_value};
 ghost use Rattle.sgb_vec.specs.Digits.{leading_digits};
+// For the search alone.
+ghost use Rattle.std.specs.Prelude.{◌+◌};
 
 /// The digits in the radix, 2 to 36, that the text begins with, `most` of them at the most. Letters of either case
 /// are the digits from 10 on.

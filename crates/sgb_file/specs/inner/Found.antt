@@ -1,7 +1,6 @@
 -- What a reader returns, and the text that it leaves [GB_SAVE, fill_field].
 use Rattle.std.specs.Prelude.{◌≡◌, ◌≤◌, ◌==◌, ◌&&◌, ◌++◌, ◌-◌, ℕ, Bool, true, false, ℤ, pos, neg_ℤ, ◌^◌, List, [], ◌∷◌, length, option_map, Option, Some, None, Result, Ok, Err, nat_lt, nat_le, slice_index_or, if◌then◌else◌}
 use Rattle.std.specs.List.{list_any, list_all, before_first, after_first}
-use Rattle.std.specs.Str.Parse.{digits_value}
 use Rattle.sgb_text.proofs.Findings.{Found, given}
 use Rattle.sgb_vec.specs.Limits.{most_bytes}
 use Rattle.sgb_vec.specs.declared.panics.Panic.{Panic}
@@ -12,7 +11,6 @@ use Rattle.sgb_graph.specs.declared.fields.Util.{Util}
 use Rattle.sgb_graph.specs.declared.fields.Util.TheVariants.{Nothing}
 use Rattle.sgb_vec.specs.Names.{is_text_byte}
 use Rattle.sgb_file.specs.Fields.{unbroken}
-use Rattle.sgb_file.specs.inner.FieldValues.{is_decimal_digit}
 use Rattle.sgb_file.specs.inner.Heads.{Counts}
 use Rattle.sgb_file.specs.inner.ReadFields.{field_at, string_at}
 use Rattle.sgb_file.specs.inner.ReadRecords.{after_comma}
@@ -43,10 +41,6 @@ is_used _ = true
 abbrev pub next_field_at : Counts → Kind → List ℕ → Option (Found Util)
 next_field_at counts kind text =
     if is_used kind then next_at (field_at counts kind) text else Some (record { value = Nothing; rest = text })
-
--- the number that bytes write which are all digits
-abbrev pub value_if_digits : List ℕ → Option ℕ
-value_if_digits text = if list_all is_decimal_digit text then Some (digits_value 10 text) else None
 
 -- the integer of 64 bits that a number is, and that it is with a `-`
 abbrev pub positive_of : ℕ → Option ℤ

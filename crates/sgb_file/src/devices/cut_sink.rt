@@ -1,8 +1,8 @@
 //! A sink that takes few bytes at once and fails after so many, for tests of what writes to it.
-ghost use Rattle.std.specs.Prelude.{◌≡◌, ◌<◌, [], true, false, ◌||◌, Some, IfOk, OnOk, OnErr, length, is_err};
+ghost use Rattle.std.specs.Prelude.{◌≡◌, ◌<◌, ◌++◌, ◌-◌, ◌==◌, ◌||◌, [], true, false, Some, IfOk, OnOk, OnErr, length, min, take, is_err};
 ghost use Rattle.std.specs.Io.{WritesAtMost};
 ghost use Rattle.std.specs.Io.KnownBytes.{WriteAppends, Keeps};
-ghost use Rattle.sgb_file.specs.Devices.{nothing_held, put_fails, put_count, after_put};
+ghost use Rattle.sgb_file.specs.Devices.{nothing_held};
 
 use super::single_calls::give_up;
 use super::{Failed, Sink};
@@ -79,9 +79,14 @@ impl<const N: usize> Sink for CutSink<N> {
         ensures took { WriteAppends (Some self.old.taken) (Some self.new.taken) result bytes.now }
         ensures failed { self.new.failed ≡ is_err result }
         ensures stays_failed { self.old.failed ≡ true → self.new.failed ≡ true }
-        ensures fails { is_err result ≡ put_fails N self.old }
-        ensures count { IfOk result (λ count. count ≡ put_count N self.old (length bytes.now)) }
-        ensures held { IfOk result (λ count. self.new ≡ after_put self.old bytes.now count) }
+        ensures fails { is_err result
+            ≡ (self.old.failed || (self.old.left == 0 || length self.old.taken == N)) }
+        ensures count { IfOk result (λ count. count ≡ min (min (min self.old.each self.old.left)
+            (N - length self.old.taken)) (length bytes.now)) }
+        ensures held { IfOk result (λ count. self.new ≡ record self.old {
+          taken = self.old.taken ++ take count bytes.now;
+          left = self.old.left - count;
+        }) }
         ensures refused { OnErr result (self.new ≡ record self.old { failed = true }) }
     {
         if self.failed || self.left == 0 || self.taken.is_full() {

@@ -1,8 +1,7 @@
 //! A source that gives few bytes at once and fails after so many, for tests of what reads it.
-ghost use Rattle.std.specs.Prelude.{◌≡◌, ◌<◌, ◌++◌, true, false, Some, IfOk, OnErr, length, take, drop, is_err};
+ghost use Rattle.std.specs.Prelude.{◌≡◌, ◌<◌, ◌++◌, ◌-◌, ◌==◌, ◌||◌, true, false, Some, IfOk, OnErr, length, min, take, drop, is_err};
 ghost use Rattle.std.specs.Io.{ReadsAtMost};
 ghost use Rattle.std.specs.Io.KnownBytes.{ReadConsumes};
-ghost use Rattle.sgb_file.specs.Devices.{take_fails, take_count, after_take};
 
 use super::single_calls::{copy_prefix, give_up};
 use super::{Failed, Source};
@@ -63,11 +62,15 @@ impl<'a> Source for CutSource<'a> {
         ensures gave { ReadConsumes (Some self.old.bytes) (Some self.new.bytes) result buffer.new }
         ensures failed { self.new.failed ≡ is_err result }
         ensures stays_failed { self.old.failed ≡ true → self.new.failed ≡ true }
-        ensures fails { is_err result ≡ take_fails self.old }
-        ensures count { IfOk result (λ count. count ≡ take_count self.old (length buffer.old)) }
+        ensures fails { is_err result ≡ (self.old.failed || self.old.left == 0) }
+        ensures count { IfOk result (λ count. count ≡ min (min (min self.old.each self.old.left)
+            (length self.old.bytes)) (length buffer.old)) }
         ensures copied { IfOk result (λ count. buffer.new ≡ take count self.old.bytes
             ++ drop count buffer.old) }
-        ensures rest { IfOk result (λ count. self.new ≡ after_take self.old count) }
+        ensures rest { IfOk result (λ count. self.new ≡ record self.old {
+          bytes = drop count self.old.bytes;
+          left = self.old.left - count;
+        }) }
         ensures refused { OnErr result (self.new ≡ record self.old { failed = true }) }
         ensures untouched { OnErr result (buffer.new ≡ buffer.old) }
     {

@@ -1,16 +1,18 @@
 //! The numbers of a `.gb` file, and what stands for a vertex or an arc record (GB_SAVE, fill_field).
 //!
-//! An integer that `plain` does not read in one pass takes 128 bits and two passes: one sees that all are digits, the
+//! A number that `plain` does not read in one pass takes 128 bits and two passes: one sees that all are digits, the
 //! other makes the value.
-ghost use Rattle.std.specs.Prelude.{◌≡◌, ◌≤◌, ◌<◌, ◌^◌, length, IfSome, IsTrue};
+ghost use Rattle.std.specs.Prelude.{◌≡◌, ◌≤◌, ◌<◌, ◌^◌, IfSome};
 ghost use Rattle.std.specs.List.{list_all};
-ghost use Rattle.std.specs.Str.Parse.{digits_value};
 ghost use Rattle.sgb_file.specs.Fields.{most_number_digits};
 ghost use Rattle.sgb_file.specs.inner.FieldValues.{integer_of, is_decimal_digit, most_integer_digits, number_below, number_of, record_number_of, ref_of};
-ghost use Rattle.sgb_file.specs.inner.Found.{negative_of, positive_of, value_if_digits};
+ghost use Rattle.sgb_file.specs.inner.Found.{negative_of, positive_of};
+// For the search alone.
+ghost use Rattle.std.specs.Prelude.{length};
 
 use super::heads::Counts;
 use sgb_graph::Ref;
+use sgb_vec::digits_value;
 
 // A number of the file's own has at most this many digits.
 pub(super) const MOST_NUMBER_DIGITS: usize = 18;
@@ -23,25 +25,20 @@ pub(super) fn number_of(text: &[u8]) -> Option<u64>
     ensures value { result ≡ number_of most_number_digits text.now }
     ensures bound { IfSome result (λ n. n < 10 ^ 18) }
 {
-    if text.is_empty() || text.len() > MOST_NUMBER_DIGITS {
-        return None;
-    }
-    value_if_digits(text)
+    let number = number_up_to(MOST_NUMBER_DIGITS, text)?;
+    Some(number as u64)
 }
 
-// The number that at most 18 bytes write; none where one of them is no digit.
-fn value_if_digits(text: &[u8]) -> Option<u64>
-    requires { length text.now ≤ 18 }
-    ensures { result ≡ value_if_digits text.now }
+// The number that a text of 1 to so many digits writes; leading zeros are allowed.
+fn number_up_to(most: usize, text: &[u8]) -> Option<u128>
+    requires { most ≤ 20 }
+    ensures value { result ≡ number_of most text.now }
+    ensures bound { IfSome result (λ n. n < 10 ^ most) }
 {
-    let mut value = 0;
-    for byte in text {
-        if !is_digit(*byte) {
-            return None;
-        }
-        value = 10 * value + u64::from(*byte - b'0');
+    if text.is_empty() || text.len() > most || !are_digits(text) {
+        return None;
     }
-    Some(value)
+    Some(digits_value(text, 10))
 }
 
 // Whether the byte is a decimal digit.
@@ -128,14 +125,7 @@ fn great_number_of(text: &[u8]) -> Option<u128>
     ensures value { result ≡ number_of most_integer_digits text.now }
     ensures bound { IfSome result (λ n. n < 10 ^ 20) }
 {
-    if text.len() <= MOST_NUMBER_DIGITS {
-        let number = number_of(text)?;
-        return Some(u128::from(number));
-    }
-    if text.len() > MOST_INTEGER_DIGITS || !are_digits(text) {
-        return None;
-    }
-    Some(value_of(text))
+    number_up_to(MOST_INTEGER_DIGITS, text)
 }
 
 // Whether all bytes are decimal digits.
@@ -143,17 +133,4 @@ fn are_digits(text: &[u8]) -> bool
     ensures { result ≡ list_all is_decimal_digit text.now }
 {
     text.iter().all(|byte| is_digit(*byte))
-}
-
-// The number that at most 20 digits write.
-fn value_of(digits: &[u8]) -> u128
-    requires short { length digits.now ≤ 20 }
-    requires digits { IsTrue (list_all is_decimal_digit digits.now) }
-    ensures { result ≡ digits_value 10 digits.now }
-{
-    let mut value = 0;
-    for digit in digits {
-        value = 10 * value + u128::from(*digit - b'0');
-    }
-    value
 }

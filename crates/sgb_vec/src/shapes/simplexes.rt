@@ -1,7 +1,9 @@
 ghost use Rattle.std.specs.Prelude.{◌≡◌, ◌+◌, ◌<◌, ◌≤◌, pos, ◌∷◌, length, map, min};
 ghost use Rattle.sgb_vec.specs.Limits.{most_dimensions};
-ghost use Rattle.sgb_vec.specs.Sizes.{before_stop, count_by_stop, stop_of, repeated, zero_after_stop};
+ghost use Rattle.sgb_vec.specs.Sizes.{before_stop, count_by_stop, stop_of, repeated};
 ghost use Rattle.sgb_vec.specs.Bounds.{first_parameter, bounds_to_repeat, clamped_parameter, simplex_by_stop, simplex_of};
+// For the search alone.
+ghost use Rattle.sgb_vec.specs.Sizes.{zero_after_stop};
 
 use super::entries::{before_stop, stop_of, zero_after_stop};
 use super::{MOST_DIMENSIONS, Shape};

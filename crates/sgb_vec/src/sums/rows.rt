@@ -3,11 +3,13 @@
 //! The triples within the three greatest bounds are counted in closed form, the vectors within the other bounds in a
 //! row of 2,048 counts. Where that is too short there is no count, and vectors are walked in its place. No sum that
 //! `SumFamily::new` accepts needs a longer row; that is not proved.
-ghost use Rattle.std.specs.Prelude.{◌≡◌, ◌+◌, ◌≤◌, ◌<◌, ℕ, List, ◌∷◌, All, length, sum, min, IfSome};
+ghost use Rattle.std.specs.Prelude.{◌≡◌, ◌+◌, ◌≤◌, ℕ, List, ◌∷◌, All, length, sum, min, IfSome};
 ghost use Rattle.std.specs.Bool.{OnTrue};
 ghost use Rattle.sgb_vec.specs.Limits.{most_dimensions, most_vertices};
 ghost use Rattle.sgb_vec.specs.Sums.{count_of_sum};
 ghost use Rattle.sgb_vec.specs.inner.SumRows.{CountsSums};
+// For the search alone.
+ghost use Rattle.std.specs.Prelude.{◌<◌};
 
 use super::counts::{add_bound, has_great, row_length, take_greatest};
 use super::triples::triples;
