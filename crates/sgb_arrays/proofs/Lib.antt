@@ -9,6 +9,8 @@ pub mod RunSteps
 pub mod RunPlaces
 -- arrays of all lists, cut down to a run
 pub mod CutRuns
+-- lists that share records
+pub mod SharedLists
 -- arcs put by strides
 pub mod StridePuts
 -- arrays of a run, copied to others of their lengths
