@@ -13,6 +13,8 @@ pub mod CutRuns
 pub mod SharedLists
 -- arcs put by strides
 pub mod StridePuts
+-- all lists have as many arcs as the graph counts
+pub mod AllArcs
 -- arrays of a run, copied to others of their lengths
 pub mod CopiedRuns
 -- runs of a generator's graph
