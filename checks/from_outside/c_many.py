@@ -6,7 +6,7 @@
 - Each call runs in a thread with a stack of 128 KB, or of more where it needs more, and touches no more of it than
   include/sgb.h says. With OUTSIDE_STACK=1 it prints how much each touches.
 - The callers are built with AddressSanitizer and ThreadSanitizer, where the compiler has them, and run.
-- With OUTSIDE_SHARED_LISTS=1, and not in the gate: a hostile file opens at once.
+- A hostile file of 10 MB, whose vertices share one list, opens within a second, and its size is told.
 """
 
 import concurrent.futures
@@ -276,5 +276,4 @@ def all_checks(program):
     yield "library stack", stack
     yield "library threads", threads
     yield "library addresses", addresses(program)
-    if os.environ.get("OUTSIDE_SHARED_LISTS") == "1":
-        yield "library shared lists", shared_lists
+    yield "library shared lists", shared_lists

@@ -9,8 +9,12 @@ pub mod RunSteps
 pub mod RunPlaces
 -- arrays of all lists, cut down to a run
 pub mod CutRuns
+-- lists that share records
+pub mod SharedLists
 -- arcs put by strides
 pub mod StridePuts
+-- all lists have as many arcs as the graph counts
+pub mod AllArcs
 -- arrays of a run, copied to others of their lengths
 pub mod CopiedRuns
 -- runs of a generator's graph

@@ -11,3 +11,5 @@ pub mod Kinds
 pub mod Sizes
 -- arrays cut down to a run
 pub mod Cuts
+-- what is kept of the lists of a graph
+pub mod Packed

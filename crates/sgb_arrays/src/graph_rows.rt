@@ -136,6 +136,28 @@ pub fn fill_rows(
         × (starts.new ≡ starts.old) × (tips.new ≡ tips.old) × (lengths.new ≡ lengths.old)) }
 {
     let arcs = arcs_len(graph, first, count)?;
+    fill_counted_rows(graph, first, count, arcs, starts, tips, lengths)
+}
+
+/// The same of a run that is there, with so many arcs.
+pub(crate) fn fill_counted_rows(
+    graph: &Graph,
+    first: u32,
+    count: u32,
+    arcs: u128,
+    starts: &mut [u64],
+    tips: &mut [u32],
+    lengths: &mut [i64],
+) -> Result<(), Wrong>
+    requires there { IsThere graph.now first count }
+    requires arcs { arcs ≡ length (parts_of (chain_of graph.now) first count) }
+    ensures filled { OnOk result (IsThere graph.now first count
+        × HaveRowLengths graph.now first count starts.old tips.old lengths.old
+        × AreRows graph.now first count starts.new tips.new lengths.new) }
+    ensures refused { IfErr result (λ why. IsFillRefusal graph.now first count
+        (HaveRowLengths graph.now first count starts.old tips.old lengths.old) ⊥ why
+        × (starts.new ≡ starts.old) × (tips.new ≡ tips.old) × (lengths.new ≡ lengths.old)) }
+{
     if !have_row_places(starts.len(), tips.len(), lengths.len(), count, arcs) {
         return Err(Wrong::Length);
     }
@@ -163,6 +185,27 @@ pub fn fill_tips(
         × (starts.new ≡ starts.old) × (tips.new ≡ tips.old)) }
 {
     let arcs = arcs_len(graph, first, count)?;
+    fill_counted_tips(graph, first, count, arcs, starts, tips)
+}
+
+/// The same of a run that is there, with so many arcs.
+pub(crate) fn fill_counted_tips(
+    graph: &Graph,
+    first: u32,
+    count: u32,
+    arcs: u128,
+    starts: &mut [u64],
+    tips: &mut [u32],
+) -> Result<(), Wrong>
+    requires there { IsThere graph.now first count }
+    requires arcs { arcs ≡ length (parts_of (chain_of graph.now) first count) }
+    ensures filled { OnOk result (IsThere graph.now first count
+        × HaveTipLengths graph.now first count starts.old tips.old
+        × AreTips graph.now first count starts.new tips.new) }
+    ensures refused { IfErr result (λ why. IsFillRefusal graph.now first count
+        (HaveTipLengths graph.now first count starts.old tips.old) ⊥ why
+        × (starts.new ≡ starts.old) × (tips.new ≡ tips.old)) }
+{
     if !have_places(starts.len(), tips.len(), count, arcs) {
         return Err(Wrong::Length);
     }

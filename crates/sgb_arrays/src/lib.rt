@@ -23,6 +23,8 @@ mod ids;
 mod kinds;
 // What holds of all arrays.
 mod laws;
+// How long all lists of a graph are.
+mod list_sizes;
 // Names as arrays.
 mod names;
 // Graphs that are open, built or not.

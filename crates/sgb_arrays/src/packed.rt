@@ -3,15 +3,18 @@
 //! Records lie far apart, so a walk over lists takes longer than all else that fetching does. To make the arrays makes
 //! opening longer by what it spares the first fetch, and who fetches twice walks once. In a file vertices may share
 //! records, so that a few stand on lists with any number of arcs. Then the arrays are not kept, so that a small file
-//! cannot take much memory: each call walks the lists.
+//! cannot take much memory, but how long each list is: only who asks for arrays walks the lists.
 ghost use Rattle.std.specs.Prelude.{◌≡◌, ◌++◌, ◌<◌, length, map, OnOk, IfErr, IfOk, IfSome, IsOkUnless};
 ghost use Rattle.std.specs.Bool.{OnTrue};
 ghost use Rattle.sgb_graph.specs.Graphs.{chain_of};
 ghost use Rattle.sgb_arrays.specs.Runs.{AreRows, AreTips, HaveRowLengths, HaveTipLengths, IsFillRefusal, IsThere, parts_of};
+ghost use Rattle.sgb_arrays.specs.inner.Packed.{HoldsLists};
+ghost use Rattle.sgb_arrays.specs.inner.Sizes.{AreListSizes};
 ghost use Rattle.sgb_vec.specs.declared.panics.Panic.TheVariants as Panic;
 ghost use Rattle.sgb_arrays.specs.declared.refusals.Wrong.TheVariants as wrong;
 
-use crate::graph_rows::{arcs_len, fill_rows, fill_tips};
+use crate::graph_rows::{fill_counted_rows, fill_counted_tips};
+use crate::list_sizes::{arcs_len_by, list_sizes};
 use crate::refusals::Wrong;
 use crate::rows::Rows;
 use crate::runs::{have_places, have_row_places, is_there};
@@ -25,34 +28,41 @@ use std::marker::Model;
 #[derive(Drop)]
 pub struct PackedGraph {
     graph: Graph,
-    // Its lists, unless vertices share records so that more arcs are on lists than there are records.
-    rows: Option<Rows>,
+    lists: Lists,
+}
+
+// What is kept of the lists of a graph.
+#[derive(Drop)]
+enum Lists {
+    // All of them.
+    Whole(Rows),
+    // How long each is, where vertices share records, so that more arcs are on lists than there are records.
+    Shared(Vec<usize>),
 }
 
 impl Model for PackedGraph {
-    ghost use Rattle.std.specs.Prelude.{length, IfSome};
     ghost use Rattle.sgb_graph.specs.Graphs.{GraphData};
-    ghost use Rattle.sgb_arrays.specs.Runs.{AreRows};
+    ghost use Rattle.sgb_arrays.specs.inner.Packed.{HoldsLists};
 
     ghost Value = { GraphData };
 
     ghost view = { λ p. p.graph };
 
-    ghost invariant = { λ p. IfSome p.rows (λ rows. AreRows p.graph 0 (length p.graph.vertices)
-        rows.starts.items rows.tips.items rows.lengths.items) };
+    ghost invariant = { λ p. HoldsLists p.graph p.lists };
 }
 
 impl PackedGraph {
-    /// Puts the lists of the graph into arrays: twelve bytes for each arc, and eight for each vertex. Lists that share so many
-    /// records that they have more arcs than the graph has records are not put there.
+    /// Puts the lists of the graph into arrays: twelve bytes for each arc, and eight for each vertex. Of lists that share so
+    /// many records that they have more arcs than the graph has records, how long each is: eight bytes for each vertex, and
+    /// for each record while they are counted.
     ///
     /// `NoRoom` out of memory.
     pub fn new(alloc: Global, graph: Graph) -> Result<PackedGraph, Panic>
         ensures graph { IfOk result (λ p. p ≡ graph) }
         ensures memory { IsOkUnless result Panic.NoRoom }
     {
-        let rows = packed_rows(alloc, &graph)?;
-        Ok(PackedGraph { graph, rows })
+        let lists = lists_of(alloc, &graph)?;
+        Ok(PackedGraph { graph, lists })
     }
 
     /// The graph.
@@ -62,8 +72,8 @@ impl PackedGraph {
         &self.graph
     }
 
-    /// How many arcs are on the lists of `count` vertices, from vertex `first` on, as `arcs_len` says; at once, unless vertices
-    /// share records.
+    /// How many arcs are on the lists of `count` vertices, from vertex `first` on, as `arcs_len` says; at once, or where
+    /// vertices share records in a step for each vertex.
     ///
     /// `Vertices` where there are not so many vertices.
     pub fn arcs_len(&self, first: u32, count: u32) -> Result<u128, Wrong>
@@ -72,9 +82,9 @@ impl PackedGraph {
         ensures refused { IfErr result (λ why. (why ≡ wrong.Vertices)
             × (IsThere self.now first count → ⊥)) }
     {
-        match &self.rows {
-            Some(rows) => count_rows(&self.graph, rows, first, count),
-            None => arcs_len(&self.graph, first, count),
+        match &self.lists {
+            Lists::Whole(rows) => count_rows(&self.graph, rows, first, count),
+            Lists::Shared(sizes) => arcs_len_by(&self.graph, sizes.as_slice(), first, count),
         }
     }
 
@@ -96,9 +106,17 @@ impl PackedGraph {
             (HaveRowLengths self.now first count starts.old tips.old lengths.old) ⊥ why
             × (starts.new ≡ starts.old) × (tips.new ≡ tips.old) × (lengths.new ≡ lengths.old)) }
     {
-        match &self.rows {
-            Some(rows) => copy_rows(&self.graph, rows, first, count, starts, tips, lengths),
-            None => fill_rows(&self.graph, first, count, starts, tips, lengths),
+        match &self.lists {
+            Lists::Whole(rows) => copy_rows(&self.graph, rows, first, count, starts, tips, lengths),
+            Lists::Shared(sizes) => fill_shared_rows(
+                &self.graph,
+                sizes.as_slice(),
+                first,
+                count,
+                starts,
+                tips,
+                lengths,
+            ),
         }
     }
 
@@ -119,9 +137,11 @@ impl PackedGraph {
             (HaveTipLengths self.now first count starts.old tips.old) ⊥ why
             × (starts.new ≡ starts.old) × (tips.new ≡ tips.old)) }
     {
-        match &self.rows {
-            Some(rows) => copy_tips(&self.graph, rows, first, count, starts, tips),
-            None => fill_tips(&self.graph, first, count, starts, tips),
+        match &self.lists {
+            Lists::Whole(rows) => copy_tips(&self.graph, rows, first, count, starts, tips),
+            Lists::Shared(sizes) => {
+                fill_shared_tips(&self.graph, sizes.as_slice(), first, count, starts, tips)
+            }
         }
     }
 }
@@ -199,6 +219,61 @@ fn copy_tips(
     }
     rows.put_cut_tips(first, count, starts, tips);
     Ok(())
+}
+
+// Puts the lists of a run into arrays, where it is known how long all lists are.
+fn fill_shared_rows(
+    graph: &Graph,
+    sizes: &[usize],
+    first: u32,
+    count: u32,
+    starts: &mut [u64],
+    tips: &mut [u32],
+    lengths: &mut [i64],
+) -> Result<(), Wrong>
+    requires { AreListSizes graph.now sizes.now }
+    ensures filled { OnOk result (IsThere graph.now first count
+        × HaveRowLengths graph.now first count starts.old tips.old lengths.old
+        × AreRows graph.now first count starts.new tips.new lengths.new) }
+    ensures refused { IfErr result (λ why. IsFillRefusal graph.now first count
+        (HaveRowLengths graph.now first count starts.old tips.old lengths.old) ⊥ why
+        × (starts.new ≡ starts.old) × (tips.new ≡ tips.old) × (lengths.new ≡ lengths.old)) }
+{
+    let arcs = arcs_len_by(graph, sizes, first, count)?;
+    fill_counted_rows(graph, first, count, arcs, starts, tips, lengths)
+}
+
+// The same without the lengths of the arcs.
+fn fill_shared_tips(
+    graph: &Graph,
+    sizes: &[usize],
+    first: u32,
+    count: u32,
+    starts: &mut [u64],
+    tips: &mut [u32],
+) -> Result<(), Wrong>
+    requires { AreListSizes graph.now sizes.now }
+    ensures filled { OnOk result (IsThere graph.now first count
+        × HaveTipLengths graph.now first count starts.old tips.old
+        × AreTips graph.now first count starts.new tips.new) }
+    ensures refused { IfErr result (λ why. IsFillRefusal graph.now first count
+        (HaveTipLengths graph.now first count starts.old tips.old) ⊥ why
+        × (starts.new ≡ starts.old) × (tips.new ≡ tips.old)) }
+{
+    let arcs = arcs_len_by(graph, sizes, first, count)?;
+    fill_counted_tips(graph, first, count, arcs, starts, tips)
+}
+
+// What is kept of the lists of a graph: all of them, or how long each is.
+fn lists_of(alloc: Global, graph: &Graph) -> Result<Lists, Panic>
+    ensures lists { IfOk result (HoldsLists graph.now) }
+    ensures memory { IsOkUnless result Panic.NoRoom }
+{
+    if let Some(rows) = packed_rows(alloc, graph)? {
+        return Ok(Lists::Whole(rows));
+    }
+    let sizes = list_sizes(alloc, graph)?;
+    Ok(Lists::Shared(sizes))
 }
 
 // The lists of a graph, by one walk: lists are followed eight side by side, and then put while their records are at hand.

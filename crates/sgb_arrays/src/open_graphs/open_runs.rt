@@ -1,5 +1,5 @@
 //! What an open graph has for a run of its vertices, as arrays.
-ghost use Rattle.std.specs.Prelude.{◌≡◌, ◌+◌, length, IfErr, IfOk, OnOk, ⊤};
+ghost use Rattle.std.specs.Prelude.{◌≡◌, ◌+◌, length, IfErr, IfOk, IfSome, OnOk, ⊤};
 ghost use Rattle.sgb_graph.specs.Graphs.{chain_of};
 ghost use Rattle.sgb_arrays.specs.Fields.{HoldsInts, IsIntsRefusal, ints_of};
 ghost use Rattle.sgb_arrays.specs.OpenGraphs.{IsListed, graph_open};
@@ -15,7 +15,7 @@ use crate::run_arcs::arcs_of_run;
 use crate::run_names::names_of_run;
 use crate::run_rows::rows_of_run;
 use crate::runs::is_there;
-use sgb_gen::Local;
+use sgb_gen::{Links, Local};
 use std::alloc::Global;
 
 impl OpenGraph {
@@ -168,7 +168,36 @@ fn local_arcs_len(alloc: Global, local: &Local, first: u32, count: u32) -> Resul
     if !is_there(local.size(), first, count) {
         return Err(Wrong::Vertices);
     }
+    if first == 0 && count == local.size() {
+        if let Some(arcs) = all_arcs_len(alloc, local) {
+            return Ok(arcs);
+        }
+    }
     arcs_of_run(alloc, local, first, count)
+}
+
+// How many arcs are on all lists of a board or of a simplex: as many as it counts, which is told without the lists.
+fn all_arcs_len(alloc: Global, local: &Local) -> Option<u128>
+    ensures { IfSome result (λ m. m
+        ≡ length (parts_of (chain_of (graph_open (OpenGraph.Listed local.now))) 0
+        (length (graph_open (OpenGraph.Listed local.now)).vertices))) }
+{
+    match arcs_counted(alloc, local) {
+        Some(arcs) => Some(arcs),
+        None => None,
+    }
+}
+
+// How many arcs a board or a simplex counts. Those of subsets may be counted by a walk over all of them, or by tables that
+// take much of the stack.
+fn arcs_counted(alloc: Global, local: &Local) -> Option<u128>
+    ensures { IfSome result (λ m. m ≡ (graph_open (OpenGraph.Listed local.now)).m) }
+{
+    match local {
+        Local::Board(board) => board.arcs_count().ok(),
+        Local::Simplex(simplex) => simplex.arcs_count(&Links::new(alloc)).ok(),
+        Local::Subsets(_) => None,
+    }
 }
 
 // How many bytes the names of a run of a generator's graph have.
