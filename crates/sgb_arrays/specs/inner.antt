@@ -11,3 +11,5 @@ pub mod Kinds
 pub mod Sizes
 -- arrays cut down to a run
 pub mod Cuts
+-- the parts of a graph that is copied
+pub mod CopiedParts

@@ -3,12 +3,16 @@
 //! another; a generator's graph need not be built for it: so one of a thousand million vertices is gone through.
 #![tactic(auto)]
 
+// Copies of graphs.
+mod copies;
 // Random numbers in an array.
 mod draws;
 // Utility fields of vertices as arrays.
 mod fields;
 // Files in arrays.
 mod files;
+// The graph that arrays tell.
+mod given;
 // The names of a run of a graph, put into arrays.
 mod graph_names;
 // The lists of a run of a graph, put into arrays.
@@ -23,6 +27,8 @@ mod laws;
 mod names;
 // Graphs that are open, built or not.
 mod open_graphs;
+// Open graphs as operands of operations.
+mod operands;
 // A graph with its lists of arcs as arrays.
 mod packed;
 // Values put from a place on.
@@ -43,6 +49,7 @@ mod runs;
 pub use draws::{fill_draws, fill_uniform_draws};
 pub use fields::fill_ints;
 pub use files::{file_len, fill_file};
+pub use given::{Unmade, graph_given};
 pub use graph_names::{fill_names, names_len};
 pub use graph_rows::{arcs_len, fill_rows, fill_tips};
 pub use ids::fill_id;
@@ -50,6 +57,7 @@ pub use kinds::fill_kinds;
 pub use laws::{parts_law, runs_join_law};
 pub use names::Names;
 pub use open_graphs::OpenGraph;
+pub use operands::Operand;
 pub use packed::PackedGraph;
 pub use refusals::Wrong;
 pub use rows::Rows;
