@@ -3,3 +3,5 @@
 pub mod Rows
 -- runs of them
 mod Runs
+-- arrays that tell a graph
+mod Given

@@ -27,5 +27,9 @@ pub mod BuiltGraphs
 pub mod DrawsPut
 -- integers of a field
 pub mod FieldValues
+-- arrays of which a graph is made
+pub mod GivenLists
+-- graphs that are copied part by part
+pub mod CopiedGraphs
 -- worked examples
 pub mod Examples

@@ -9,5 +9,7 @@ pub mod Copies
 pub mod Fields
 -- graphs that are open, built or not
 pub mod OpenGraphs
+-- the graph that arrays tell
+pub mod Given
 -- what no public contract needs
 pub mod inner

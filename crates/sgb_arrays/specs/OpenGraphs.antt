@@ -6,6 +6,8 @@ use Rattle.sgb_graph.specs.Made.{graph_described}
 use Rattle.sgb_gen.specs.Generators.{described}
 use Rattle.sgb_arrays.specs.declared.open_graphs.OpenGraph.{OpenGraph}
 use Rattle.sgb_arrays.specs.declared.open_graphs.OpenGraph.TheVariants.{Built, Listed}
+use Rattle.sgb_arrays.specs.declared.operands.Operand.{Operand}
+use Rattle.sgb_arrays.specs.declared.operands.Operand.TheVariants.{Lent, Made}
 use Rattle.sgb_arrays.specs.declared.refusals.Wrong.{Wrong}
 use Rattle.sgb_arrays.specs.declared.refusals.Wrong.TheVariants as wrong
 
@@ -18,6 +20,11 @@ graph_open (Listed l) = graph_described (described l)
 abbrev pub IsListed : OpenGraph → Type 0
 IsListed (Built g) = ⊥
 IsListed (Listed l) = Unit {0}
+
+-- the graph of an operand
+abbrev pub graph_of_operand : Operand → GraphData
+graph_of_operand (Lent g) = g.now
+graph_of_operand (Made g) = g
 
 -- why its file is not put into an array of so many places, where this takes memory
 abbrev pub IsFileRefusal : GraphData → ℕ → (memory : Type 0) → Wrong → Type 0

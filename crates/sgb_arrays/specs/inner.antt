@@ -13,3 +13,5 @@ pub mod Sizes
 pub mod Cuts
 -- what is kept of the lists of a graph
 pub mod Packed
+-- the parts of a graph that is copied
+pub mod CopiedParts

@@ -160,7 +160,7 @@ fn fill_local_file(alloc: Global, local: &Local, bytes: &mut [u8]) -> Result<(),
 }
 
 // The graph of a generator, built.
-fn built(alloc: Global, local: &Local) -> Result<Graph, Panic>
+pub(crate) fn built(alloc: Global, local: &Local) -> Result<Graph, Panic>
     ensures graph { IfOk result (λ g. g ≡ graph_open (OpenGraph.Listed local.now)) }
     ensures memory { IfErr result (λ p. p ≡ Panic.NoRoom) }
 {
