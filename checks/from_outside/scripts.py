@@ -229,8 +229,8 @@ def lists(program):
         numbers = found and (int(found[1].replace(",", "")), int(found[2]), float(found[3]))
         size = math.comb(32, 8) * (4 * 40 + 4)
         tally.same(("docs/ERRORS.md", "disjoint_subsets(40,8)"), numbers, (math.comb(32, 8), 40, round(size / 1e9, 1)))
-        told = subprocess.run([os.path.join(TOP, "examples/parts/memory.py"), "disjoint_subsets(40,8)"], capture_output=True, check=False)
-        tally.same("memory.py of disjoint_subsets(40,8)", told.stdout, b"%d\n" % math.ceil((2 * size + 50_000_000) / 1e6))
+        command = 'examples/parts/memory.py "disjoint_subsets(40,8)"'
+        tally.same(command, shell.run(command), (0, f"{math.ceil((2 * size + 50_000_000) / 1e6)}\n", ""))
 
     return checks
 
