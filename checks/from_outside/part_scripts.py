@@ -1,8 +1,37 @@
 """Checks of the scripts in examples/ that make a listing in parts, on one machine and on many."""
 
+import fcntl
+import os
+import re
+import select
 import shutil
+import subprocess
 
 from .script_shells import Shell
+
+# graphs of all kinds, of whose parts memory.py tells the memory, each with a listing of more than a pipe takes
+MEASURED = [
+    "board(8,8,0,0,5,0,0)",
+    "board(3000000,0,0,0,-1,0,0)",
+    "board(3000000,0,0,0,-1,1,0)",
+    "board(1009,1013,0,0,-2,3,0)",
+    "board(600,600,0,0,-5,1,0)",
+    "board(2,-18,0,0,1,-1,0)",
+    "cycle(1000)",
+    "simplex(3,1,-199,0,0,0,0)",
+    "simplex(2000,-2,0,0,0,0,0)",
+    "disjoint_subsets(20,5)",
+    "disjoint_subsets(30,6)",
+    "subsets(2,1,-199,0,0,0,0x1,0)",
+    "subsets(4,1,-59,0,0,0,0x3,0)",
+    "subsets(6,3,3,2,1,-9,0x7,0)",
+    "subsets(9,4,-5,0,0,0,0xff,1)",
+    "complement(empty(1500),0,0,0)",
+    "lines(complete(60),0)",
+    "product(circuit(300),circuit(300),0,0)",
+    "gunion(board(300,300,0,0,1,0,0),board(300,300,0,0,2,0,0),0,0)",
+]
+ENOUGH = 2_000_000  # bytes of a listing, after which no longer list comes
 
 
 def parts(program):
@@ -150,12 +179,63 @@ def retried(program):
     return checks
 
 
+def most_taken(program, expression):
+    """How many bytes of memory a listing has taken until so much of it was read."""
+    end, begin = os.pipe()
+    fcntl.fcntl(begin, fcntl.F_SETPIPE_SZ, 4096)
+    process = subprocess.Popen([program, "list", expression], stdout=begin, stderr=subprocess.DEVNULL)
+    os.close(begin)
+    taken = read = 0
+    with open(end, "rb", 0) as listing:
+        while read < ENOUGH:
+            # the program waits for what is in the pipe to be read
+            select.select([listing], [], [])
+            with open(f"/proc/{process.pid}/status", encoding="utf-8") as status:
+                found = re.search(r"^VmHWM:\s*(\d+) kB", status.read(), re.MULTILINE)
+            taken = max(taken, int(found[1]) * 1024 if found else 0)
+            text = listing.read(4096)
+            if not text:
+                break
+            read += len(text)
+    process.wait()
+    return taken
+
+
+def memory(program):
+    def checks(runs, tally):
+        """What memory.py tells is no less than a listing takes, and no more than four times that and 50 MB."""
+        shell = Shell(runs, program, "memory")
+        for expression in MEASURED:
+            command = f'examples/parts/memory.py "{expression}"'
+            status, out, err = shell.run(command)
+            told, taken = int(out or 0) * 1_000_000, most_taken(program, expression)
+            is_right = status == 0 and not err and 0 < taken <= told <= 4 * taken + 50_000_000
+            tally.check(is_right, command, "gave", (status, out, err), "and", str(taken), "bytes were taken")
+        for words, line in [("", "usage: memory.py"), ('"board(3,"', "sgb: bad expression at byte 8"), ("stdin", "Something went wrong")]:
+            status, out, err = shell.run(f"examples/parts/memory.py {words}")
+            tally.check(status != 0 and not out and err.startswith(line), "memory.py", words, "gave", (status, out, err))
+
+    return checks
+
+
 def clusters(program):
     def checks(runs, tally):
         """The jobs for Slurm, by the variables that it sets, and for GNU parallel, on this machine as a host."""
         shell = Shell(runs, program, "clusters")
         expression = "board(30,30,0,0,1,0,0)"
         whole = shell.run(f'sgb list "{expression}"')[1]
+        shell.write("sbatch", '#!/bin/sh\nprintf "%s\\n" "$@" > handed\n', 0o755)
+        for given, number, words in [("disjoint_subsets(30,6)", "3", "the part"), (expression, "12", "part")]:
+            told = shell.run(f'examples/parts/memory.py "{given}"')[1].strip()
+            job = f'examples/parts/slurm.sh "{given}" {number} "{words}"'
+            tally.same(job, shell.run(job), (0, "", ""))
+            wanted = [f"--mem={told}M", f"--array=1-{number}", "examples/parts/slurm.sh", given, words]
+            tally.same((job, "hands sbatch"), (shell.text("handed") or "").splitlines(), wanted)
+        os.remove(shell.file("handed"))
+        for words in ('"board(2,-251,0,0,1,0,0)" 3 part', '"board(3," 3 part', "stdin 3 part", f'"{expression}" 0 part', f'"{expression}" part'):
+            status, out, err = shell.run(f"examples/parts/slurm.sh {words}")
+            is_right = status != 0 and not out and err and shell.text("handed") is None
+            tally.check(is_right, "slurm.sh", words, "gave", (status, out, err))
         job = 'examples/parts/slurm.sh "$EXPR" "the part"'
         array = {f"SLURM_ARRAY_TASK_{name}": value for name, value in [("MIN", "1"), ("MAX", "3"), ("COUNT", "3")]}
         array["EXPR"] = expression
@@ -193,3 +273,4 @@ def all_checks(program):
     yield "scripts of parts", shards(program)
     yield "scripts of parts once more", retried(program)
     yield "scripts of clusters", clusters(program)
+    yield "scripts of memory", memory(program)

@@ -222,14 +222,15 @@ def lists(program):
             tally.same((expression, "in enough"), arcs(expression, vertex, room), min(vectors, COUNTED))
         for expression, vertex, count in SHORT:
             tally.same((expression, "in 8 MB"), arcs(expression, vertex, 8 << 20), min(count, COUNTED))
-        for page in ("docs/ERRORS.md", "examples/parts/slurm.sh"):
-            with open(os.path.join(TOP, page), encoding="utf-8") as file:
-                text = re.sub("[\n #`]+", " ", file.read())
-            lists_of = r"disjoint_subsets\(40,8\) has lists of ([0-9,]+) vectors of ([0-9]+) entries"
-            found = re.search(lists_of + ", which take ([0-9.]+) GB", text)
-            numbers = found and (int(found[1].replace(",", "")), int(found[2]), float(found[3]))
-            size = math.comb(32, 8) * (4 * 40 + 4)
-            tally.same((page, "disjoint_subsets(40,8)"), numbers, (math.comb(32, 8), 40, round(size / 1e9, 1)))
+        with open(os.path.join(TOP, "docs/ERRORS.md"), encoding="utf-8") as file:
+            text = re.sub("[\n `]+", " ", file.read())
+        lists_of = r"disjoint_subsets\(40,8\) has lists of ([0-9,]+) vectors of ([0-9]+) entries"
+        found = re.search(lists_of + ", which take ([0-9.]+) GB", text)
+        numbers = found and (int(found[1].replace(",", "")), int(found[2]), float(found[3]))
+        size = math.comb(32, 8) * (4 * 40 + 4)
+        tally.same(("docs/ERRORS.md", "disjoint_subsets(40,8)"), numbers, (math.comb(32, 8), 40, round(size / 1e9, 1)))
+        command = 'examples/parts/memory.py "disjoint_subsets(40,8)"'
+        tally.same(command, shell.run(command), (0, f"{math.ceil((2 * size + 50_000_000) / 1e6)}\n", ""))
 
     return checks
 
