@@ -9,6 +9,7 @@
 # make graphbase GRAPHBASE=FOLDER  holds it against the published library in FOLDER: gb_graph.h .. and libgb.a
 # make gallery    makes the pictures of docs/gallery.md and compares them with those that are kept
 # make calls      refuses memory to library calls: what stood before stands after, about a minute
+# make library    calls of the libraries with values from outside, many of them as tables, about two minutes
 # make test       what runs without a proof, on programs and a library that are built unproved, in some five minutes
 # make check      the gate: all proofs from nothing, must-fail edits, the tests, the program
 # make edits      tries the must-fail edits that the gate leaves out, on a copy
@@ -81,6 +82,9 @@ gallery: sgb
 calls: toolchain
 	checks/calls.py
 
+library: toolchain
+	checks/library.py
+
 test: toolchain
 	@checks/unproved.py
 
@@ -107,7 +111,7 @@ clean:
 
 FORCE:
 
-.PHONY: all toolchain try demo examples outside conformance graphbase gallery calls test check edits install uninstall \
+.PHONY: all toolchain try demo examples outside conformance graphbase gallery calls library test check edits install uninstall \
   clean FORCE
 
 include lib.mk

@@ -20,7 +20,8 @@ import sys
 import tempfile
 import time
 
-TOP = os.path.dirname(os.path.dirname(os.path.abspath(__file__)))
+from laying import lay
+
 BELOW = ["sgb_text", "sgb_vec", "sgb_graph", "sgb_gen", "sgb_ops", "sgb_file", "sgb_expr", "sgb_requests", "sgb_values",
          "sgb"]
 FAILS = 2000  # as in checks/calls/main.in
@@ -80,32 +81,16 @@ def check(what, holds):
         print(f"failed: {what}")
 
 
-def build(folder):
-    """A repository of the crates below, and of the program over them."""
-    for crate in BELOW:
-        for part in ("src", "specs", "proofs"):
-            shutil.copytree(os.path.join(TOP, "crates", crate, part), os.path.join(folder, "crates", crate, part))
-    source = os.path.join(folder, "crates", "calls", "src")
-    os.makedirs(source)
-    for name in ("main", "below", "graphs", "requests"):
-        shutil.copy(os.path.join(TOP, "checks", "calls", name + ".in"), os.path.join(source, name + ".rt"))
-    shutil.copy(os.path.join(TOP, "HANDLES"), folder)
-    with open(os.path.join(TOP, "crates.txt")) as file:
-        lines = [line for line in file if line.split(":")[0] in BELOW]
-    with open(os.path.join(folder, "crates.txt"), "w") as file:
-        file.writelines(lines + ["calls: " + " ".join(BELOW) + "\n"])
-
-
 def compiled(folder):
     """The program, as `rt try` compiles it: it is copied while it waits, and then stopped."""
-    build(folder)
+    crate = lay(folder, "calls", BELOW)
     place = os.path.join(folder, "calls")
     own = os.path.join(folder, "tmp")
     os.mkdir(own)
     words = [os.environ.get("RT", "rt"), "try", "--steps", "1", "--fail-alloc", str(FAILS)]
     with open(os.path.join(folder, "said"), "w+") as said:
         rt = subprocess.Popen(
-            words, cwd=os.path.join(folder, "crates", "calls"), env=dict(os.environ, TMPDIR=own),
+            words, cwd=crate, env=dict(os.environ, TMPDIR=own),
             stdin=subprocess.DEVNULL, stdout=said, stderr=said, start_new_session=True,
         )
         try:

@@ -28,6 +28,7 @@ PAGE = os.path.join(TOP, "docs/GATE.md")
 MEASURE = "sgb_vec"
 HEAD = ["sgb_vec", "sgb_graph"]  # beside the proofs of these there is next to nothing to do
 KINDS = ["proof", "tests", "base", "edits"]
+BESIDE = ["library calls", "library tests"]
 TICK = os.sysconf("SC_CLK_TCK")
 
 
@@ -211,8 +212,8 @@ def table():
         lines.append(f"| {'programs, tests, copies' if name == 'rt ci' else name} | | | | | {rest:.0f} |")
     lines.append("| in all | " + " | ".join(f"{sum(cells[crate, kind] for crate in crates):.0f}" for kind in KINDS) + f" | {seconds:.0f} |")
     by = {crate: int(float(spent)) for _, kind, crate, spent, _ in found if kind == "by"}
-    # library calls are tried beside the archive
-    took = sum(took for name, _, took in steps if name != "library calls")
+    # the libraries are tried beside the archive
+    took = sum(took for name, _, took in steps if name not in BESIDE)
     most = next(lanes for _, kind, _, lanes, _ in found if kind == "lanes")
     lines += [
         "",

@@ -4,9 +4,9 @@
     make test
 
 It builds the two programs and the library for C of the sources as they stand, unproved and optimized, and tries on them what
-needs no proof: the checks from outside (checks/outside.py), library calls with memory refused (checks/calls.py), the tests of
-public calls (`rt try --test` in each crate of tests), where definitions stand, the callers of the pages, and the places of
-forms. All lies in out/test, a copy of the tree, so that nothing there is taken for what was proved. The last line is
+needs no proof: the checks from outside (checks/outside.py), library calls with memory refused (checks/calls.py), the tables of
+the libraries (checks/library.py), the tests that are proved elsewhere (`rt try --test` in each crate of tests), where definitions
+stand, the callers of the pages, and the places of forms. All lies in out/test, a copy of the tree, so that nothing there is taken for what was proved. The last line is
 `N passed, M failed`.
 
 A program is built as `rt try` does it, up to the module that LLVM is handed: rt runs over a folder like the toolchain's, whose
@@ -111,9 +111,10 @@ def script(path, text):
     os.chmod(path, 0o755)
 
 
-def shadow(kit, name):
+def shadow(kit, name, place=PLACE):
     """A folder like the toolchain's, in which a try checks no names; the path of rt there."""
-    folder = os.path.join(PLACE, "kits", name)
+    folder = os.path.join(place, "kits", name)
+    os.makedirs(os.path.dirname(folder), exist_ok=True)
     for part in "", "bin", "toolchain", "toolchain/bin":
         os.mkdir(os.path.join(folder, part))
         for other in os.listdir(os.path.join(kit, part)):
@@ -124,20 +125,20 @@ def shadow(kit, name):
         os.remove(os.path.join(folder, own))
         shutil.copy(os.path.join(kit, own), os.path.join(folder, own))
     script(os.path.join(folder, "bin/rattle"), "#!/bin/sh\nexit 0\n")
-    set_clang(kit, name, QUICKER)
+    set_clang(kit, folder, QUICKER)
     return os.path.join(folder, "bin/rt")
 
 
-def set_clang(kit, name, text, **more):
+def set_clang(kit, folder, text, **more):
     clang = os.path.join(kit, "toolchain/bin/clang")
-    script(os.path.join(PLACE, "kits", name, "toolchain/bin/clang"), text.format(python=sys.executable, clang=clang, **more))
+    script(os.path.join(folder, "toolchain/bin/clang"), text.format(python=sys.executable, clang=clang, **more))
     return clang
 
 
 def module(kit, name, *words):
     """The module of a crate, as text, without what finds faults of memory."""
     rt, kept = shadow(kit, name), os.path.join(PLACE, name + ".bc")
-    clang = set_clang(kit, name, KEEPING, kept=kept)
+    clang = set_clang(kit, os.path.join(PLACE, "kits", name), KEEPING, kept=kept)
     got = ran([rt, "try", *words, "--steps", "1"], os.path.join(TREE, "crates", name))
     if not os.path.exists(kept):
         raise NotBuilt(f"{name}: rt try handed no module to clang: {got.stdout[-3000:]}")
@@ -283,6 +284,7 @@ def main():
         for name in tests:
             folder = os.path.join(TREE, "crates", name)
             others[name] = pool.submit(task, rt, "try", "--test", "--steps", "1", "--seconds", SECONDS, folder=folder)
+        others["library tests"] = pool.submit(task, "checks/library.py", RT=rt)
         others["definitions"] = pool.submit(task, "checks/definitions.py")
         others["callers of the pages"] = pool.submit(task, "checks/callers.py")
         others["forms of expressions"] = pool.submit(task, "checks/forms.py")

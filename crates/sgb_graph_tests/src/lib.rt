@@ -1,4 +1,5 @@
-//! Tests of the public calls of `sgb_vec` and `sgb_graph`, in a crate of their own: so those crates are not proved once more for them.
+//! The callers that the pages for callers of `sgb_vec` and `sgb_graph` show, and walks over families of both kinds: proved, in a crate
+//! of their own, so that those crates are not proved once more for them.
 #![tactic(auto)]
 
 // `sgb_graph`

@@ -1,10 +1,7 @@
-//! Tests of the public calls of `sgb_file`, `sgb_expr` and `sgb_requests`, in a crate of their own: so those crates are not proved once
-//! more for them.
+//! The callers that the pages for callers of `sgb_file` and `sgb_requests` show, and calls of devices at concrete types: proved, in a
+//! crate of their own, so that those crates are not proved once more for them.
 #![tactic(auto)]
 
-// `sgb_expr`
-#[cfg(test)]
-mod expr_calls;
 // `sgb_file`
 #[cfg(test)]
 mod file_calls;

@@ -1,19 +1,21 @@
 //! Each public name of the library once, from outside; `run_program` stands in `caller`.
-ghost use Rattle.std.specs.Prelude.{⊤};
+ghost use Rattle.std.specs.Prelude.{◌≡◌, false, Contains, IfSome, ⊤};
+ghost use Rattle.sgb_gen.specs.Generators.{vectors_of};
 
-use crate::calls::words_of;
-use crate::inputs::EMPTY;
-use crate::listings::is_written;
 use sgb::{
-    Answer, Expr, Fault, Local, Request, answered_once_law, graph_of, input_unread_law, local_of,
-    parse_expr, read_input, report, request, run, run_answer, run_endings_law, status,
-    unread_fault, write_bytes,
+    Answer, Expr, Fault, Local, Request, answered_once_law, graph_of, input_unread_law,
+    list_family, local_of, parse_expr, read_input, report, request, run, run_answer,
+    run_endings_law, status, unread_fault, write_bytes,
 };
-use sgb_file::{CutSource, MemSink, MemSource};
-use sgb_gen::{Board, BoardParams, Listed, Visit, Visitor};
+use sgb_file::{CutSource, MemSink, MemSource, Sink};
+use sgb_gen::{Board, BoardParams, Links, Listed, Visit, Visitor};
 use sgb_vec::{Family, Panic};
 use std::alloc::Global;
 use std::io::{Error, ErrorKind};
+
+// A graph of no vertices.
+const EMPTY: &[u8] =
+    b"* GraphBase graph (util_types ZZZZZZZZZZZZZZ,0V,0A)\n\"a\",0,0\n* Vertices\n* Arcs\n* Checksum 18619\n";
 
 // Whether the text is an expression that is a generator's.
 fn is_generator(alloc: Global, text: &[u8]) -> bool {
@@ -42,7 +44,7 @@ fn sizes_of(alloc: Global, text: &[u8], input: &[u8]) -> Option<(u32, u64)> {
 #[test]
 fn the_graph_of_an_expression(rt: HostRuntime) {
     assert!(rt; sizes_of(rt.alloc(), b"lines(petersen(),0)", b"") == Some((15, 60)));
-    assert!(rt; sizes_of(rt.alloc(), b"stdin", EMPTY.as_bytes()) == Some((0, 0)));
+    assert!(rt; sizes_of(rt.alloc(), b"stdin", EMPTY) == Some((0, 0)));
     assert!(rt; sizes_of(rt.alloc(), b"lines(transitive(2),0)", b"") == None);
 }
 
@@ -103,9 +105,18 @@ fn is_asked_for(alloc: Global, words: &[String], output: &[u8]) -> bool {
     }
 }
 
-// Whether that is so of these words after the program's name.
-fn is_answered(alloc: Global, words: &str, output: &[u8]) -> bool {
-    match words_of(alloc, words) {
+// The words.
+fn words_of(alloc: Global, texts: &[&str]) -> Result<Vec<String>, Panic> {
+    let mut words = Vec::new(alloc);
+    for text in texts {
+        words.push(String::from_str(alloc, text)?)?;
+    }
+    Ok(words)
+}
+
+// Whether that is so of these words.
+fn is_answered(alloc: Global, texts: &[&str], output: &[u8]) -> bool {
+    match words_of(alloc, texts) {
         Ok(words) => is_asked_for(alloc, &words, output),
         Err(_) => false,
     }
@@ -113,7 +124,7 @@ fn is_answered(alloc: Global, words: &str, output: &[u8]) -> bool {
 
 #[test]
 fn a_request_is_answered(rt: HostRuntime) {
-    assert!(rt; is_answered(rt.alloc(), "names|complete(2)", b"0\n1\n"));
+    assert!(rt; is_answered(rt.alloc(), &["sgb", "names", "complete(2)"], b"0\n1\n"));
     answered_once_law();
     input_unread_law();
     run_endings_law();
@@ -178,6 +189,16 @@ fn the_parameters_of_a_call(rt: HostRuntime) {
     }
 }
 
+// Writes the listing of a graph: of all vertices with its head, or of those after a vector alone. It says nothing of
+// what it writes, so that a function that calls it is proved with no more than what it does itself.
+fn is_written<W: Sink>(alloc: Global, local: &Local, after: Option<&[u32]>, out: &mut W) -> bool
+    requires member { IfSome after (λ x. Contains (vectors_of local.now) x.now) }
+    requires sound { W.has_failed out.old ≡ false }
+{
+    let mut links = Links::new(alloc);
+    list_family(local, after.is_none(), after, &mut links, out).is_ok()
+}
+
 // Whether this is the listing of a board, written from its vectors.
 fn is_listed(alloc: Global, params: &BoardParams, text: &[u8]) -> bool {
     let Ok(board) = Board::from_params(params) else {
@@ -202,4 +223,28 @@ fn a_listing_from_vectors(rt: HostRuntime) {
         "  The graph whose official name is\nboard(2,0,0,0,1,0,0)\n  has 2 vertices and 2 arcs:\n\n\
         0\n  -> 1, length 1\n1\n  -> 0, length 1\n";
     assert!(rt; is_listed(rt.alloc(), &params, text.as_bytes()));
+}
+
+// Whether this is what comes after a square of a board on a line, with no head.
+fn is_rest(alloc: Global, board: Board, square: u32, text: &[u8]) -> bool {
+    let after = [square];
+    if !board.family().holds(&after) {
+        return false;
+    }
+    let mut out = MemSink::new(alloc);
+    is_written(alloc, &Local::Board(board), Some(&after), &mut out) && out.bytes() == text
+}
+
+// Whether that is so of the last square of a great one.
+fn is_last_of_many(alloc: Global, text: &[u8]) -> bool {
+    match Board::new(1_000_000_000, 0, 0, 0, 1, 0, false) {
+        Ok(board) => is_rest(alloc, board, 999_999_998, text),
+        Err(_) => false,
+    }
+}
+
+#[test]
+fn a_listing_after_a_vector(rt: HostRuntime) {
+    let text = b"999999999\n  -> 999999998, length 1\n";
+    assert!(rt; is_last_of_many(rt.alloc(), text));
 }

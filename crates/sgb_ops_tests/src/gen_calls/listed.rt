@@ -1,44 +1,46 @@
-use super::board_counts::board_of;
-use sgb_gen::{Links, Listed, Simplex, Subsets};
-use sgb_vec::{Family, Vectors};
+//! Calls that any generator's graph answers with nothing built, made of a board, a simplex and subsets.
+use sgb_gen::{Board, Links, Listed, Simplex, Subsets};
+use sgb_vec::Family;
 use std::alloc::Global;
 
-// Whether the place of each vertex of a generator's graph is its number, and there are so many.
-fn are_in_place<'a, L: Listed<'a>>(listed: &L, size: u32) -> bool {
-    let family = listed.family();
-    let mut v: u32 = 0;
-    for x in Vectors::all(family) {
-        if v >= size || !family.holds(x.as_slice()) || listed.place_of(x.as_slice()) != v {
-            return false;
-        }
-        v += 1;
+// Whether this vertex stands at this place, with a list of so many arcs.
+fn has<'a, L: Listed<'a>>(
+    listed: &mut L,
+    alloc: Global,
+    x: &[u32],
+    place: u32,
+    count: usize,
+) -> bool {
+    if !listed.family().holds(x) || listed.place_of(x) != place {
+        return false;
     }
-    v == size
+    let mut links = Links::new(alloc);
+    listed.arcs_at(x, &mut links).is_ok() && links.len() == count
 }
 
-fn are_of_board(alloc: Global) -> bool {
-    match board_of(&[3, 4, 0, 0, 1, 0], false) {
-        Ok(board) => are_in_place(&board.lists(&Links::new(alloc)), 12),
+fn is_of_board(alloc: Global) -> bool {
+    match Board::new(3, 4, 0, 0, 1, 0, false) {
+        Ok(board) => has(&mut board.lists(&Links::new(alloc)), alloc, &[1, 1], 5, 4),
         Err(_) => false,
     }
 }
 
-fn are_of_simplex(alloc: Global) -> bool {
+fn is_of_simplex(alloc: Global) -> bool {
     match Simplex::new(alloc, 2, 0, 0, 0, 0, 0, false) {
-        Ok(simplex) => are_in_place(&&simplex, 6),
+        Ok(simplex) => has(&mut &simplex, alloc, &[2, 0, 0], 5, 2),
         Err(_) => false,
     }
 }
 
-fn are_of_subsets(alloc: Global) -> bool {
+fn is_of_subsets(alloc: Global) -> bool {
     match Subsets::new(alloc, 2, 1, -4, 0, 0, 0, 1, false) {
-        Ok(subsets) => are_in_place(&&subsets, 10),
+        Ok(subsets) => has(&mut &subsets, alloc, &[1, 1, 0, 0, 0], 9, 3),
         Err(_) => false,
     }
 }
 
 #[test]
-fn places_of_vertices(rt: HostRuntime) {
+fn lists_of_vertices(rt: HostRuntime) {
     let alloc = rt.alloc();
-    assert!(rt; are_of_board(alloc) && are_of_simplex(alloc) && are_of_subsets(alloc));
+    assert!(rt; is_of_board(alloc) && is_of_simplex(alloc) && is_of_subsets(alloc));
 }
