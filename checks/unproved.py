@@ -20,6 +20,7 @@ pointers alone, get the names that they have in the library.
 """
 
 import concurrent.futures
+import glob
 import os
 import re
 import shutil
@@ -61,18 +62,23 @@ CHECKS = re.compile(
     r'^ *call void @(?:"rattle-llvm-checks::|llvm\.memset\.p0\.i64\(ptr %r\d+, i8 -86,).*\n', re.MULTILINE
 )
 
-# a test that calls each export of the library; what it hands over by the type of each parameter
+# a test that calls each export of the library; what it hands over by the name and type of each parameter
 REACHES = """
 #[test]
 fn reaches(rt: HostRuntime) {{
     let alloc = rt.alloc();
     let mut graph = GraphHandle::closed();
+    let mut second = GraphHandle::closed();
+    let mut made = GraphHandle::closed();
+    let mut list = entry_handles::EntriesHandle::closed();
     let mut sizes = Sizes {{ vertices: 0, id: 0 }};
     {calls}
 }}
 """
-HANDED = [("Global", "alloc"), (r"&mut GraphHandle", "&mut graph"), (r"&mut Sizes", "&mut sizes"), (r"&\[u8\]", "&[]"),
-          (r"&mut \[\w+\]", "&mut []"), (r"&mut u\d+", "&mut 0"), (r"[ui]\d+", "0")]
+HANDED = [("alloc: Global", "alloc"), ("(graph|first): &mut GraphHandle", "&mut graph"), ("second: &mut GraphHandle", "&mut second"),
+          ("made: &mut GraphHandle", "&mut made"), (r"\w+: &mut EntriesHandle", "&mut list"), (r"\w+: &mut Sizes", "&mut sizes"),
+          (r"\w+: &\[\w+\]", "&[]"), (r"\w+: &mut \[\w+\]", "&mut []"), (r"\w+: &mut u\d+", "&mut 0"),
+          (r"\w+: [ui]\d+", "0"), (r"\w+: bool", "false")]
 
 
 class NotBuilt(Exception):
@@ -168,21 +174,34 @@ def call(name, parameters):
     """A call of an export."""
     handed = []
     for parameter in filter(None, map(str.strip, parameters.split(","))):
-        kind = parameter.partition(":")[2].strip()
-        value = next((value for form, value in HANDED if re.fullmatch(form, kind)), None)
+        value = next((value for form, value in HANDED if re.fullmatch(form, parameter)), None)
         if value is None:
-            raise NotBuilt(f"{name}: no value is known for a parameter of type {kind}")
+            raise NotBuilt(f"{name}: no value is known for the parameter {parameter}")
         handed.append(value)
     return f"let _ = {name}({', '.join(handed)});"
 
 
 def reached(folder):
-    """Adds the test that calls each export of the library; their names."""
-    with open(os.path.join(folder, "src/lib.rt"), encoding="utf-8") as file:
-        exports = re.findall(r'^pub extern "C" fn (\w+)\((.*?)\)', file.read(), re.MULTILINE | re.DOTALL)
+    """Adds the test that calls each export of the library; their paths in it."""
+    exports = []
+    for source in sorted(glob.glob(os.path.join(folder, "src/*.rt"))):
+        module = os.path.basename(source).removesuffix(".rt")
+        with open(source, encoding="utf-8") as file:
+            found = re.findall(r'^pub extern "C" fn (\w+)\((.*?)\)', file.read(), re.MULTILINE | re.DOTALL)
+        exports += [(name if module == "lib" else f"{module}::{name}", parameters) for name, parameters in found]
     with open(os.path.join(folder, "src/lib.rt"), "a", encoding="utf-8") as file:
         file.write(REACHES.format(calls="\n    ".join(call(*export) for export in exports)))
-    return [name for name, _ in exports]
+    return [path for path, _ in exports]
+
+
+def open_up(source):
+    """Makes the function `closed` of a handle's file public, which the test of all exports begins with."""
+    with open(source, encoding="utf-8") as file:
+        text = file.read()
+    if text.count("    fn closed()") != 1:
+        raise NotBuilt(f"{source}: no function closed")
+    with open(source, "w", encoding="utf-8") as file:
+        file.write(text.replace("    fn closed()", "    pub fn closed()"))
 
 
 def library(kit):
@@ -190,22 +209,18 @@ def library(kit):
     folder = os.path.join(TREE, "crates", LIBRARY)
     kept = folder + ".kept"
     shutil.copytree(folder, kept)
-    handles = os.path.join(folder, "src/handles.rt")
-    with open(handles, encoding="utf-8") as file:
-        text = file.read()
-    if text.count("    fn closed()") != 1:
-        raise NotBuilt(f"{handles}: no function closed, which the test of all exports begins with")
-    with open(handles, "w", encoding="utf-8") as file:
-        file.write(text.replace("    fn closed()", "    pub fn closed()"))
-    names = reached(folder)
+    for name in "handles", "entry_handles":
+        open_up(os.path.join(folder, f"src/{name}.rt"))
+    paths = reached(folder)
     text = module(kit, LIBRARY, "--test")
     shutil.rmtree(folder)
     os.rename(kept, folder)
-    for name in names:
-        text, defined = re.subn(rf'^define internal (.*)@"{LIBRARY}::{name}"\(', rf"define \1@{name}(", text, flags=re.MULTILINE)
+    for path in paths:
+        name = path.rpartition("::")[2]
+        text, defined = re.subn(rf'^define internal (.*)@"{LIBRARY}::{path}"\(', rf"define \1@{name}(", text, flags=re.MULTILINE)
         if defined != 1:
-            raise NotBuilt(f"{name} is defined {defined} times")
-        text = text.replace(f'@"{LIBRARY}::{name}"(', f"@{name}(")
+            raise NotBuilt(f"{path} is defined {defined} times")
+        text = text.replace(f'@"{LIBRARY}::{path}"(', f"@{name}(")
     made = compiled(kit, LIBRARY, text.replace("define i32 @main(", "define internal i32 @main("))
     archive = os.path.join(left_in(LIBRARY), f"lib{LIBRARY}.a")
     built(["ar", "rcs", archive, made], PLACE)

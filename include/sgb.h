@@ -25,12 +25,13 @@
  * all of its arrays, or leaves all of them as they were: an array of another length than it must have is never written
  * to (SGB_WRONG_LENGTH). sgb_sizes, sgb_rows_size, sgb_names_size and sgb_file_size say which lengths these are.
  *
- * Memory. sgb_open takes what it holds. The other calls on an open graph hold nothing more when they have answered. On
- * a graph that is built they take none; on a generator's sgb_arcs and the calls on rows, tips and names may take some
- * while they run, and sgb_file and sgb_file_size build the graph for that time. All other calls never take any. Where
- * memory is refused the answer is SGB_NO_ROOM, and all is as it was before the call. A handle that is not open, a run
- * that is not there and `starts` of a wrong length are told before memory is taken, and so are a handle that is open
- * already and a text that is too large.
+ * Memory. sgb_open takes what it holds, and so do sgb_make, the operations and lists of entries; an operand that is a
+ * generator's, and not built, is built while an operation runs. The other calls on an open graph hold nothing more when
+ * they have answered. On a graph that is built they take none; on a generator's sgb_arcs and the calls on rows, tips
+ * and names may take some while they run, and sgb_file and sgb_file_size build the graph for that time. All other calls
+ * never take any. Where memory is refused the answer is SGB_NO_ROOM, and all is as it was before the call. A handle
+ * that is not open, a run that is not there and `starts` of a wrong length are told before memory is taken, and so are
+ * a handle that is open already, a text that is too large, and what is wrong with the arrays of sgb_make.
  *
  * Stack. A generator's call is opened with at most 64 KB of stack, any other expression with at most 96 KB and 36 KB
  * more for each pair of parentheses in one another, of which there may be 64. sgb_arcs takes at most 160 KB, all other
@@ -41,11 +42,11 @@
  *
  * What a caller owes: each pointer leads to as many values as its length says, and is not NULL, also where the length
  * is 0 (any address that fits the type does then). What a call writes overlaps nothing else that it is handed; what it
- * reads may be the same bytes, as one literal for `text` and `input`. A handle begins as SGB_NO_GRAPH, is changed by
- * these calls alone, and is not copied while it is open.
+ * reads may be the same bytes, as one literal for `text` and `input`. A handle begins as SGB_NO_GRAPH, a list of
+ * entries as SGB_NO_ENTRIES; both are changed by these calls alone, and are not copied while they hold something.
  *
- * What is proved of each call stands in crates/sgb_c/src/lib.rt: that the arrays hold what the definitions say of the
- * expression's graph, and when each answer comes.
+ * What is proved of each call stands in crates/sgb_c/src, of most in lib.rt: that the arrays hold what the definitions
+ * say of the graph, that what an operation makes is what they describe, and when each answer comes.
  */
 #ifndef SGB_H
 #define SGB_H
@@ -63,7 +64,7 @@ extern "C" {
 #endif
 
 /* The version of these calls: a program may compare it with sgb_version(). */
-#define SGB_VERSION "1.0.0"
+#define SGB_VERSION "1.1.0"
 
 /* Answers. */
 #define SGB_OK 0                  /* the arrays are filled */
@@ -80,7 +81,10 @@ extern "C" {
 #define SGB_BAD_BOUND 103         /* a uniform draw has a bound from 1 to 2^31 */
 #define SGB_ALREADY_OPEN 104      /* the handle holds a graph, which stays: close it first */
 #define SGB_NOT_OPEN 105          /* the handle holds no graph */
-#define SGB_NO_VERTEX 106         /* some of the run's vertices are none of the graph */
+#define SGB_NO_VERTEX 106         /* some of the run's vertices are none of the graph; or an end of an arc is none */
+#define SGB_NO_TEXT 107           /* sgb_make: a name or the id is no text: a byte is not from 32 to 126, or is " or \;
+                                     or a name has more than 4,095 bytes, or the id more than 160 */
+#define SGB_TOO_MANY 108          /* sgb_make: more vertices or arcs than a graph may have */
 #define SGB_BAD_EXPRESSION 1000   /* this and more: the text is no expression; what is above 1000 is the length of the
                                      longest prefix of it that begins one */
 
@@ -103,6 +107,8 @@ static inline const char *sgb_words(uint64_t answer) {
     case SGB_ALREADY_OPEN: return "a graph is open";
     case SGB_NOT_OPEN: return "no graph is open";
     case SGB_NO_VERTEX: return "there are not so many vertices";
+    case SGB_NO_TEXT: return "a name or an id is no text";
+    case SGB_TOO_MANY: return "more vertices or arcs than a graph may have";
     }
     return answer >= SGB_BAD_EXPRESSION ? "bad expression" : "something went wrong";
 }
@@ -122,8 +128,65 @@ typedef struct {
 /* What a handle is before it is opened, and after it is closed. */
 #define SGB_NO_GRAPH { 0, false }
 
+/* Entries of an induced graph, or none. Its fields are the library's. */
+typedef struct {
+    void *held;
+    bool is_held;
+} sgb_entries;
+
+/* What a list of entries is before the first one is added, and after it is closed. */
+#define SGB_NO_ENTRIES { 0, false }
+
 /* Opens the graph that the text names, and holds it. */
 uint64_t sgb_open(const char *text, size_t text_len, const char *input, size_t input_len, sgb_graph *graph);
+
+/* Makes the graph of these names and of these arcs (`directed`) or edges (else), each put in order: one leads from
+ * from[k] to to[k], and lengths[k] is its length. Later ones come first in the lists. The name of vertex v is what
+ * stands in `names` from name_starts[v] up to name_starts[v + 1]; name_starts[0] is 0.
+ * `name_starts` has a place more than there are vertices, as sgb_names fills it; `from`, `to` and `lengths` have as
+ * many places as one another, or the answer is SGB_WRONG_LENGTH. An end that is no vertex is answered with
+ * SGB_NO_VERTEX. */
+uint64_t sgb_make(const uint64_t *name_starts, size_t name_starts_len, const char *names, size_t names_len,
+                  const uint32_t *from, size_t from_len, const uint32_t *to, size_t to_len, const int64_t *lengths,
+                  size_t lengths_len, bool directed, const char *id, size_t id_len, sgb_graph *result);
+
+/* The operations of GB_BASIC on graphs that are open, as in expressions. What is made is held by `result`, built, with
+ * its official id; the operands stay open, and are as they were. `result` is another handle than each operand, and
+ * holds no graph (SGB_ALREADY_OPEN); an operand that is not open is answered with SGB_NOT_OPEN. What GB_BASIC refuses
+ * is answered as sgb_open answers it. */
+
+/* complement(graph, copy, self_loops, directed): a copy without parallel arcs where `copy` */
+uint64_t sgb_complement(sgb_graph *graph, bool copy, bool self_loops, bool directed, sgb_graph *result);
+
+/* lines(graph, directed) */
+uint64_t sgb_lines(sgb_graph *graph, bool directed, sgb_graph *result);
+
+/* bi_complete(n1, n2, directed) */
+uint64_t sgb_bi_complete(int64_t n1, int64_t n2, bool directed, sgb_graph *result);
+
+/* wheel(n, n1, directed) */
+uint64_t sgb_wheel(int64_t n, int64_t n1, bool directed, sgb_graph *result);
+
+/* gunion(first, second, multi, directed), intersection(..) and product(first, second, type, directed): of two handles
+ * that are not the same, and of one graph with itself. sgb_gunion, sgb_intersection and sgb_product below are both. */
+uint64_t sgb_gunion_of(sgb_graph *first, sgb_graph *second, bool multi, bool directed, sgb_graph *result);
+uint64_t sgb_intersection_of(sgb_graph *first, sgb_graph *second, bool multi, bool directed, sgb_graph *result);
+uint64_t sgb_product_of(sgb_graph *first, sgb_graph *second, int64_t type, bool directed, sgb_graph *result);
+uint64_t sgb_gunion_self(sgb_graph *graph, bool multi, bool directed, sgb_graph *result);
+uint64_t sgb_intersection_self(sgb_graph *graph, bool multi, bool directed, sgb_graph *result);
+uint64_t sgb_product_self(sgb_graph *graph, int64_t type, bool directed, sgb_graph *result);
+
+/* Adds an entry to a list: a number, as it stands in the list of induced(..), or a copy of an open graph. Where memory
+ * is refused the list has the entries that it had. */
+uint64_t sgb_entries_number(sgb_entries *entries, int64_t number);
+uint64_t sgb_entries_graph(sgb_entries *entries, sgb_graph *graph);
+
+/* Gives the list back, if there is one. */
+void sgb_entries_close(sgb_entries *entries);
+
+/* induced(graph, entries, self_loops, multi, directed). The list stays. sgb_induced below makes the list, too. */
+uint64_t sgb_induced_by(sgb_graph *graph, sgb_entries *entries, bool self_loops, bool multi, bool directed,
+                        sgb_graph *result);
 
 /* Gives the graph back, if one is open. */
 void sgb_close(sgb_graph *graph);
@@ -190,8 +253,82 @@ void sgb_draws(int64_t start, uint64_t skip, uint32_t *out, size_t out_len);
 uint64_t sgb_uniform_draws(int64_t start, uint64_t skip, uint32_t m, uint32_t *out, size_t out_len);
 
 /* The version of the library that runs: 1000000 for its first number, 1000 for its second, 1 for its third, so that
- * 1.0.0 is 1000000. */
+ * 1.1.0 is 1001000. */
 uint64_t sgb_version(void);
+
+/* The union of two open graphs, which may be one and the same. */
+static inline uint64_t sgb_gunion(sgb_graph *first, sgb_graph *second, bool multi, bool directed, sgb_graph *result) {
+    return first == second ? sgb_gunion_self(first, multi, directed, result)
+                           : sgb_gunion_of(first, second, multi, directed, result);
+}
+
+/* Their intersection. */
+static inline uint64_t sgb_intersection(sgb_graph *first, sgb_graph *second, bool multi, bool directed,
+                                        sgb_graph *result) {
+    return first == second ? sgb_intersection_self(first, multi, directed, result)
+                           : sgb_intersection_of(first, second, multi, directed, result);
+}
+
+/* Their product: the type is 0 for the cartesian one, 1 for the direct one, 2 for the strong one. */
+static inline uint64_t sgb_product(sgb_graph *first, sgb_graph *second, int64_t type, bool directed,
+                                   sgb_graph *result) {
+    return first == second ? sgb_product_self(first, type, directed, result)
+                           : sgb_product_of(first, second, type, directed, result);
+}
+
+/* An entry of an induced graph: the open graph, or where that is NULL the number. */
+typedef struct {
+    int64_t number;
+    sgb_graph *graph;
+} sgb_entry;
+
+/* The graph that these entries induce of an open graph, which may be an entry, too. */
+static inline uint64_t sgb_induced(sgb_graph *graph, const sgb_entry *entries, size_t entries_len, bool self_loops,
+                                   bool multi, bool directed, sgb_graph *result) {
+    sgb_entries list = SGB_NO_ENTRIES;
+    uint64_t answer = SGB_OK;
+    size_t k;
+    if (result->is_open) return SGB_ALREADY_OPEN;
+    if (!graph->is_open) return SGB_NOT_OPEN;
+    for (k = 0; k < entries_len && answer == SGB_OK; k++)
+        answer = entries[k].graph ? sgb_entries_graph(&list, entries[k].graph)
+                                  : sgb_entries_number(&list, entries[k].number);
+    if (answer == SGB_OK) answer = sgb_induced_by(graph, &list, self_loops, multi, directed, result);
+    sgb_entries_close(&list);
+    return answer;
+}
+
+/* The wheel of n vertices in a circle around an open graph in the middle (GB_BASIC): induced of
+ * board(2,0,0,0,1,0,directed) with the entries `middle` and board(n,0,0,0,1,1,directed). */
+static inline uint64_t sgb_wheel_around(sgb_graph *middle, int64_t n, bool directed, sgb_graph *result) {
+    sgb_graph pair = SGB_NO_GRAPH, rim = SGB_NO_GRAPH;
+    sgb_entry entries[2];
+    char pair_text[] = "board(2,0,0,0,1,0,0)", rim_text[64], digits[24];
+    size_t length = 0, count = 0;
+    uint64_t answer, left = n < 0 ? 0 - (uint64_t)n : (uint64_t)n;
+    if (result->is_open) return SGB_ALREADY_OPEN;
+    if (!middle->is_open) return SGB_NOT_OPEN;
+    do {
+        digits[count++] = (char)('0' + left % 10);
+        left /= 10;
+    } while (left);
+    if (n < 0) digits[count++] = '-';
+    for (const char *at = "board("; *at; at++) rim_text[length++] = *at;
+    while (count) rim_text[length++] = digits[--count];
+    for (const char *at = ",0,0,0,1,1,"; *at; at++) rim_text[length++] = *at;
+    rim_text[length++] = directed ? '1' : '0';
+    rim_text[length++] = ')';
+    if (directed) pair_text[sizeof pair_text - 3] = '1';
+    answer = sgb_open(rim_text, length, "", 0, &rim);
+    if (answer == SGB_OK) answer = sgb_open(pair_text, sizeof pair_text - 1, "", 0, &pair);
+    entries[0].number = entries[1].number = 0;
+    entries[0].graph = middle;
+    entries[1].graph = &rim;
+    if (answer == SGB_OK) answer = sgb_induced(&pair, entries, 2, false, false, directed, result);
+    sgb_close(&pair);
+    sgb_close(&rim);
+    return answer;
+}
 
 #ifdef __cplusplus
 }

@@ -163,7 +163,7 @@ static void handles(void) {
     must(sgb_open("board(3,", 8, "", 0, &second), SGB_BAD_EXPRESSION + 8, "a bad text");
     is_closed(&second);
     is_graph(&graph, wanted);
-    if (sgb_version() != 1000000 || strcmp(SGB_VERSION, "1.0.0") != 0) fail("another version");
+    if (sgb_version() != 1001000 || strcmp(SGB_VERSION, "1.1.0") != 0) fail("another version");
     puts("right");
     make_arrays();
 }

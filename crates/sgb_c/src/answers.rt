@@ -3,7 +3,7 @@ ghost use Rattle.std.specs.Prelude.{◌≡◌};
 ghost use Rattle.sgb_c.specs.Answers.{number_of};
 ghost use Rattle.sgb_c.specs.inner.Causes.{answer_of_filling};
 
-use sgb_arrays::Wrong;
+use sgb_arrays::{Unmade, Wrong};
 use sgb_expr::Unread;
 use sgb_vec::Panic;
 
@@ -28,6 +28,10 @@ pub enum Answer {
     NotOpen,
     /// Vertices of the run are none of the graph.
     Vertices,
+    /// A name or the id that a graph is given is no text.
+    Text,
+    /// A graph is given more vertices or arcs than it may have.
+    TooMany,
     /// The text is no expression; its longest prefix that begins one has this many bytes.
     BadExpression(u32),
 }
@@ -47,6 +51,8 @@ impl Answer {
             Answer::AlreadyOpen => 104,
             Answer::NotOpen => 105,
             Answer::Vertices => 106,
+            Answer::Text => 107,
+            Answer::TooMany => 108,
             Answer::BadExpression(k) => 1000 + u64::from(k),
         }
     }
@@ -101,6 +107,23 @@ impl From<Wrong> for Answer {
             Wrong::Bound => Answer::Bound,
             Wrong::Vertices => Answer::Vertices,
             Wrong::NoRoom => Answer::Panic(Panic::NoRoom),
+        }
+    }
+}
+
+impl From<Unmade> for Answer {
+    ghost use Rattle.std.specs.Prelude.{◌≡◌};
+    ghost use Rattle.sgb_c.specs.Answers.{answer_of_unmade};
+
+    ghost from_gives = { λ cause a. a ≡ answer_of_unmade cause };
+
+    fn from(cause: Unmade) -> Answer {
+        match cause {
+            Unmade::Length => Answer::Length,
+            Unmade::TooMany => Answer::TooMany,
+            Unmade::Vertices => Answer::Vertices,
+            Unmade::Text => Answer::Text,
+            Unmade::NoRoom => Answer::Panic(Panic::NoRoom),
         }
     }
 }

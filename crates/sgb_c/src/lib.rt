@@ -22,10 +22,22 @@ ghost use Rattle.sgb_c.specs.Handles.{IsAnswerOn, IsListedIn, IsOpened, graph_in
 
 // What calls answer, and the numbers of it.
 mod answers;
+// The entries of an induced graph, as C gathers them.
+mod entries;
+// The handle of a list of entries.
+mod entry_handles;
+// A list of entries that C holds.
+mod entry_lists;
 // The handle of a graph.
 mod handles;
 // A graph that C holds.
 mod held;
+// Graphs that are made, and held.
+mod made;
+// Operations on open graphs.
+mod operated;
+// The exports of operations.
+mod operations;
 // The graph of a text.
 mod texts;
 
@@ -35,8 +47,8 @@ use sgb_arrays::{fill_draws, fill_uniform_draws};
 use std::alloc::Global;
 use texts::held_graph;
 
-// The version of the library, 1.0.0: 1000000 for each major number, 1000 for each minor one.
-const VERSION: u64 = 1_000_000;
+// The version of the library, 1.1.0: 1000000 for each major number, 1000 for each minor one.
+const VERSION: u64 = 1_001_000;
 
 /// How large a graph is.
 #[repr(C)]
@@ -386,7 +398,7 @@ pub extern "C" fn sgb_uniform_draws(start: i64, skip: u64, m: u32, out: &mut [u3
 /// The version of the library: 1000000 times its major number, and 1000 times its minor one, and its patch.
 #[unsafe(no_mangle)]
 pub extern "C" fn sgb_version() -> u64
-    ensures { result ≡ 1_000_000 }
+    ensures { result ≡ 1_001_000 }
 {
     VERSION
 }

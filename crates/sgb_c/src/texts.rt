@@ -44,7 +44,7 @@ pub(crate) fn held_graph(alloc: Global, text: &[u8], input: &[u8]) -> Result<Box
 }
 
 // A graph in a block of its own.
-fn boxed(alloc: Global, graph: OpenGraph) -> Result<Box<Held>, Answer>
+pub(crate) fn boxed(alloc: Global, graph: OpenGraph) -> Result<Box<Held>, Answer>
     ensures graph { IfOk result (λ b. b.value.graph ≡ graph) }
     ensures memory { IfErr result (λ why. why ≡ answer.Panic panic.NoRoom) }
 {
@@ -119,7 +119,7 @@ fn built(alloc: Global, expression: &Expr, input: &[u8]) -> Result<OpenGraph, An
 }
 
 // A graph with its lists as arrays.
-fn packed(alloc: Global, graph: Graph) -> Result<OpenGraph, Answer>
+pub(crate) fn packed(alloc: Global, graph: Graph) -> Result<OpenGraph, Answer>
     ensures graph { IfOk result (λ held. graph_open held ≡ graph) }
     ensures built { IfOk result (λ held. IsListed held → ⊥) }
     ensures memory { IfErr result (λ why. why ≡ answer.Panic panic.NoRoom) }

@@ -16,6 +16,7 @@ mod entries;
 
 use crate::kept::Kept;
 use crate::stdin::read_kept;
+pub use entries::numbered_entry;
 use entries::{EntryValue, graph_value, handed_entries};
 use sgb_expr::{EntryExpr, Expr, have_stdin};
 use sgb_graph::Graph;

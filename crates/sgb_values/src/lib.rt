@@ -8,5 +8,5 @@ mod kept;
 // The graph that standard input is a file of.
 mod stdin;
 
-pub use evaluation::{graph_from, graph_of};
+pub use evaluation::{graph_from, graph_of, numbered_entry};
 pub use stdin::MOST_INPUT;

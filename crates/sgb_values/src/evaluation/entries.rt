@@ -57,9 +57,9 @@ fn handed_entry(value: EntryValue) -> Entry
     }
 }
 
-// The entry that a number stands for: so many copies, or for -k merged vertex k; a number above the greatest of 32 bits counts
-// as that one.
-fn numbered_entry(number: i64) -> Entry
+/// The entry that a number stands for (GB_BASIC, induced): so many copies, or for -k merged vertex k; a number above the
+/// greatest of 32 bits counts as that one.
+pub fn numbered_entry(number: i64) -> Entry
     ensures { result ≡ numbered_entry number }
 {
     let size = number.unsigned_abs().min(u64::from(u32::MAX)) as u32;
