@@ -214,10 +214,11 @@ def exported(crate):
     listed = re.findall(r"pub use [\w:]+?(?:::)?(\{[^}]*\}|\w+);", text, re.S)
     names = {name for part in listed for name in re.findall(r"\w+", part)}
     modules = set(re.findall(r"pub mod (\w+);", text))
-    exports = re.findall(r"^pub (?:unsafe )?extern \S* ?fn (\w+)", text, re.M)
+    whole = "\n".join(map(code_of, files_of(folder, ".rt")))
+    exports = re.findall(r"^pub (?:unsafe )?extern \S* ?fn (\w+)", whole, re.M)
     if exports:
         # a static library: what it exports, and the structs that pass between it and C
-        structs = re.findall(r"^pub struct (\w+)", "\n".join(map(code_of, files_of(folder, ".rt"))), re.M)
+        structs = re.findall(r"^pub struct (\w+)", whole, re.M)
         return names | set(exports) | set(structs), modules
     for path in files_of(folder, ".rt"):
         if module_of(path, folder) in modules:

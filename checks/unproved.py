@@ -70,7 +70,7 @@ fn reaches(rt: HostRuntime) {{
     let mut graph = GraphHandle::closed();
     let mut second = GraphHandle::closed();
     let mut made = GraphHandle::closed();
-    let mut list = entries::EntriesHandle::closed();
+    let mut list = entry_handles::EntriesHandle::closed();
     let mut sizes = Sizes {{ vertices: 0, id: 0 }};
     {calls}
 }}
@@ -210,7 +210,7 @@ def library(kit):
     folder = os.path.join(TREE, "crates", LIBRARY)
     kept = folder + ".kept"
     shutil.copytree(folder, kept)
-    for name in "handles", "entries":
+    for name in "handles", "entry_handles":
         open_up(os.path.join(folder, f"src/{name}.rt"))
     paths = reached(folder)
     text = module(kit, LIBRARY, "--test")

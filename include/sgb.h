@@ -25,12 +25,13 @@
  * all of its arrays, or leaves all of them as they were: an array of another length than it must have is never written
  * to (SGB_WRONG_LENGTH). sgb_sizes, sgb_rows_size, sgb_names_size and sgb_file_size say which lengths these are.
  *
- * Memory. sgb_open takes what it holds. The other calls on an open graph hold nothing more when they have answered. On
- * a graph that is built they take none; on a generator's sgb_arcs and the calls on rows, tips and names may take some
- * while they run, and sgb_file and sgb_file_size build the graph for that time. All other calls never take any. Where
- * memory is refused the answer is SGB_NO_ROOM, and all is as it was before the call. A handle that is not open, a run
- * that is not there and `starts` of a wrong length are told before memory is taken, and so are a handle that is open
- * already and a text that is too large.
+ * Memory. sgb_open takes what it holds, and so do sgb_make, the operations and lists of entries; an operand that is a
+ * generator's, and not built, is built while an operation runs. The other calls on an open graph hold nothing more when
+ * they have answered. On a graph that is built they take none; on a generator's sgb_arcs and the calls on rows, tips
+ * and names may take some while they run, and sgb_file and sgb_file_size build the graph for that time. All other calls
+ * never take any. Where memory is refused the answer is SGB_NO_ROOM, and all is as it was before the call. A handle
+ * that is not open, a run that is not there and `starts` of a wrong length are told before memory is taken, and so are
+ * a handle that is open already, a text that is too large, and what is wrong with the arrays of sgb_make.
  *
  * Stack. A generator's call is opened with at most 64 KB of stack, any other expression with at most 96 KB and 36 KB
  * more for each pair of parentheses in one another, of which there may be 64. sgb_arcs takes at most 160 KB, all other
@@ -41,11 +42,11 @@
  *
  * What a caller owes: each pointer leads to as many values as its length says, and is not NULL, also where the length
  * is 0 (any address that fits the type does then). What a call writes overlaps nothing else that it is handed; what it
- * reads may be the same bytes, as one literal for `text` and `input`. A handle begins as SGB_NO_GRAPH, is changed by
- * these calls alone, and is not copied while it is open.
+ * reads may be the same bytes, as one literal for `text` and `input`. A handle begins as SGB_NO_GRAPH, a list of
+ * entries as SGB_NO_ENTRIES; both are changed by these calls alone, and are not copied while they hold something.
  *
- * What is proved of each call stands in crates/sgb_c/src/lib.rt: that the arrays hold what the definitions say of the
- * expression's graph, and when each answer comes.
+ * What is proved of each call stands in crates/sgb_c/src, of most in lib.rt: that the arrays hold what the definitions
+ * say of the graph, that what an operation makes is what they describe, and when each answer comes.
  */
 #ifndef SGB_H
 #define SGB_H
@@ -142,16 +143,17 @@ uint64_t sgb_open(const char *text, size_t text_len, const char *input, size_t i
 /* Makes the graph of these names and of these arcs (`directed`) or edges (else), each put in order: one leads from
  * from[k] to to[k], and lengths[k] is its length. Later ones come first in the lists. The name of vertex v is what
  * stands in `names` from name_starts[v] up to name_starts[v + 1]; name_starts[0] is 0.
- * `name_starts` has a place more than there are vertices, as sgb_names fills it; `from`, `to` and `lengths` have as many
- * places as one another, or the answer is SGB_WRONG_LENGTH. An end that is no vertex is answered with SGB_NO_VERTEX. */
+ * `name_starts` has a place more than there are vertices, as sgb_names fills it; `from`, `to` and `lengths` have as
+ * many places as one another, or the answer is SGB_WRONG_LENGTH. An end that is no vertex is answered with
+ * SGB_NO_VERTEX. */
 uint64_t sgb_make(const uint64_t *name_starts, size_t name_starts_len, const char *names, size_t names_len,
                   const uint32_t *from, size_t from_len, const uint32_t *to, size_t to_len, const int64_t *lengths,
                   size_t lengths_len, bool directed, const char *id, size_t id_len, sgb_graph *result);
 
 /* The operations of GB_BASIC on graphs that are open, as in expressions. What is made is held by `result`, built, with
- * its official id; the operands stay open, and are as they were. `result` is another handle than each operand, and holds
- * no graph (SGB_ALREADY_OPEN); an operand that is not open is answered with SGB_NOT_OPEN. What GB_BASIC refuses is
- * answered as sgb_open answers it. */
+ * its official id; the operands stay open, and are as they were. `result` is another handle than each operand, and
+ * holds no graph (SGB_ALREADY_OPEN); an operand that is not open is answered with SGB_NOT_OPEN. What GB_BASIC refuses
+ * is answered as sgb_open answers it. */
 
 /* complement(graph, copy, self_loops, directed): a copy without parallel arcs where `copy` */
 uint64_t sgb_complement(sgb_graph *graph, bool copy, bool self_loops, bool directed, sgb_graph *result);
@@ -174,8 +176,8 @@ uint64_t sgb_gunion_self(sgb_graph *graph, bool multi, bool directed, sgb_graph 
 uint64_t sgb_intersection_self(sgb_graph *graph, bool multi, bool directed, sgb_graph *result);
 uint64_t sgb_product_self(sgb_graph *graph, int64_t type, bool directed, sgb_graph *result);
 
-/* Adds an entry to a list: a number, as it stands in the list of induced(..), or a copy of an open graph. Where memory is
- * refused the list has the entries that it had. */
+/* Adds an entry to a list: a number, as it stands in the list of induced(..), or a copy of an open graph. Where memory
+ * is refused the list has the entries that it had. */
 uint64_t sgb_entries_number(sgb_entries *entries, int64_t number);
 uint64_t sgb_entries_graph(sgb_entries *entries, sgb_graph *graph);
 

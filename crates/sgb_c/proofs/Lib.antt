@@ -7,3 +7,9 @@ pub mod LooseValues
 pub mod BoxTypes
 -- what calls on a graph answer
 pub mod Answered
+-- the machine value of the handle of a list of entries
+pub mod LooseListValues
+-- the types of a box of entries that is taken apart and made again
+pub mod ListBoxTypes
+-- what calls answer that make a graph
+pub mod MadeGraphs

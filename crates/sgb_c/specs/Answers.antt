@@ -9,6 +9,8 @@ use Rattle.sgb_expr.specs.Expressions.{IsExpression, IsExpressionRead, IsTooLarg
 use Rattle.sgb_expr.specs.declared.expressions.Unread.{Unread}
 use Rattle.sgb_expr.specs.declared.expressions.Unread.TheVariants as unread
 use Rattle.sgb_values.specs.Values.{IsValueOn}
+use Rattle.sgb_arrays.specs.declared.given.Unmade.{Unmade}
+use Rattle.sgb_arrays.specs.declared.given.Unmade.TheVariants as unmade
 use Rattle.sgb_arrays.specs.declared.refusals.Wrong.{Wrong}
 use Rattle.sgb_arrays.specs.declared.refusals.Wrong.TheVariants as wrong
 use Rattle.sgb_c.specs.declared.answers.Answer.{Answer}
@@ -26,6 +28,8 @@ number_of answer.Bound = 103
 number_of answer.AlreadyOpen = 104
 number_of answer.NotOpen = 105
 number_of answer.Vertices = 106
+number_of answer.Text = 107
+number_of answer.TooMany = 108
 number_of (answer.BadExpression k) = 1000 + k
 
 -- the answer where a text is not read
@@ -62,6 +66,14 @@ answer_of_wrong wrong.Field = answer.Field
 answer_of_wrong wrong.Bound = answer.Bound
 answer_of_wrong wrong.Vertices = answer.Vertices
 answer_of_wrong wrong.NoRoom = answer.Panic NoRoom
+
+-- the answer where no graph is made of arrays
+abbrev pub answer_of_unmade : Unmade → Answer
+answer_of_unmade unmade.Length = answer.Length
+answer_of_unmade unmade.TooMany = answer.TooMany
+answer_of_unmade unmade.Vertices = answer.Vertices
+answer_of_unmade unmade.Text = answer.Text
+answer_of_unmade unmade.NoRoom = answer.Panic NoRoom
 
 -- this is the answer for one of these causes
 abbrev pub IsAnswerFor : (Wrong → Type 0) → Answer → Type 0

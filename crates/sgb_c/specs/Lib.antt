@@ -5,5 +5,7 @@ pub mod Answers
 pub mod Owns
 -- what a handle holds, and what a call on it answers
 pub mod Handles
+-- what a call answers that makes a graph
+pub mod Made
 -- what no public contract needs
 pub mod inner

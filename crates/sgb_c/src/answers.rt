@@ -112,6 +112,11 @@ impl From<Wrong> for Answer {
 }
 
 impl From<Unmade> for Answer {
+    ghost use Rattle.std.specs.Prelude.{◌≡◌};
+    ghost use Rattle.sgb_c.specs.Answers.{answer_of_unmade};
+
+    ghost from_gives = { λ cause a. a ≡ answer_of_unmade cause };
+
     fn from(cause: Unmade) -> Answer {
         match cause {
             Unmade::Length => Answer::Length,

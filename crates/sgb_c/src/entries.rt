@@ -1,89 +1,102 @@
-//! The entries of an induced graph, as C gathers them: `struct sgb_entries`.
+//! The entries of an induced graph, as C gathers them (`struct sgb_entries`), and the graph that they induce.
 //!
-//! A list is taken out of its handle, grows, and is put back: so nothing of it is lent.
+//! A list is taken out of its handle, grows, and is put back: so nothing of it is lent. A graph comes in as a copy, so that it may
+//! be an entry many times, be the operand too, and be closed before the list is.
+ghost use Rattle.std.specs.Prelude.{◌≡◌, [], None, Some, Err, IfSome};
+ghost use Rattle.std.specs.Option.{option_map, option_map_or};
+ghost use Rattle.sgb_vec.specs.declared.panics.Panic.{Panic};
+ghost use Rattle.sgb_graph.specs.Vertices.{order_of};
+ghost use Rattle.sgb_ops.specs.Entries.{accepted_entries};
+ghost use Rattle.sgb_ops.specs.Induced.{induced_of};
+ghost use Rattle.sgb_values.specs.Values.{numbered_entry};
+ghost use Rattle.sgb_c.specs.Answers.{number_of};
+ghost use Rattle.sgb_c.specs.Handles.{IsListedIn, graph_in};
+ghost use Rattle.sgb_c.specs.Made.{IsAdded, IsGraphAdded, IsMade, entries_in};
+ghost use Rattle.sgb_c.specs.declared.answers.Answer.TheVariants as answer;
 
 use crate::answers::Answer;
-use crate::entry_lists::{EntryList, LooseList};
+use crate::entry_handles::EntriesHandle;
+use crate::entry_lists::EntryList;
 use crate::handles::GraphHandle;
-use crate::operated::induced_of;
+use crate::operated::graph_induced;
 use sgb_ops::Entry;
 use sgb_values::numbered_entry;
 use sgb_vec::Panic;
 use std::alloc::Global;
-use std::mem::replace;
-
-/// A list of entries, or none. All bytes 0 stand for none.
-#[repr(C)]
-#[derive(Drop)]
-pub struct EntriesHandle {
-    /// The list, if there is one.
-    pub held: LooseList,
-    /// Whether there is one.
-    pub is_held: bool,
-    ghost agrees: { is_held ≡ is_some held.value },
-}
 
 impl EntriesHandle {
-    // No list.
-    fn closed() -> EntriesHandle {
-        EntriesHandle {
-            held: LooseList::none(),
-            is_held: false,
+    // Adds an entry after the others; the number of the answer.
+    fn add(&mut self, alloc: Global, entry: Entry) -> u64
+        ensures { IsAdded entry (entries_in self.old) (entries_in self.new) result }
+    {
+        match self.list(alloc) {
+            Some(list) => self.put_longer(list, entry),
+            None => Answer::Panic(Panic::NoRoom).number(),
         }
     }
 
-    // Takes the list out, if there is one: there is none then.
-    fn take(&mut self, alloc: Global) -> Option<Box<EntryList>> {
-        if !self.is_held {
-            return None;
-        }
-        let EntriesHandle { held, is_held: _ } = replace(self, EntriesHandle::closed());
-        Some(held.into_box(alloc))
-    }
-
-    // Holds the list in the box.
-    fn put(&mut self, boxed: Box<EntryList>) {
-        *self = EntriesHandle {
-            held: LooseList::of(boxed),
-            is_held: true,
-        };
-    }
-
-    // Adds an entry after the others.
-    fn add(&mut self, alloc: Global, entry: Entry) -> u64 {
-        let Some(mut list) = self.list(alloc) else {
-            return Answer::Panic(Panic::NoRoom).number();
-        };
-        let pushed = list.entries.push(entry).is_ok();
-        self.put(list);
-        if pushed {
-            return Answer::Done.number();
-        }
-        Answer::Panic(Panic::NoRoom).number()
-    }
-
-    // The list, or an empty one.
-    fn list(&mut self, alloc: Global) -> Option<Box<EntryList>> {
+    // The list, taken out, or an empty one. `None` out of memory; then there was none.
+    fn list(&mut self, alloc: Global) -> Option<Box<EntryList>>
+        ensures list { IfSome result (λ b. b.value.entries.items ≡ entries_in self.old) }
+        ensures none { result ≡ None → entries_in self.new ≡ entries_in self.old }
+    {
         match self.take(alloc) {
             Some(list) => Some(list),
-            None => Box::new(
-                alloc,
-                EntryList {
-                    entries: Vec::new(alloc),
-                },
-            )
-            .ok(),
+            None => empty_list(alloc),
+        }
+    }
+
+    // Holds the list, with this entry after the others; the number of the answer.
+    fn put_longer(&mut self, mut list: Box<EntryList>, entry: Entry) -> u64
+        ensures { IsAdded entry list.value.entries.items (entries_in self.new) result }
+    {
+        let number = list.as_mut().push(entry);
+        self.put(list);
+        number
+    }
+}
+
+impl EntryList {
+    // Adds an entry after the others; the number of the answer.
+    fn push(&mut self, entry: Entry) -> u64
+        ensures { IsAdded entry self.old.entries.items self.new.entries.items result }
+    {
+        match self.entries.push(entry) {
+            Ok(()) => Answer::Done.number(),
+            Err(_refused) => Answer::Panic(Panic::NoRoom).number(),
         }
     }
 }
 
-/// Adds a number to the entries: so many copies of a vertex, or for -k merged vertex k.
+// A list with no entries.
+fn empty_list(alloc: Global) -> Option<Box<EntryList>>
+    ensures { IfSome result (λ b. b.value.entries.items ≡ []) }
+{
+    let list = EntryList {
+        entries: Vec::new(alloc),
+    };
+    match Box::new(alloc, list) {
+        Ok(boxed) => Some(boxed),
+        Err(_refused) => None,
+    }
+}
+
+// The entries of what was taken out of a handle.
+fn entries_of(taken: &Option<Box<EntryList>>) -> &[Entry]
+    ensures { result.now ≡ option_map_or (λ b. b.value.entries.items) taken.now [] }
+{
+    match taken {
+        Some(list) => list.entries.as_slice(),
+        None => &[],
+    }
+}
+
+/// Adds a number to the entries: so many copies of a vertex, or for -k merged vertex k (GB_BASIC, induced).
 #[unsafe(no_mangle)]
-pub extern "C" fn sgb_entries_number(
-    alloc: Global,
-    entries: &mut EntriesHandle,
-    number: i64,
-) -> u64 {
+pub extern "C" fn sgb_entries_number(alloc: Global, entries: &mut EntriesHandle, number: i64) -> u64
+    ensures { IsAdded (numbered_entry number) (entries_in entries.old) (entries_in entries.new)
+        result }
+{
     entries.add(alloc, numbered_entry(number))
 }
 
@@ -93,7 +106,11 @@ pub extern "C" fn sgb_entries_graph(
     alloc: Global,
     entries: &mut EntriesHandle,
     graph: &mut GraphHandle,
-) -> u64 {
+) -> u64
+    ensures added { IsGraphAdded (graph_in graph.old) (entries_in entries.old)
+        (entries_in entries.new) result }
+    ensures kept { graph.new.held.value ≡ graph.old.held.value }
+{
     match graph.lend() {
         Some(held) => match held.graph.copy(alloc) {
             Ok(copy) => entries.add(alloc, Entry::Graph(copy)),
@@ -105,11 +122,13 @@ pub extern "C" fn sgb_entries_graph(
 
 /// Gives the list of entries back, if there is one.
 #[unsafe(no_mangle)]
-pub extern "C" fn sgb_entries_close(alloc: Global, entries: &mut EntriesHandle) {
+pub extern "C" fn sgb_entries_close(alloc: Global, entries: &mut EntriesHandle)
+    ensures { entries.new.held.value ≡ None }
+{
     let _closed = entries.take(alloc);
 }
 
-/// Makes the graph that the entries induce of the graph that is open (GB_BASIC, induced). The list stays.
+/// The graph that the entries induce of the graph that is open (GB_BASIC, induced). The list stays.
 #[unsafe(no_mangle)]
 pub extern "C" fn sgb_induced_by(
     alloc: Global,
@@ -119,29 +138,30 @@ pub extern "C" fn sgb_induced_by(
     multi: bool,
     directed: bool,
     made: &mut GraphHandle,
-) -> u64 {
+) -> u64
+    ensures made { IsMade (option_map
+        (λ g. induced_of g (entries_in entries.old) self_loops multi directed)
+        (graph_in graph.old)) (graph_in made.old) (graph_in made.new) result }
+    ensures refused { (p : Panic) → graph_in made.old ≡ None → (IsListedIn graph.old → ⊥)
+        → option_map (λ g. accepted_entries (order_of g) (entries_in entries.old))
+        (graph_in graph.old) ≡ Some (Err p) → result ≡ number_of (answer.Panic p) }
+    ensures left { (result ≡ number_of answer.Done → ⊥)
+        → made.new.held.value ≡ made.old.held.value }
+    ensures built { graph_in made.old ≡ None → IsListedIn made.new → ⊥ }
+    ensures kept { graph.new.held.value ≡ graph.old.held.value }
+    ensures entries { entries.new.held.value ≡ entries.old.held.value }
+{
     if made.is_open() {
         return Answer::AlreadyOpen.number();
     }
     match graph.lend() {
-        Some(held) => match entries.take(alloc) {
-            Some(list) => {
-                let answer = induced_of(
-                    alloc,
-                    &held.graph,
-                    &list.entries,
-                    self_loops,
-                    multi,
-                    directed,
-                );
-                entries.put(list);
-                made.put_made(alloc, answer)
-            }
-            None => made.put_made(
-                alloc,
-                induced_of(alloc, &held.graph, &[], self_loops, multi, directed),
-            ),
-        },
+        Some(held) => {
+            let taken = entries.take(alloc);
+            let list = entries_of(&taken);
+            let answer = graph_induced(alloc, &held.graph, list, self_loops, multi, directed);
+            entries.put_back(taken);
+            made.put_made(alloc, answer)
+        }
         None => Answer::NotOpen.number(),
     }
 }

@@ -24,6 +24,8 @@ ghost use Rattle.sgb_c.specs.Handles.{IsAnswerOn, IsListedIn, IsOpened, graph_in
 mod answers;
 // The entries of an induced graph, as C gathers them.
 mod entries;
+// The handle of a list of entries.
+mod entry_handles;
 // A list of entries that C holds.
 mod entry_lists;
 // The handle of a graph.

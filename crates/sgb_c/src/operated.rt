@@ -1,4 +1,12 @@
-//! Operations on open graphs: each operand is built for it where it is not, and dropped before the result is held.
+//! Operations on open graphs, as values: each operand is built where it is not, and is dropped before the result is held.
+ghost use Rattle.std.specs.Prelude.{◌≡◌, Err};
+ghost use Rattle.sgb_vec.specs.declared.panics.Panic.{Panic};
+ghost use Rattle.sgb_graph.specs.Descriptions.{IsAnswerOf};
+ghost use Rattle.sgb_graph.specs.Vertices.{order_of};
+ghost use Rattle.sgb_ops.specs.Entries.{accepted_entries};
+ghost use Rattle.sgb_ops.specs.Induced.{induced_of};
+ghost use Rattle.sgb_arrays.specs.OpenGraphs.{IsListed, graph_open};
+ghost use Rattle.sgb_c.specs.inner.Operations.{of_graph, of_graphs};
 
 use sgb_arrays::OpenGraph;
 use sgb_graph::Graph;
@@ -6,72 +14,111 @@ use sgb_ops::{Entry, complement, gunion, induced, intersection, lines, product};
 use sgb_vec::Panic;
 use std::alloc::Global;
 
-// The complement of an open graph.
-pub(crate) fn complement_of(
+/// An operation on a graph.
+#[derive(Clone, Copy)]
+pub(crate) enum OnGraph {
+    /// The complement, or a copy without parallel arcs.
+    Complement {
+        copy: bool,
+        self_loops: bool,
+        directed: bool,
+    },
+    /// The line graph.
+    Lines {
+        directed: bool,
+    },
+}
+
+/// An operation on two.
+#[derive(Clone, Copy)]
+pub(crate) enum OnGraphs {
+    /// The union.
+    Gunion { multi: bool, directed: bool },
+    /// The intersection.
+    Intersection { multi: bool, directed: bool },
+    /// The product of this type.
+    Product { kind: i64, directed: bool },
+}
+
+// The graph that an operation makes of an open one.
+pub(crate) fn graph_of_one(
     alloc: Global,
+    operation: OnGraph,
     graph: &OpenGraph,
-    copy: bool,
-    self_loops: bool,
-    directed: bool,
-) -> Result<Graph, Panic> {
+) -> Result<Graph, Panic>
+    ensures { IsAnswerOf (of_graph operation (graph_open graph.now)) result }
+{
     let operand = graph.operand(alloc)?;
-    complement(alloc, operand.graph(), copy, self_loops, directed)
+    made_of_one(alloc, operation, operand.graph())
 }
 
-// Its line graph.
-pub(crate) fn lines_of(alloc: Global, graph: &OpenGraph, directed: bool) -> Result<Graph, Panic> {
-    let operand = graph.operand(alloc)?;
-    lines(alloc, operand.graph(), directed)
+// The graph that an operation makes of one.
+fn made_of_one(alloc: Global, operation: OnGraph, graph: &Graph) -> Result<Graph, Panic>
+    ensures { IsAnswerOf (of_graph operation graph.now) result }
+{
+    match operation {
+        OnGraph::Complement {
+            copy,
+            self_loops,
+            directed,
+        } => complement(alloc, graph, copy, self_loops, directed),
+        OnGraph::Lines { directed } => lines(alloc, graph, directed),
+    }
 }
 
-// The union of two open graphs.
-pub(crate) fn gunion_of(
+// The graph that an operation makes of two open ones.
+pub(crate) fn graph_of_two(
     alloc: Global,
+    operation: OnGraphs,
     first: &OpenGraph,
     second: &OpenGraph,
-    multi: bool,
-    directed: bool,
-) -> Result<Graph, Panic> {
+) -> Result<Graph, Panic>
+    ensures answer { IsAnswerOf
+        (of_graphs operation (graph_open first.now) (graph_open second.now)) result }
+    ensures refused { (p : Panic) → (IsListed first.now → ⊥) → (IsListed second.now → ⊥)
+        → of_graphs operation (graph_open first.now) (graph_open second.now) ≡ Err p
+        → result ≡ Err p }
+{
     let left = first.operand(alloc)?;
     let right = second.operand(alloc)?;
-    gunion(alloc, left.graph(), right.graph(), multi, directed)
+    made_of_two(alloc, operation, left.graph(), right.graph())
 }
 
-// Their intersection.
-pub(crate) fn intersection_of(
+// The graph that an operation makes of two.
+fn made_of_two(
     alloc: Global,
-    first: &OpenGraph,
-    second: &OpenGraph,
-    multi: bool,
-    directed: bool,
-) -> Result<Graph, Panic> {
-    let left = first.operand(alloc)?;
-    let right = second.operand(alloc)?;
-    intersection(alloc, left.graph(), right.graph(), multi, directed)
+    operation: OnGraphs,
+    first: &Graph,
+    second: &Graph,
+) -> Result<Graph, Panic>
+    ensures answer { IsAnswerOf (of_graphs operation first.now second.now) result }
+    ensures refused { (p : Panic) → of_graphs operation first.now second.now ≡ Err p
+        → result ≡ Err p }
+{
+    match operation {
+        OnGraphs::Gunion { multi, directed } => gunion(alloc, first, second, multi, directed),
+        OnGraphs::Intersection { multi, directed } => {
+            intersection(alloc, first, second, multi, directed)
+        }
+        OnGraphs::Product { kind, directed } => product(alloc, first, second, kind, directed),
+    }
 }
 
-// Their product.
-pub(crate) fn product_of(
-    alloc: Global,
-    first: &OpenGraph,
-    second: &OpenGraph,
-    kind: i64,
-    directed: bool,
-) -> Result<Graph, Panic> {
-    let left = first.operand(alloc)?;
-    let right = second.operand(alloc)?;
-    product(alloc, left.graph(), right.graph(), kind, directed)
-}
-
-// The graph that these entries induce of an open graph.
-pub(crate) fn induced_of(
+// The graph that these entries induce of an open one.
+pub(crate) fn graph_induced(
     alloc: Global,
     graph: &OpenGraph,
     entries: &[Entry],
     self_loops: bool,
     multi: bool,
     directed: bool,
-) -> Result<Graph, Panic> {
+) -> Result<Graph, Panic>
+    ensures answer { IsAnswerOf
+        (induced_of (graph_open graph.now) entries.now self_loops multi directed) result }
+    ensures refused { (p : Panic) → (IsListed graph.now → ⊥)
+        → accepted_entries (order_of (graph_open graph.now)) entries.now ≡ Err p
+        → result ≡ Err p }
+{
     let operand = graph.operand(alloc)?;
     induced(alloc, operand.graph(), entries, self_loops, multi, directed)
 }

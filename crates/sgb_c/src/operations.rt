@@ -1,12 +1,26 @@
-//! Operations on graphs that are open, and what operations on numbers make (GB_BASIC).
+//! The exports of operations: on graphs that are open, and on numbers (GB_BASIC). What is made is built, and held by another
+//! handle; operands stay as they are.
+ghost use Rattle.std.specs.Prelude.{◌≡◌, None, Some, Err};
+ghost use Rattle.std.specs.Option.{option_map};
+ghost use Rattle.sgb_vec.specs.declared.panics.Panic.{Panic};
+ghost use Rattle.sgb_ops.specs.BiComplete.{accepted_parts, bi_complete_of};
+ghost use Rattle.sgb_ops.specs.Complement.{complement_of};
+ghost use Rattle.sgb_ops.specs.Gunion.{gunion_of};
+ghost use Rattle.sgb_ops.specs.Intersection.{intersection_of};
+ghost use Rattle.sgb_ops.specs.Lines.{line_graph_of};
+ghost use Rattle.sgb_ops.specs.Product.{product_graph_of};
+ghost use Rattle.sgb_ops.specs.Wheel.{accepted_middle, wheel_of};
+ghost use Rattle.sgb_c.specs.Answers.{number_of};
+ghost use Rattle.sgb_c.specs.Handles.{IsListedIn, graph_in};
+ghost use Rattle.sgb_c.specs.Made.{IsMade, of_both};
 
 use crate::answers::Answer;
 use crate::handles::GraphHandle;
-use crate::operated::{complement_of, gunion_of, intersection_of, lines_of, product_of};
+use crate::operated::{OnGraph, OnGraphs};
 use sgb_ops::{bi_complete, wheel};
 use std::alloc::Global;
 
-/// Makes the complement of the graph that is open, or with `copy` a copy of it without parallel arcs (GB_BASIC, complement).
+/// The complement of the graph that is open, or with `copy` a copy of it without parallel arcs (GB_BASIC, complement).
 #[unsafe(no_mangle)]
 pub extern "C" fn sgb_complement(
     alloc: Global,
@@ -15,37 +29,42 @@ pub extern "C" fn sgb_complement(
     self_loops: bool,
     directed: bool,
     made: &mut GraphHandle,
-) -> u64 {
-    if made.is_open() {
-        return Answer::AlreadyOpen.number();
-    }
-    match graph.lend() {
-        Some(held) => made.put_made(
-            alloc,
-            complement_of(alloc, &held.graph, copy, self_loops, directed),
-        ),
-        None => Answer::NotOpen.number(),
-    }
+) -> u64
+    ensures made { IsMade (option_map (λ g. complement_of g copy self_loops directed) (graph_in graph.old))
+        (graph_in made.old) (graph_in made.new) result }
+    ensures left { (result ≡ number_of Answer.Done → ⊥)
+        → made.new.held.value ≡ made.old.held.value }
+    ensures built { graph_in made.old ≡ None → IsListedIn made.new → ⊥ }
+    ensures kept { graph.new.held.value ≡ graph.old.held.value }
+{
+    let operation = OnGraph::Complement {
+        copy,
+        self_loops,
+        directed,
+    };
+    made.make_of_one(alloc, operation, graph)
 }
 
-/// Makes the line graph of the graph that is open (GB_BASIC, lines).
+/// The line graph of the graph that is open (GB_BASIC, lines).
 #[unsafe(no_mangle)]
 pub extern "C" fn sgb_lines(
     alloc: Global,
     graph: &mut GraphHandle,
     directed: bool,
     made: &mut GraphHandle,
-) -> u64 {
-    if made.is_open() {
-        return Answer::AlreadyOpen.number();
-    }
-    match graph.lend() {
-        Some(held) => made.put_made(alloc, lines_of(alloc, &held.graph, directed)),
-        None => Answer::NotOpen.number(),
-    }
+) -> u64
+    ensures made { IsMade (option_map (λ g. line_graph_of g directed) (graph_in graph.old))
+        (graph_in made.old) (graph_in made.new) result }
+    ensures left { (result ≡ number_of Answer.Done → ⊥)
+        → made.new.held.value ≡ made.old.held.value }
+    ensures built { graph_in made.old ≡ None → IsListedIn made.new → ⊥ }
+    ensures kept { graph.new.held.value ≡ graph.old.held.value }
+{
+    let operation = OnGraph::Lines { directed };
+    made.make_of_one(alloc, operation, graph)
 }
 
-/// Makes the union of two graphs that are open (GB_BASIC, gunion).
+/// The union of two graphs that are open (GB_BASIC, gunion).
 #[unsafe(no_mangle)]
 pub extern "C" fn sgb_gunion_of(
     alloc: Global,
@@ -54,23 +73,21 @@ pub extern "C" fn sgb_gunion_of(
     multi: bool,
     directed: bool,
     made: &mut GraphHandle,
-) -> u64 {
-    if made.is_open() {
-        return Answer::AlreadyOpen.number();
-    }
-    match first.lend() {
-        Some(one) => match second.lend() {
-            Some(other) => made.put_made(
-                alloc,
-                gunion_of(alloc, &one.graph, &other.graph, multi, directed),
-            ),
-            None => Answer::NotOpen.number(),
-        },
-        None => Answer::NotOpen.number(),
-    }
+) -> u64
+    ensures made { IsMade
+        (of_both (λ g h. gunion_of g h multi directed) (graph_in first.old) (graph_in second.old))
+        (graph_in made.old) (graph_in made.new) result }
+    ensures left { (result ≡ number_of Answer.Done → ⊥)
+        → made.new.held.value ≡ made.old.held.value }
+    ensures built { graph_in made.old ≡ None → IsListedIn made.new → ⊥ }
+    ensures first { first.new.held.value ≡ first.old.held.value }
+    ensures second { second.new.held.value ≡ second.old.held.value }
+{
+    let operation = OnGraphs::Gunion { multi, directed };
+    made.make_of_two(alloc, operation, first, second)
 }
 
-/// Makes the union of the graph that is open with itself (GB_BASIC, gunion).
+/// The union of the graph that is open and itself (GB_BASIC, gunion).
 #[unsafe(no_mangle)]
 pub extern "C" fn sgb_gunion_self(
     alloc: Global,
@@ -78,20 +95,20 @@ pub extern "C" fn sgb_gunion_self(
     multi: bool,
     directed: bool,
     made: &mut GraphHandle,
-) -> u64 {
-    if made.is_open() {
-        return Answer::AlreadyOpen.number();
-    }
-    match graph.lend() {
-        Some(held) => made.put_made(
-            alloc,
-            gunion_of(alloc, &held.graph, &held.graph, multi, directed),
-        ),
-        None => Answer::NotOpen.number(),
-    }
+) -> u64
+    ensures made { IsMade
+        (of_both (λ g h. gunion_of g h multi directed) (graph_in graph.old) (graph_in graph.old))
+        (graph_in made.old) (graph_in made.new) result }
+    ensures left { (result ≡ number_of Answer.Done → ⊥)
+        → made.new.held.value ≡ made.old.held.value }
+    ensures built { graph_in made.old ≡ None → IsListedIn made.new → ⊥ }
+    ensures kept { graph.new.held.value ≡ graph.old.held.value }
+{
+    let operation = OnGraphs::Gunion { multi, directed };
+    made.make_of_itself(alloc, operation, graph)
 }
 
-/// Makes the intersection of two graphs that are open (GB_BASIC, intersection).
+/// The intersection of two graphs that are open (GB_BASIC, intersection).
 #[unsafe(no_mangle)]
 pub extern "C" fn sgb_intersection_of(
     alloc: Global,
@@ -100,23 +117,21 @@ pub extern "C" fn sgb_intersection_of(
     multi: bool,
     directed: bool,
     made: &mut GraphHandle,
-) -> u64 {
-    if made.is_open() {
-        return Answer::AlreadyOpen.number();
-    }
-    match first.lend() {
-        Some(one) => match second.lend() {
-            Some(other) => made.put_made(
-                alloc,
-                intersection_of(alloc, &one.graph, &other.graph, multi, directed),
-            ),
-            None => Answer::NotOpen.number(),
-        },
-        None => Answer::NotOpen.number(),
-    }
+) -> u64
+    ensures made { IsMade
+        (of_both (λ g h. intersection_of g h multi directed) (graph_in first.old) (graph_in second.old))
+        (graph_in made.old) (graph_in made.new) result }
+    ensures left { (result ≡ number_of Answer.Done → ⊥)
+        → made.new.held.value ≡ made.old.held.value }
+    ensures built { graph_in made.old ≡ None → IsListedIn made.new → ⊥ }
+    ensures first { first.new.held.value ≡ first.old.held.value }
+    ensures second { second.new.held.value ≡ second.old.held.value }
+{
+    let operation = OnGraphs::Intersection { multi, directed };
+    made.make_of_two(alloc, operation, first, second)
 }
 
-/// Makes the intersection of the graph that is open with itself (GB_BASIC, intersection).
+/// The intersection of the graph that is open and itself (GB_BASIC, intersection).
 #[unsafe(no_mangle)]
 pub extern "C" fn sgb_intersection_self(
     alloc: Global,
@@ -124,20 +139,20 @@ pub extern "C" fn sgb_intersection_self(
     multi: bool,
     directed: bool,
     made: &mut GraphHandle,
-) -> u64 {
-    if made.is_open() {
-        return Answer::AlreadyOpen.number();
-    }
-    match graph.lend() {
-        Some(held) => made.put_made(
-            alloc,
-            intersection_of(alloc, &held.graph, &held.graph, multi, directed),
-        ),
-        None => Answer::NotOpen.number(),
-    }
+) -> u64
+    ensures made { IsMade
+        (of_both (λ g h. intersection_of g h multi directed) (graph_in graph.old) (graph_in graph.old))
+        (graph_in made.old) (graph_in made.new) result }
+    ensures left { (result ≡ number_of Answer.Done → ⊥)
+        → made.new.held.value ≡ made.old.held.value }
+    ensures built { graph_in made.old ≡ None → IsListedIn made.new → ⊥ }
+    ensures kept { graph.new.held.value ≡ graph.old.held.value }
+{
+    let operation = OnGraphs::Intersection { multi, directed };
+    made.make_of_itself(alloc, operation, graph)
 }
 
-/// Makes the product of two graphs that are open (GB_BASIC, product).
+/// The product of two graphs that are open (GB_BASIC, product).
 #[unsafe(no_mangle)]
 pub extern "C" fn sgb_product_of(
     alloc: Global,
@@ -146,23 +161,25 @@ pub extern "C" fn sgb_product_of(
     kind: i64,
     directed: bool,
     made: &mut GraphHandle,
-) -> u64 {
-    if made.is_open() {
-        return Answer::AlreadyOpen.number();
-    }
-    match first.lend() {
-        Some(one) => match second.lend() {
-            Some(other) => made.put_made(
-                alloc,
-                product_of(alloc, &one.graph, &other.graph, kind, directed),
-            ),
-            None => Answer::NotOpen.number(),
-        },
-        None => Answer::NotOpen.number(),
-    }
+) -> u64
+    ensures made { IsMade
+        (of_both (λ g h. product_graph_of g h kind directed) (graph_in first.old) (graph_in second.old))
+        (graph_in made.old) (graph_in made.new) result }
+    ensures refused { (p : Panic) → graph_in made.old ≡ None
+        → (IsListedIn first.old → ⊥) → (IsListedIn second.old → ⊥)
+        → of_both (λ g h. product_graph_of g h kind directed) (graph_in first.old) (graph_in second.old)
+        ≡ Some (Err p) → result ≡ number_of (Answer.Panic p) }
+    ensures left { (result ≡ number_of Answer.Done → ⊥)
+        → made.new.held.value ≡ made.old.held.value }
+    ensures built { graph_in made.old ≡ None → IsListedIn made.new → ⊥ }
+    ensures first { first.new.held.value ≡ first.old.held.value }
+    ensures second { second.new.held.value ≡ second.old.held.value }
+{
+    let operation = OnGraphs::Product { kind, directed };
+    made.make_of_two(alloc, operation, first, second)
 }
 
-/// Makes the product of the graph that is open with itself (GB_BASIC, product).
+/// The product of the graph that is open and itself (GB_BASIC, product).
 #[unsafe(no_mangle)]
 pub extern "C" fn sgb_product_self(
     alloc: Global,
@@ -170,20 +187,24 @@ pub extern "C" fn sgb_product_self(
     kind: i64,
     directed: bool,
     made: &mut GraphHandle,
-) -> u64 {
-    if made.is_open() {
-        return Answer::AlreadyOpen.number();
-    }
-    match graph.lend() {
-        Some(held) => made.put_made(
-            alloc,
-            product_of(alloc, &held.graph, &held.graph, kind, directed),
-        ),
-        None => Answer::NotOpen.number(),
-    }
+) -> u64
+    ensures made { IsMade
+        (of_both (λ g h. product_graph_of g h kind directed) (graph_in graph.old) (graph_in graph.old))
+        (graph_in made.old) (graph_in made.new) result }
+    ensures refused { (p : Panic) → graph_in made.old ≡ None
+        → (IsListedIn graph.old → ⊥)
+        → of_both (λ g h. product_graph_of g h kind directed) (graph_in graph.old) (graph_in graph.old)
+        ≡ Some (Err p) → result ≡ number_of (Answer.Panic p) }
+    ensures left { (result ≡ number_of Answer.Done → ⊥)
+        → made.new.held.value ≡ made.old.held.value }
+    ensures built { graph_in made.old ≡ None → IsListedIn made.new → ⊥ }
+    ensures kept { graph.new.held.value ≡ graph.old.held.value }
+{
+    let operation = OnGraphs::Product { kind, directed };
+    made.make_of_itself(alloc, operation, graph)
 }
 
-/// Makes the complete bipartite graph of so many vertices (GB_BASIC, bi_complete).
+/// The complete bipartite graph of so many vertices (GB_BASIC, bi_complete).
 #[unsafe(no_mangle)]
 pub extern "C" fn sgb_bi_complete(
     alloc: Global,
@@ -191,14 +212,23 @@ pub extern "C" fn sgb_bi_complete(
     n2: i64,
     directed: bool,
     made: &mut GraphHandle,
-) -> u64 {
+) -> u64
+    ensures made { IsMade (Some (bi_complete_of n1 n2 directed)) (graph_in made.old) (graph_in made.new)
+        result }
+    ensures refused { (p : Panic) → graph_in made.old ≡ None → accepted_parts n1 n2 ≡ Err p
+        → result ≡ number_of (Answer.Panic p) }
+    ensures left { (result ≡ number_of Answer.Done → ⊥)
+        → made.new.held.value ≡ made.old.held.value }
+    ensures built { graph_in made.old ≡ None → IsListedIn made.new → ⊥ }
+{
     if made.is_open() {
         return Answer::AlreadyOpen.number();
     }
-    made.put_made(alloc, bi_complete(alloc, n1, n2, directed))
+    let graph = bi_complete(alloc, n1, n2, directed);
+    made.put_made(alloc, graph)
 }
 
-/// Makes the wheel of so many vertices (GB_BASIC, wheel).
+/// The wheel of so many vertices (GB_BASIC, wheel).
 #[unsafe(no_mangle)]
 pub extern "C" fn sgb_wheel(
     alloc: Global,
@@ -206,9 +236,18 @@ pub extern "C" fn sgb_wheel(
     n1: i64,
     directed: bool,
     made: &mut GraphHandle,
-) -> u64 {
+) -> u64
+    ensures made { IsMade (Some (wheel_of n n1 directed)) (graph_in made.old) (graph_in made.new)
+        result }
+    ensures refused { (p : Panic) → graph_in made.old ≡ None → accepted_middle n1 ≡ Err p
+        → result ≡ number_of (Answer.Panic p) }
+    ensures left { (result ≡ number_of Answer.Done → ⊥)
+        → made.new.held.value ≡ made.old.held.value }
+    ensures built { graph_in made.old ≡ None → IsListedIn made.new → ⊥ }
+{
     if made.is_open() {
         return Answer::AlreadyOpen.number();
     }
-    made.put_made(alloc, wheel(alloc, n, n1, directed))
+    let graph = wheel(alloc, n, n1, directed);
+    made.put_made(alloc, graph)
 }
