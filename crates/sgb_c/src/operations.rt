@@ -9,7 +9,7 @@ ghost use Rattle.sgb_ops.specs.Gunion.{gunion_of};
 ghost use Rattle.sgb_ops.specs.Intersection.{intersection_of};
 ghost use Rattle.sgb_ops.specs.Lines.{line_graph_of};
 ghost use Rattle.sgb_ops.specs.Product.{product_graph_of};
-ghost use Rattle.sgb_ops.specs.Wheel.{accepted_middle, wheel_of};
+ghost use Rattle.sgb_ops.specs.Wheel.{accepted_rim, wheel_of};
 ghost use Rattle.sgb_c.specs.Answers.{number_of};
 ghost use Rattle.sgb_c.specs.Handles.{IsListedIn, graph_in};
 ghost use Rattle.sgb_c.specs.Made.{IsMade, of_both};
@@ -239,7 +239,8 @@ pub extern "C" fn sgb_wheel(
 ) -> u64
     ensures made { IsMade (Some (wheel_of n n1 directed)) (graph_in made.old) (graph_in made.new)
         result }
-    ensures refused { (p : Panic) → graph_in made.old ≡ None → accepted_middle n1 ≡ Err p
+    ensures refused { (p : Panic) → graph_in made.old ≡ None
+        → accepted_rim n n1 directed ≡ Err p
         → result ≡ number_of (Answer.Panic p) }
     ensures left { (result ≡ number_of Answer.Done → ⊥)
         → made.new.held.value ≡ made.old.held.value }
