@@ -1,7 +1,7 @@
 -- What calls answer that make a graph.
-use Rattle.std.proofs.Common.{◌≡◌, ◌∙◌, ℕ, true, false, Option, None, Some, is_some, Result, Ok, Err, refl, ap, subst, inl, inr, arith}
+use Rattle.std.proofs.Common.{◌≡◌, ◌∙◌, ℕ, [], true, false, Option, None, Some, is_some, Result, Ok, Err, refl, ap, subst, inl, inr, arith}
 use Rattle.std.specs.Prelude.{IsSomeAnd}
-use Rattle.std.specs.Option.{option_map}
+use Rattle.std.specs.Option.{option_map, option_map_or}
 use Rattle.sgb_vec.specs.declared.panics.Panic.{Panic}
 use Rattle.sgb_vec.specs.declared.panics.Panic.TheVariants.{NoRoom}
 use Rattle.sgb_graph.specs.Graphs.{GraphData}
@@ -14,6 +14,7 @@ use Rattle.sgb_c.specs.Answers.{answer_of_unmade, number_of}
 use Rattle.sgb_c.specs.Made.{IsGiven, IsMade, of_both}
 use Rattle.sgb_c.specs.inner.Operations.{IsPut}
 use Rattle.sgb_c.specs.declared.answers.Answer.TheVariants as answer
+use Rattle.sgb_c.specs.declared.entry_lists.EntryList.{EntryList}
 use Rattle.sgb_c.specs.declared.held.Held.{Held}
 
 -- the graph that is held
@@ -72,7 +73,7 @@ pub open_holds : (old : Option Held) → is_some old ≡ true → option_map gra
 open_holds None e none = absurd (grind (arith, e))
 open_holds (Some h) e none = absurd (grind (arith, none))
 
-some_same : {T : Type 0} (x y : T) → Some x ≡ Some y → x ≡ y
+pub some_same : {T : Type 0} (x y : T) → Some x ≡ Some y → x ≡ y
 some_same x y e = grind (arith, e)
 
 of_none : (d : GraphData → GraphData → Result Description Panic) (first : Option Held) → of_both d (option_map graph_of first) None ≡ None
@@ -124,3 +125,8 @@ pub given_refused : (fault : Option Unmade) (told : GraphData) (old : Option Hel
     → IsGiven fault told (option_map graph_of old) (option_map graph_of old) number
 given_refused fault told (Some h) number why e is said = absurd (grind (arith, e))
 given_refused fault told None number why e is said = inr ((why, said, is), refl)
+
+-- the entries of a list that was taken out of its handle
+pub entries_taken : {B : Type 0} (list : B → EntryList) (taken : Option B) → option_map_or (λ b. (list b).entries.items) taken [] ≡ option_map_or (λ l. l.entries.items) (option_map list taken) []
+entries_taken list None = refl
+entries_taken list (Some b) = refl

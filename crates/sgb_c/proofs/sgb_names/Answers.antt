@@ -1,7 +1,7 @@
 use Rattle.std.proofs.Common.{◌≡◌, ◌+◌, length, sym}
 use Rattle.std.specs.Prelude.{Option, IsSomeAnd}
 use Rattle.sgb_graph.specs.Graphs.{GraphData}
-use Rattle.sgb_arrays.specs.OpenGraphs.{IsListed, graph_open}
+use Rattle.sgb_arrays.specs.OpenGraphs.{IsListed}
 use Rattle.sgb_arrays.specs.Runs.{AreNames, HaveNameLengths, IsFillRefusal, IsThere}
 use Rattle.sgb_arrays.specs.declared.refusals.Wrong.{Wrong}
 use Rattle.sgb_c.specs.declared.held.Held.{Held}
