@@ -14,6 +14,8 @@ import shutil
 import subprocess
 import sys
 
+from from_outside.runs import SECONDS
+
 TOP = os.path.dirname(os.path.dirname(os.path.dirname(os.path.abspath(__file__))))
 WARNINGS = ["-std=c11", "-O1", "-Wall", "-Wextra", "-Werror"]
 WRAPPED = ["-DCOUNTED", "-Wl,--wrap=malloc,--wrap=realloc,--wrap=free"]
@@ -114,7 +116,7 @@ def compiled(runs, tally, link, name, more=()):
     return path if got.returncode == 0 else None
 
 
-def ran(*words, given=b"", more=None, seconds=120):
+def ran(*words, given=b"", more=None, seconds=2 * SECONDS):
     # a make that this one runs in has no orders for those that are run here
     environment = {name: value for name, value in os.environ.items() if not name.startswith("MAKE")}
     environment.update(more or {})
