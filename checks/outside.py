@@ -20,15 +20,15 @@ import tempfile
 import time
 
 from from_outside import (
-    answers, c_library, c_many, c_operations, c_scripts, conformance, digits, documents, files, great_listings, inputs, levels, memory,
-    outputs, part_scripts, random_requests, scripts, transcripts,
+    answers, c_library, c_many, c_operations, c_scripts, conformance, counts, digits, documents, files, great_listings, inputs, levels,
+    memory, outputs, part_scripts, random_requests, scripts, transcripts,
 )
 from from_outside import graphbase
 from from_outside.runs import PROGRAM, DidNotEnd, Runs, Tally
 
 
 def all_checks():
-    for row in (answers, transcripts, levels, digits, documents, inputs, files, outputs, memory, great_listings, random_requests):
+    for row in (answers, transcripts, levels, digits, documents, inputs, files, outputs, memory, counts, great_listings, random_requests):
         yield from row.all_checks()
     yield from conformance.all_checks(documents.document, documents.Shell)
     for row in (scripts, part_scripts, c_scripts):

@@ -1,5 +1,5 @@
 -- Records as they are kept: how many, each by its place, one more.
-use Rattle.std.proofs.Common.{◌≡◌, ◌<◌, ◌+◌, ℕ, suc, List, [], ◌∷◌, ◌++◌, length, get_or, slice_get, Some, refl, ap, ◌∙◌, arith, append_assoc}
+use Rattle.std.proofs.Common.{◌≡◌, ◌<◌, ◌+◌, ℕ, zero, suc, List, [], ◌∷◌, ◌++◌, length, get_or, option_map, slice_get, Some, refl, ap, ◌∙◌, arith, append_assoc}
 use Rattle.std.proofs.lemmas.List.{length_push}
 use Rattle.sgb_graph.specs.inner.Columns.{HoldsMany, column_kind, values}
 use Rattle.sgb_graph.specs.inner.KeptRecords.{KeptRecords, kept_number, kept_records, records_with}
@@ -34,6 +34,16 @@ slice_get-records_with [] xs ys k p x y l hp hx hy = absurd (omega arith)
 slice_get-records_with (q ∷ qs) (u ∷ us) (v ∷ vs) (suc k) p x y l hp hx hy =
     slice_get-records_with qs us vs k p x y (omega arith) hp hx hy
 slice_get-records_with (q ∷ qs) _ _ _ p x y l hp hx hy = cc
+
+-- what a record has beside its utility fields, by its place
+pub lead-records_with :
+    (ps : List PlainRecord) (xs ys : List Util) (k : ℕ) (p : PlainRecord) → length xs ≡ length ps → length ys ≡ length ps → k < length ps → p ≡ get_or ps k p →
+    (option_map (λ r. r.tip) (slice_get (records_with ps xs ys) k) ≡ Some p.tip)
+    × (option_map (λ r. r.next) (slice_get (records_with ps xs ys) k) ≡ Some (kept_number p.next))
+    × (option_map (λ r. r.len) (slice_get (records_with ps xs ys) k) ≡ Some p.len)
+lead-records_with (q ∷ qs) (u ∷ us) (v ∷ vs) (suc k) p hx hy l hp = lead-records_with qs us vs k p (omega arith) (omega arith) (omega arith) hp
+lead-records_with (q ∷ qs) (u ∷ us) (v ∷ vs) zero p hx hy l hp = (cc, cc, cc)
+lead-records_with _ _ _ k p hx hy l hp = absurd (omega arith)
 
 -- one record more
 pub records_with-push :

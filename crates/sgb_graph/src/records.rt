@@ -1,5 +1,5 @@
 //! The arc records of a graph, in little memory: 24 bytes for one without utility fields.
-ghost use Rattle.std.specs.Prelude.{◌≡◌, ◌<◌, ◌+◌, ◌++◌, ◌^◌, ◌&&◌, ℕ, [], ◌∷◌, length, slice_get, Some, IfSome, OnOk, OnErr};
+ghost use Rattle.std.specs.Prelude.{◌≡◌, ◌<◌, ◌+◌, ◌++◌, ◌^◌, ◌&&◌, ℕ, [], ◌∷◌, length, option_map, slice_get, Some, IfSome, OnOk, OnErr};
 ghost use Rattle.sgb_graph.specs.Columns.{arc_seen};
 ghost use Rattle.sgb_graph.specs.Sound.{util_fits};
 ghost use Rattle.sgb_graph.specs.inner.Columns.{column_kind, util_kind, values};
@@ -111,6 +111,18 @@ impl Records {
             a: self.a.get(k),
             b: self.b.get(k),
         }
+    }
+
+    // Where record k leads, the next one, and its length, without the utility fields. k is below the number of records.
+    #[inline(always)]
+    pub(crate) fn lead(&self, k: usize) -> (Ref, Option<usize>, i64)
+        requires { k < length self.now.items }
+        ensures tip { option_map (λ r. r.tip) (slice_get self.now.items k) ≡ Some result.0 }
+        ensures next { option_map (λ r. r.next) (slice_get self.now.items k) ≡ Some result.1 }
+        ensures len { option_map (λ r. r.len) (slice_get self.now.items k) ≡ Some result.2 }
+    {
+        let plain = self.plain[k];
+        (plain.tip, read_number(plain.next), plain.len)
     }
 
     // Whether the fields of each record fit n vertices and as many records as there are.

@@ -66,13 +66,13 @@ fn link_and_next(records: &Records, number: usize) -> (Link, Option<usize>)
         ∷ links_of records.now.items result.1 }
     ensures ends { IsTrue (ends_of records.now.items result.1) }
 {
-    let record = records.get(number);
+    let (tip, next, len) = records.lead(number);
     let link = Link {
         number,
-        tip: vertex_of(record.tip),
-        len: record.len,
+        tip: vertex_of(tip),
+        len,
     };
-    (link, record.next)
+    (link, next)
 }
 
 // The vertex of a tip; an arc on a list has one.
