@@ -16,7 +16,7 @@ use Rattle.sgb_ops.specs.Intersection.{count_to, least_to, common_count, common_
 use Rattle.sgb_ops.specs.Lengths.{least_of}
 use Rattle.sgb_graph.specs.Vertices.{order_of}
 use Rattle.sgb_ops.specs.Taken.{taken}
-use Rattle.sgb_ops.specs.inner.Tallies.{tally_of, tally_to, without_one, second_length, event_left}
+use Rattle.sgb_ops.specs.inner.Tallies.{tally_left, tally_of, tally_to, without_one, second_length, event_left}
 use Rattle.sgb_ops.specs.declared.tallies.Tally.{Tally}
 use Rattle.sgb_ops.specs.inner.Intersection.{common_event}
 use Rattle.std.specs.Int.{int_max}
@@ -28,15 +28,6 @@ use Rattle.sgb_ops.proofs.TallyLemmas.{arcs_to, count_more, count_at, tip_counte
 abbrev pub commons_after : Bool → ℕ → List Link → List Link → List Link → List Link → List Event
 commons_after multi v gs hs before [] = []
 commons_after multi v gs hs before (l ∷ links) = common_event multi v gs hs before l ++ commons_after multi v gs hs (before ++ l ∷ []) links
-
--- how many of the arcs are left when so many were met
-abbrev pub count_left : Bool → ℕ → ℕ → ℕ
-count_left true count met = count - met
-count_left false count met = if met == 0 then count else 0
-
-abbrev pub tally_left : Bool → ℕ → Option Tally → Option Tally
-tally_left multi met None = None
-tally_left multi met (Some t) = Some (record t { count = count_left multi t.count met })
 
 -- what is left of the arcs of gs to u after these of hs
 abbrev pub left_after : Bool → ℕ → List Link → List Link → Option Tally

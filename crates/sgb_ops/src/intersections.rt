@@ -5,18 +5,21 @@ ghost use Rattle.sgb_graph.specs.Descriptions.{IsAnswerOf};
 ghost use Rattle.sgb_ops.specs.inner.Ends.{AllWithin};
 ghost use Rattle.sgb_ops.specs.Intersection.{common_events, intersection_events, intersection_of};
 ghost use Rattle.sgb_ops.specs.Taken.{taken};
-ghost use Rattle.sgb_ops.specs.inner.Tallies.{event_left, one_less, second_length, without_one};
+ghost use Rattle.sgb_ops.specs.inner.Tallies.{event_left, one_less, second_length, tally_left, without_one};
 ghost use Rattle.sgb_ops.specs.inner.Compounds.{intersection_id};
 
 use crate::compounds::flag_byte;
 use crate::events::{Event, graph_of};
 use crate::operands::names_of;
 use crate::taken::taken;
-use crate::tallies::{Tally, tallies};
+use crate::tallies::{Tally, count_to, tallies, tally_to};
 use indexmap::IndexMap;
 use sgb_graph::{Graph, Id, Link, double_compound_id};
 use sgb_vec::Panic;
 use std::alloc::Global;
+
+// Of so many arcs at most those to one tip are searched for one by one: with more, a table is quicker.
+const MOST_SEARCHED: usize = 16;
 
 /// The intersection of two graphs (GB_BASIC, intersection): the graph of the names of `first` whose arcs, or edges
 /// unless `directed`, are those that both have. Vertex v of the one is vertex v of the other. Of parallel ones there is
@@ -62,31 +65,75 @@ fn common_arcs(
     ensures memory { IsOkUnless result Panic.NoRoom }
 {
     let mut events = Vec::new(alloc);
+    // The arcs of each vertex take the memory of those of the vertex before.
+    let mut ours = Vec::new(alloc);
+    let mut theirs = Vec::new(alloc);
     for v in 0..first.n().min(second.n()) {
         first.read_ahead(v);
         second.read_ahead(v);
-        let ours = taken_arcs(alloc, first, directed, v)?;
-        let theirs = taken_arcs(alloc, second, directed, v)?;
+        take_arcs(&mut ours, first, directed, v)?;
+        take_arcs(&mut theirs, second, directed, v)?;
         push_common(&mut events, alloc, multi, v, &ours, &theirs)?;
     }
     Ok(events)
 }
 
-// The arcs taken of vertex `v`.
-fn taken_arcs(alloc: Global, graph: &Graph, directed: bool, v: u32) -> Result<Vec<Link>, Panic>
+// Makes `arcs` those that are taken of vertex `v`.
+fn take_arcs(arcs: &mut Vec<Link>, graph: &Graph, directed: bool, v: u32) -> Result<(), Panic>
     requires { v < length graph.now.vertices }
-    ensures ok { IfOk result (λ arcs. arcs.items ≡ taken directed graph.now v) }
+    ensures ok { OnOk result (arcs.new.items ≡ taken directed graph.now v) }
     ensures memory { IsOkUnless result Panic.NoRoom }
 {
-    let mut arcs = Vec::new(alloc);
+    arcs.clear();
     for link in taken(graph, directed, v) {
         arcs.push(link)?;
     }
-    Ok(arcs)
+    Ok(())
 }
 
 // Appends the events of vertex `v`, where these arcs were taken of it in the two graphs.
 fn push_common(
+    events: &mut Vec<Event>,
+    alloc: Global,
+    multi: bool,
+    v: u32,
+    ours: &[Link],
+    theirs: &[Link],
+) -> Result<(), Panic>
+    ensures ok { OnOk result (events.new.items ≡ events.old.items
+        ++ common_events multi v ours.now theirs.now) }
+    ensures memory { IsOkUnless result Panic.NoRoom }
+{
+    if ours.len() <= MOST_SEARCHED && theirs.len() <= MOST_SEARCHED {
+        return push_common_of_few(events, multi, v, ours, theirs);
+    }
+    push_common_of_many(events, alloc, multi, v, ours, theirs)
+}
+
+// Appends these events of few arcs: those to the same tip are searched for, arc by arc.
+fn push_common_of_few(
+    events: &mut Vec<Event>,
+    multi: bool,
+    v: u32,
+    ours: &[Link],
+    theirs: &[Link],
+) -> Result<(), Panic>
+    ensures ok { OnOk result (events.new.items ≡ events.old.items
+        ++ common_events multi v ours.now theirs.now) }
+    ensures memory { IsOkUnless result Panic.NoRoom }
+{
+    for k in 0..theirs.len() {
+        let arc = theirs[k];
+        let met = count_to(&theirs[..k], arc.tip);
+        let left = tally_left(multi, met, tally_to(ours, arc.tip));
+        let len = second_length(multi, arc, tally_to(theirs, arc.tip));
+        push_event_left(events, v, arc.tip, len, left)?;
+    }
+    Ok(())
+}
+
+// Appends these events of any arcs, by a table of tips for each graph.
+fn push_common_of_many(
     events: &mut Vec<Event>,
     alloc: Global,
     multi: bool,
@@ -118,6 +165,42 @@ fn second_length(multi: bool, arc: Link, tally: Option<Tally>) -> i64
         None => arc.len,
         Some(tally) => tally.least,
     }
+}
+
+// Appends the event for an arc of the second graph of this tip and length, where this is left of the arcs of the first to it.
+fn push_event_left(
+    events: &mut Vec<Event>,
+    v: u32,
+    tip: u32,
+    len: i64,
+    left: Option<Tally>,
+) -> Result<(), Panic>
+    ensures ok { OnOk result (events.new.items ≡ events.old.items ++ event_left v tip len left) }
+    ensures memory { IsOkUnless result Panic.NoRoom }
+{
+    let Some(tally) = left else {
+        return Ok(());
+    };
+    if tally.count == 0 {
+        return Ok(());
+    }
+    events.push(Event::new(v, tip, tally.least.max(len)))?;
+    Ok(())
+}
+
+// What is left of this tally when so many arcs to its vertex were met; with none, unless parallel arcs are wanted.
+fn tally_left(multi: bool, met: usize, tally: Option<Tally>) -> Option<Tally>
+    ensures { result ≡ tally_left multi met tally }
+{
+    let tally = tally?;
+    let count = if multi {
+        tally.count.saturating_sub(met)
+    } else if met == 0 {
+        tally.count
+    } else {
+        0
+    };
+    Some(Tally { count, ..tally })
 }
 
 // Appends the event for this arc of the second graph, where arcs of the first to its tip are left, and counts that one

@@ -2,6 +2,7 @@
 ghost use Rattle.std.specs.Prelude.{◌≡◌, ◌<◌, ◌+◌, ◌^◌, ℕ, nat_eq, IfOk, IsOkUnless};
 ghost use Rattle.std.specs.Option.{option_map_or};
 ghost use Rattle.indexmap.specs.IndexMap.{get};
+ghost use Rattle.sgb_ops.specs.Intersection.{count_to};
 ghost use Rattle.sgb_ops.specs.inner.Tallies.{one_more, tally_to};
 // For the search alone.
 ghost use Rattle.std.specs.Prelude.{Some};
@@ -31,6 +32,30 @@ pub(crate) fn tallies(alloc: Global, arcs: &[Link]) -> Result<IndexMap<u32, Tall
         tallies.insert(arc.tip, tally)?;
     }
     Ok(tallies)
+}
+
+/// How many of the arcs lead to vertex `u`.
+pub(crate) fn count_to(arcs: &[Link], u: u32) -> usize
+    ensures { result ≡ count_to u arcs.now }
+{
+    let mut count = 0;
+    for arc in arcs {
+        count += usize::from(arc.tip == u);
+    }
+    count
+}
+
+/// The tally of the arcs that lead to vertex `u`.
+pub(crate) fn tally_to(arcs: &[Link], u: u32) -> Option<Tally>
+    ensures { result ≡ tally_to u arcs.now }
+{
+    let mut tally = None;
+    for arc in arcs {
+        if arc.tip == u {
+            tally = Some(with_one_more(tally, *arc));
+        }
+    }
+    tally
 }
 
 // The tally with one arc more.

@@ -28,6 +28,15 @@ abbrev pub without_one : Bool → Option Tally → Option Tally
 without_one multi None = None
 without_one multi (Some t) = Some (one_less multi t)
 
+-- how many of the arcs are left when so many were met
+abbrev pub count_left : Bool → ℕ → ℕ → ℕ
+count_left true count met = count - met
+count_left false count met = if met == 0 then count else 0
+
+abbrev pub tally_left : Bool → ℕ → Option Tally → Option Tally
+tally_left multi met None = None
+tally_left multi met (Some t) = Some (record t { count = count_left multi t.count met })
+
 -- the length of a common arc, by that of the second graph's and the least one there
 abbrev pub second_length : Bool → ℤ → Option Tally → ℤ
 second_length true far theirs = far

@@ -7,7 +7,7 @@ use Rattle.sgb_ops.specs.inner.Intersection.{common_event}
 use Rattle.sgb_ops.proofs.CommonEvents.{commons_after, commons_at_places, left_after, left_at_first, left_more, event_there}
 use Rattle.sgb_ops.proofs.PlainLists.{part_more}
 use Rattle.sgb_ops.proofs.TallyLemmas.{no_arc}
-use Rattle.sgb_ops.proofs.intersections.push_common.Goals as goal
+use Rattle.sgb_ops.proofs.intersections.push_common_of_many.Goals as goal
 
 pub loop-arc-init : goal.loop-arc-init
 loop-arc-init c =

@@ -1,6 +1,6 @@
 use Rattle.std.proofs.Common.{◌≡◌, ◌++◌}
 use Rattle.sgb_ops.specs.Taken.{taken}
-use Rattle.sgb_ops.proofs.intersections.taken_arcs.Given as goal
+use Rattle.sgb_ops.proofs.intersections.take_arcs.Given as goal
 
 -- with the arcs that are to come, they are all
 abbrev pub invariant-loop-link : goal.invariant-loop-link
