@@ -1,4 +1,3 @@
-use Rattle.std.proofs.Common.{arith}
 use Rattle.sgb_graph.proofs.AddingArcs.{arc_keeps, arc_put}
 use Rattle.sgb_graph.proofs.laws.new_arc_law.Goals as goal
 

@@ -1,4 +1,4 @@
-use Rattle.std.proofs.Common.{refl, arith}
+use Rattle.std.proofs.Common.{refl}
 use Rattle.sgb_graph.proofs.AddingEdges.{edge_keeps, edge_put}
 use Rattle.sgb_graph.proofs.laws.new_edge_law.Goals as goal
 

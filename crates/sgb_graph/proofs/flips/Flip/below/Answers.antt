@@ -1,4 +1,4 @@
-use Rattle.std.proofs.Common.{rules, arith}
+use Rattle.std.proofs.Common.{rules}
 use Rattle.sgb_graph.specs.Draws.{IsAtDraw, bound_below}
 use Rattle.sgb_graph.specs.Flips.{FlipData}
 use Rattle.sgb_graph.proofs.Standing.{thrown_none, thrown_more, uniform_taken}

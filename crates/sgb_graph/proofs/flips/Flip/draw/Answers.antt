@@ -1,4 +1,4 @@
-use Rattle.std.proofs.Common.{sym, subst, arith}
+use Rattle.std.proofs.Common.{sym, subst}
 use Rattle.sgb_graph.specs.Draws.{IsAtDraw}
 use Rattle.sgb_graph.specs.Flips.{FlipData}
 use Rattle.sgb_graph.proofs.Standing.{hands_out_draw, result_below}

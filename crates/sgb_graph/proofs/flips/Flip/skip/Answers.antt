@@ -1,4 +1,4 @@
-use Rattle.std.proofs.Common.{sym, subst, arith, rules}
+use Rattle.std.proofs.Common.{sym, subst}
 use Rattle.sgb_graph.specs.Draws.{IsAtDraw}
 use Rattle.sgb_graph.specs.Flips.{FlipData}
 use Rattle.sgb_graph.proofs.Standing.{skips_inside, skips_over}

@@ -1,4 +1,3 @@
-use Rattle.std.proofs.Common.{arith}
 use Rattle.sgb_graph.proofs.AddingEdges.{edge_keeps, edge_kept}
 use Rattle.sgb_graph.proofs.Growing.{lists_end, parts_of}
 use Rattle.sgb_graph.proofs.KeptGraphs.{edge_made, plain_kinds}

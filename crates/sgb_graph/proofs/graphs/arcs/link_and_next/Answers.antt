@@ -1,4 +1,4 @@
-use Rattle.std.proofs.Common.{rules, arith}
+use Rattle.std.proofs.Common.{rules}
 use Rattle.std.proofs.lemmas.Option.{slice_get_within}
 use Rattle.sgb_graph.proofs.Chains.{step_of}
 use Rattle.sgb_graph.proofs.KeptGraphs.{step_to}

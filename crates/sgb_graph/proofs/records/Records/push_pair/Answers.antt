@@ -1,8 +1,5 @@
-use Rattle.std.proofs.Common.{List, ◌∷◌, [], ◌++◌, ap, ◌∙◌, rules, w64, arith}
+use Rattle.std.proofs.Common.{w64, arith}
 use Rattle.std.proofs.lemmas.Int.{to_z-of_z}
-use Rattle.sgb_graph.specs.Graphs.{arc_record}
-use Rattle.sgb_graph.specs.inner.KeptRecords.{KeptRecords, kept_records}
-use Rattle.sgb_graph.specs.declared.records.PlainRecord.{PlainRecord}
 use Rattle.sgb_graph.proofs.KeptRecords.{kept_records-push_pair, record_with-is}
 use Rattle.sgb_graph.proofs.records.Records.push_pair.Goals as goal
 

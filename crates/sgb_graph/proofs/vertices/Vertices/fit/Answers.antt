@@ -1,4 +1,4 @@
-use Rattle.std.proofs.Common.{◌∙◌, arith}
+use Rattle.std.proofs.Common.{◌∙◌}
 use Rattle.sgb_graph.proofs.FitColumns.{vertices_fit_by}
 use Rattle.sgb_graph.proofs.vertices.Vertices.fit.Goals as goal
 

@@ -1,8 +1,6 @@
-use Rattle.std.proofs.Common.{◌≡◌, true, List, length, sym, ◌∙◌, ap, arith, rules}
-use Rattle.std.specs.List.{list_all, range_with_len}
+use Rattle.std.proofs.Common.{◌≡◌, true, sym, ◌∙◌, ap, arith}
 use Rattle.sgb_graph.specs.Graphs.{GraphData}
-use Rattle.sgb_graph.specs.inner.Walks.{leads_back, chains_end}
-use Rattle.sgb_graph.specs.declared.fields.ArcRec.{ArcRec}
+use Rattle.sgb_graph.specs.inner.Walks.{chains_end}
 use Rattle.sgb_graph.proofs.BackwardWays.{back_is_sound}
 use Rattle.sgb_graph.proofs.CheckedParts.{lists_end}
 use Rattle.sgb_graph.proofs.parts.kept.KeptParts.are_sound.Goals as goal
