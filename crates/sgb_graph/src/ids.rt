@@ -6,11 +6,9 @@ ghost use Rattle.sgb_graph.specs.Ids.{most_id_bytes, IsId};
 mod compounds;
 mod hexadecimals;
 
-use arrayvec::ArrayVec;
 pub use compounds::{compound_id, double_compound_id};
 use hexadecimals::{MOST_HEXADECIMAL_DIGITS, put_hexadecimal_digits};
-use itoa::Buffer;
-use sgb_vec::{Panic, is_text_byte};
+use sgb_vec::{Filled, Panic, is_text_byte};
 use std::marker::Model;
 
 // An id has at most this many bytes.
@@ -20,7 +18,7 @@ const MOST_BYTES: usize = 160;
 /// id field). A value of fixed size, which contracts see as the list of its bytes.
 #[derive(Drop)]
 pub struct Id {
-    bytes: ArrayVec<u8, MOST_BYTES>,
+    text: Filled<MOST_BYTES>,
 }
 
 impl Model for Id {
@@ -29,9 +27,9 @@ impl Model for Id {
 
     ghost Value = { List ℕ };
 
-    ghost view = { λ id. id.bytes.items };
+    ghost view = { λ id. id.text };
 
-    ghost invariant = { λ id. IsId id.bytes.items };
+    ghost invariant = { λ id. IsId id.text };
 }
 
 impl Id {
@@ -44,14 +42,12 @@ impl Id {
         ensures refused { IsErrOf result Panic.Syntax ↔ ¬ IsId bytes.now }
         ensures err { IsOkUnless result Panic.Syntax }
     {
-        if !bytes.iter().all(|byte| is_text_byte(*byte)) {
+        if bytes.len() > MOST_BYTES || !bytes.iter().all(|byte| is_text_byte(*byte)) {
             return Err(Panic::Syntax);
         }
-        let mut id = ArrayVec::new();
-        match id.try_extend_from_slice(bytes) {
-            Ok(()) => Ok(Id { bytes: id }),
-            Err(_) => Err(Panic::Syntax),
-        }
+        let mut text = Filled::new();
+        text.push_text(bytes);
+        Ok(Id { text })
     }
 
     /// The bytes of the id.
@@ -59,7 +55,7 @@ impl Id {
         ensures value { result.now ≡ self.now }
         ensures id { IsId self.now }
     {
-        self.bytes.as_slice()
+        self.text.bytes()
     }
 }
 
@@ -67,7 +63,7 @@ impl Id {
 /// Contracts see it as the list of the bytes so far.
 #[derive(Drop)]
 pub struct IdWriter {
-    bytes: ArrayVec<u8, MOST_BYTES>,
+    text: Filled<MOST_BYTES>,
 }
 
 impl Model for IdWriter {
@@ -76,9 +72,9 @@ impl Model for IdWriter {
 
     ghost Value = { List ℕ };
 
-    ghost view = { λ writer. writer.bytes.items };
+    ghost view = { λ writer. writer.text };
 
-    ghost invariant = { λ writer. IsId writer.bytes.items };
+    ghost invariant = { λ writer. IsId writer.text };
 }
 
 impl IdWriter {
@@ -87,7 +83,7 @@ impl IdWriter {
         ensures { result ≡ [] }
     {
         IdWriter {
-            bytes: ArrayVec::new(),
+            text: Filled::new(),
         }
     }
 
@@ -96,7 +92,7 @@ impl IdWriter {
         ensures count { result ≡ length self.now }
         ensures few { result ≤ most_id_bytes }
     {
-        self.bytes.len()
+        self.text.len()
     }
 
     /// Appends a text; it has to have room, and bytes that an id may have.
@@ -105,7 +101,7 @@ impl IdWriter {
         requires text { IsTrue (is_id_text text.now) }
         ensures { self.new ≡ self.old ++ text.now }
     {
-        let _written = self.bytes.try_extend_from_slice(text);
+        self.text.push_text(text);
     }
 
     /// Appends a number in decimal, at most 20 bytes.
@@ -114,10 +110,7 @@ impl IdWriter {
         ensures bytes { self.new ≡ self.old ++ signed_decimal number }
         ensures short { length self.new ≤ length self.old + 20 }
     {
-        let mut digits = Buffer::new();
-        let _written = self
-            .bytes
-            .try_extend_from_slice(digits.format(number).as_bytes());
+        self.text.push_number(number);
     }
 
     /// Appends numbers in decimal, each with a comma after it: at most 21 bytes each.
@@ -160,7 +153,7 @@ impl IdWriter {
     pub fn id(self) -> Id
         ensures { result ≡ self }
     {
-        let IdWriter { bytes } = self;
-        Id { bytes }
+        let IdWriter { text } = self;
+        Id { text }
     }
 }

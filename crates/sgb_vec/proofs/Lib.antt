@@ -21,12 +21,16 @@ pub mod Examples
 pub mod FamilyLaws
 -- members of the families have names
 pub mod FamilyVectors
+-- the decimal of a number of few digits
+pub mod FewDigits
 -- counts above the most vertices, told from the rows of counts
 pub mod GreatCounts
 -- sequences that rise and then fall, and their windows
 pub mod Hills
 -- plain lists, and walks over them
 pub mod Lists
+-- a first part of a word of bytes that is moved
+pub mod MovedWords
 -- the name of a vector read back
 pub mod NameReading
 -- numbers read back from their decimals

@@ -1,12 +1,14 @@
 -- Numbers read back from their decimals.
-use Rattle.std.proofs.Common.{◌≡◌, ℕ, zero, suc, ◌^◌, ◌<◌, ◌≤◌, ◌⊎◌, true, false, cond, List, [], ◌∷◌, length, take, decimal, refl, arith, rules}
+use native.Mathlib.Nat.{pow-le-pow_right}
+use Rattle.std.proofs.Common.{lt_of_lt_of_le, ◌≡◌, ℕ, zero, suc, ◌^◌, ◌<◌, ◌≤◌, ◌⊎◌, true, false, cond, List, [], ◌∷◌, length, take, Some, decimal, refl, arith, rules}
 use Rattle.std.specs.Char.{digit_value, is_digit}
 use Rattle.std.specs.Str.Parse.{AllDigits, digits_value}
 use Rattle.std.proofs.lemmas.Bool.{cases_lt, lt-ltb, le-ltb}
 use Rattle.std.proofs.lemmas.Fmt.{decimal_is_IsNumeral, length-decimal-le}
 use Rattle.std.proofs.lemmas.Int.Digits.{digits_value-lt}
+use Rattle.std.proofs.lemmas.List.{drop_all}
 use Rattle.std.proofs.lemmas.List.Sums.{take_while-cons}
-use Rattle.sgb_vec.specs.Digits.{leading_digits}
+use Rattle.sgb_vec.specs.Digits.{leading_digits, leading_number}
 
 -- some digits in the radix, so many at most
 pub record AreDigits (radix most : ℕ) (digits : List ℕ) : Type 0 where
@@ -33,18 +35,14 @@ leading_of_digits radix zero (byte ∷ digits) are = absurd (omega (arith, are.s
 leading_of_digits radix (suc most) [] are = refl
 leading_of_digits radix (suc most) (byte ∷ digits) are = grind (arith, first_byte, leading_of_digits radix most digits (record { all = are.all.1; short = omega (arith, are.short) }))
 
--- ten digits at most write a number below 2 ^ 128
-pub ten_digits_fit : (digits : List ℕ) → AreDigits 10 10 digits → digits_value 10 digits < 2 ^ 128
-ten_digits_fit digits are = search (rules, digits_value-lt)
+-- digits write a number below a power of the radix
+pub digits_are_below : (radix most : ℕ) (digits : List ℕ) → 0 < radix → AreDigits radix most digits → digits_value radix digits < radix ^ most
+digits_are_below radix most digits some are = lt_of_lt_of_le (digits_value-lt radix digits are.all) (pow-le-pow_right some are.short)
 
--- of a number below 2 ^ 32: its decimal is digits, and reads as the number
-pub record IsReadBack (entry : ℕ) : Type 0 where
-  pub leading : leading_digits 10 10 (decimal entry) ≡ decimal entry
-  pub some : 0 < length (decimal entry)
-  pub value : digits_value 10 (decimal entry) ≡ entry
-
-pub decimal_is_read_back : (entry : ℕ) → entry < 2 ^ 32 → IsReadBack entry
+-- the decimal of a number below 2 ^ 32 reads as the number
+pub decimal_is_read_back : (entry : ℕ) → entry < 2 ^ 32 → leading_number 10 10 (decimal entry) ≡ Some (entry, [])
 decimal_is_read_back entry h =
     let numeral = decimal_is_IsNumeral entry (omega arith) in
     let short : length (decimal entry) ≤ 10 = length-decimal-le 10 entry (omega arith) (omega arith) (omega arith) in
-    search (rules, leading_of_digits)
+    let all = leading_of_digits 10 10 (decimal entry) (record { all = numeral.0.1; short = short }) in
+    search (rules, all, drop_all)

@@ -9,6 +9,8 @@ mod digits;
 mod entries;
 // What a family of vectors is.
 mod families;
+// Texts put together in place.
+mod filled;
 // What holds of all families and names.
 mod laws;
 // Limits that several subjects share.
@@ -29,8 +31,9 @@ mod texts;
 mod vectors;
 
 pub use boxes::BoxFamily;
-pub use digits::{digits_value, leading_digits};
+pub use digits::{digits_value, leading_digits, leading_number};
 pub use families::{Family, Vector};
+pub use filled::Filled;
 pub use laws::{boxes_are_families, names_read_back, sums_are_families};
 pub use limits::MOST_VERTICES;
 pub use named::vector_of;

@@ -3,7 +3,7 @@ ghost use Rattle.std.specs.Prelude.{◌≡◌, ◌≢◌, ◌<◌, ◌^◌, ℕ,
 ghost use Rattle.sgb_vec.specs.NamedVectors.{IsVector};
 ghost use Rattle.sgb_vec.specs.Names.{name_of_vector};
 
-use crate::digits::{digits_value, leading_digits};
+use crate::digits::leading_number;
 use crate::families::Vector;
 use itoa::Buffer;
 
@@ -34,11 +34,8 @@ fn entry_of(text: &[u8]) -> Option<u32>
     ensures some { IfSome result (λ entry. decimal entry ≡ text.now) }
     ensures none { IfNone result ((entry : ℕ) → entry < 2 ^ 32 → decimal entry ≢ text.now) }
 {
-    let digits = leading_digits(text, 10, 10);
-    if digits.is_empty() {
-        return None;
-    }
-    let Ok(entry) = u32::try_from(digits_value(digits, 10)) else {
+    let (number, _rest) = leading_number(text, 10, 10)?;
+    let Ok(entry) = u32::try_from(number) else {
         return None;
     };
     let mut buffer = Buffer::new();
