@@ -5,3 +5,4 @@ pub mod Draws
 pub mod Ids
 pub mod Made
 pub mod Rings
+pub mod Texts
