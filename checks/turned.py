@@ -53,12 +53,18 @@ WANTED = 95
 # turns that change nothing, or what no example can tell: the definition, a turn as -v prints it, and the reason
 ALIKE = {
     ("sgb_vec.Sizes.zero_after_stop", "zero_after_stop 2: reversed"): "each of its entries is 0",
+    ("sgb_graph.Graphs.link_of", "link_of 1: reversed"): "it has one entry or none",
+    ("sgb_graph.Growth.with_edge", "with_edge 1: u and v exchanged after after_lower"): "an edge has no direction",
+    ("sgb_graph.Growth.with_event", "with_event 2: e.from and e.to exchanged after with_edge"): "an edge has no direction",
+    ("sgb_graph.Events.HasArcsOf", "lists 4: ≤ for < in `(v : ℕ) → v < length g.vertices → cha`"): "past the last vertex both lists are empty",
 }
 
 # definitions of which some turn is seen by no example, with the reason
 LISTED = {
     "sgb_vec.Sums.has_great_count": "more than 1,000,000,000 vectors are not to be listed, so no example says yes",
     "sgb_vec.Sums.sum_of": "as has_great_count, which it asks",
+    "sgb_graph.Parts.checked": "1,000,000,000 vertices are not to be listed",
+    "sgb_graph.Sound.IsGraph": "1,000,000,000 vertices are not to be listed",
 }
 
 USE = re.compile(r"^(?:pub |ghost )?use Rattle\.([\w.]+)\.\{([^}]*)\}\s*$", re.M)
@@ -211,9 +217,11 @@ class Universe:
 
 
 def is_short(body):
-    """A list of one entry or none, which reversed is the same."""
+    """A list of one entry or none, or of equal ones, which reversed is the same."""
     tokens = tokens_of(body)
-    end = group_end(tokens, 0)
+    end = group_end(tokens, 1 if body.startswith("record {") else 0)
+    if re.match(r"replicate |codes \"(?:\\.|[^\"\\])?\"$", body):
+        return True
     return body == "[]" or end is not None and [word for word, _, _ in tokens[end:]] == ["∷", "[", "]"]
 
 
@@ -428,7 +436,7 @@ class Turner:
                     yield turned(say(f"{other} for {word}"), first, last, other, [f"◌{other}◌"])
                 if word in EXCHANGED:
                     a, b = left_of(tokens, i, LEVEL[word]), right_of(tokens, i, LEVEL[word])
-                    if a < i and b > i + 1:
+                    if a < i and b > i + 1 and not (word == "++" and self.is_measured(tokens, a)):
                         left, right = body[tokens[a][1]:tokens[i - 1][2]], body[tokens[i + 1][1]:tokens[b - 1][2]]
                         new = f"{self.wrapped(right)} {word} {self.wrapped(left)}"
                         if shown(left) != shown(right):
@@ -463,6 +471,11 @@ class Turner:
                         yield from self.exchanged(body, tokens, i, k + 1, turned)
             if word == "[" and i + 1 < len(tokens):
                 yield from self.arms(body, tokens, i, turned)
+
+    @staticmethod
+    def is_measured(tokens, i):
+        """A text whose length alone is asked: its parts may stand in any order."""
+        return i > 1 and tokens[i - 1][0] == "(" and tokens[i - 2][0] == "length"
 
     @staticmethod
     def wrapped(text):
@@ -588,11 +601,11 @@ def copies(universe, chunk, text, needs, number):
     affected = universe.above(chunk)
     examples = {c for c in affected if is_example(c)}
     copied = universe.below(examples, affected) | {chunk}
-    # what is not public, or stands in a file of proofs beside what is copied, is copied too
+    # what is not public, and what else of the examples they cite, is copied too
     work = list(copied)
     while work:
         for other in universe.cites[work.pop()]:
-            if other not in copied and (not other.public):
+            if other not in copied and (not other.public or ".proofs.Examples" in other.module):
                 copied.add(other)
                 work.append(other)
     by_module = collections.defaultdict(list)

@@ -40,12 +40,12 @@ id_too_long is = let many : 161 ≤ 160 = is.short in absurd (omega (arith, many
 
 -- two vertices: there is none at place 2
 abbrev two : GraphData
-two = new_graph (codes "a" ∷ codes "b" ∷ [])
+two = new_graph (codes "an" ∷ codes "b" ∷ [])
 
-pub vertices : (order_of two ≡ 2) × (places_of two ≡ 0 ∷ 1 ∷ []) × (names_of two ≡ codes "a" ∷ codes "b" ∷ [])
+pub vertices : (order_of two ≡ 2) × (places_of two ≡ 0 ∷ 1 ∷ []) × (names_of two ≡ codes "an" ∷ codes "b" ∷ [])
 vertices = (refl, refl, refl)
 
-pub names_at : map (name_at two) (0 ∷ 1 ∷ 2 ∷ []) ≡ codes "a" ∷ codes "b" ∷ [] ∷ []
+pub names_at : map (name_at two) (0 ∷ 1 ∷ 2 ∷ []) ≡ codes "an" ∷ codes "b" ∷ [] ∷ []
 names_at = refl
 
 pub values_seen : map util_seen (NothingSeen ∷ IntSeen (pos 7) ∷ VertexSeen (At 1) ∷ ChainSeen (Some 2) ∷ [])
