@@ -4,4 +4,6 @@ pub mod Checked
 pub mod Draws
 pub mod Ids
 pub mod Made
+pub mod Relations
 pub mod Rings
+pub mod Texts

@@ -17,6 +17,8 @@ pub mod BoxSuccessors
 pub mod Convolutions
 -- worked examples of the definitions
 pub mod Examples
+-- worked examples of relations, and of codes and bytes
+pub mod ExamplesRelations
 -- the vectors of the families rise, and are of one length
 pub mod FamilyLaws
 -- members of the families have names
