@@ -40,8 +40,7 @@ names_answer names resume = result_map_both (name_lines names) (λ f. f) (left_o
 -- what stands before the blocks: nothing where the listing is resumed
 abbrev pub head_for : Resume → List ℕ → List ℕ
 head_for resume.Whole text = text
-head_for (resume.Skip k) text = []
-head_for (resume.After name) text = []
+head_for _ text = []
 
 -- the answer of a command `list`, of a graph
 abbrev pub list_answer : GraphData → Resume → Result (List ℕ) Fault
@@ -70,8 +69,7 @@ abbrev pub reads_input : Request → Bool
 reads_input (request.Names e resume) = has_stdin (expression_of e)
 reads_input (request.List e resume) = has_stdin (expression_of e)
 reads_input (request.Save e) = has_stdin (expression_of e)
-reads_input request.Queen = false
-reads_input (request.Flip p) = false
+reads_input _ = false
 
 -- the output of a request where `stdin` has this value, or the fault that refuses it (`queen` has no `stdin`, and any value would do)
 abbrev pub answer_of : Request → Result GraphData Panic → Result (List ℕ) Fault

@@ -1,6 +1,8 @@
 -- What only the private contracts and the proofs of sgb speak of.
 -- generators whose answers take no memory
 pub mod Certain
+-- the numbers that a flip draws
+pub mod FlipAnswers
 -- names of vectors that are kept
 pub mod KeptNames
 -- blocks of a generator's graph

@@ -17,9 +17,9 @@ use Rattle.sgb_graph.specs.declared.fields.Vertex.{Vertex}
 use Rattle.sgb_graph.proofs.AddingArcs.{chain_of_vertex}
 use Rattle.sgb_graph.proofs.Growing.{lists_end, parts_of}
 use Rattle.sgb_graph.proofs.Tips.{tips_below}
-use Rattle.sgb_levels.specs.Distances.{AreDistances, HasArc, IsDistanceIfAny, IsPath, IsWalk, end_of, tips_from}
+use Rattle.sgb_levels.specs.Distances.{AreDistances, HasArc, IsDistanceIfAny, IsPath, IsWalk, end_of}
 use Rattle.sgb_levels.specs.inner.Marks.{all_marked, marked, marks}
-use Rattle.sgb_levels.specs.inner.Searches.{IsFoundAt, IsSearched, unmarked}
+use Rattle.sgb_levels.specs.inner.Searches.{IsFoundAt, IsSearched, tips_from, unmarked}
 use Rattle.sgb_levels.proofs.Marking.{Marking, marking-all}
 
 -- a path, and an arc from its end

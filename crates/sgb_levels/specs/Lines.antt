@@ -17,17 +17,13 @@ distance_text None = 45 ∷ []
 unfoldable pub line_of_level : List ℕ → Option ℕ → List ℕ
 line_of_level name distance = name ++ ((32 ∷ []) ++ (distance_text distance ++ (10 ∷ [])))
 
--- the line of vertex v
-abbrev pub level_line : List (List ℕ) → List (Option ℕ) → ℕ → List ℕ
-level_line names distances v = line_of_level (slice_index_or names v []) (slice_index_or distances v None)
-
 -- the lines of the vertices from vertex k on
 unfoldable pub level_lines : List (List ℕ) → List (Option ℕ) → ℕ → List ℕ
-level_lines names distances k = flat_map (level_line names distances) (range_with_len k (length names - k))
+level_lines names distances k =
+    flat_map (λ v. line_of_level (slice_index_or names v []) (slice_index_or distances v None)) (range_with_len k (length names - k))
 
 -- what the program answers where the graph is this one, or why it is refused: the lines of the distances from vertex 0
 abbrev pub IsLevelsAnswer : Result GraphData Panic → Result (List ℕ) Fault → Type 0
 IsLevelsAnswer (Ok g) (Ok text) = (distances : List (Option ℕ)) × AreDistances g 0 distances × (text ≡ level_lines (names_of g) distances 0)
-IsLevelsAnswer (Ok g) (Err f) = ⊥
-IsLevelsAnswer (Err p) (Ok text) = ⊥
 IsLevelsAnswer (Err p) (Err f) = f ≡ fault.Panic p
+IsLevelsAnswer _ _ = ⊥

@@ -23,13 +23,9 @@ AskFor words read = read ≡ Err fault.Usage
 abbrev pub AskForNoStdin : List (List ℕ) → Type 0
 AskForNoStdin words = (e : Expr) → AskFor words (Ok e) → has_stdin (expression_of e) ≡ false
 
--- the usage line
-unfoldable pub levels_usage_line : List ℕ
-levels_usage_line = codes "usage: sgb_levels EXPR\n"
-
 -- the line of a refusal: of its own for an invalid command line, else that of `sgb`
-abbrev pub refusal_line : Fault → List ℕ
-refusal_line fault.Usage = levels_usage_line
+unfoldable pub refusal_line : Fault → List ℕ
+refusal_line fault.Usage = codes "usage: sgb_levels EXPR\n"
 refusal_line f = fault_line f
 
 -- only this refusal of the words was reported

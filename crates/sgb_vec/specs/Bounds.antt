@@ -10,8 +10,7 @@ use Rattle.sgb_vec.specs.declared.panics.Panic.TheVariants.{Bad, VeryBad}
 -- n0 as the official name has it: -2 in the place of 0
 abbrev pub first_parameter : ℤ → ℤ
 first_parameter (pos zero) = negsuc 1
-first_parameter (pos (suc b)) = pos (suc b)
-first_parameter (negsuc d) = negsuc d
+first_parameter n = n
 
 -- the bounds that are repeated: those before the stop, or n alone where none stands there
 abbrev pub bounds_to_repeat : ℕ → List ℕ → List ℕ
