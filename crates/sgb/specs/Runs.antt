@@ -34,8 +34,7 @@ pub record IsStopped {S : Type 0} (by : Fault) (answer : Outcome) (l : Left S) :
 -- answer was given, or the run was stopped when memory ran out.
 abbrev pub IsRunOf : {S : Type 0} → Outcome → Left S → Type 0
 IsRunOf answer l = MatchBool l.out.told.failed
-    (IsStopped fault.Write answer l)
-    (IsGiven answer l ⊎ IsStopped (fault.Panic NoRoom) answer l)
+    (IsStopped fault.Write answer l) (IsGiven answer l ⊎ IsStopped (fault.Panic NoRoom) answer l)
 
 -- only a refusal was reported: the output sink is untouched, standard error took this line or failed, and this is the status
 pub record IsReportedAs {S : Type 0} (text : List ℕ) (code : ℕ) (l : Left S) : Type 0 where
@@ -51,8 +50,7 @@ IsReported f l = IsReportedAs (fault_line f) (status_of f) l
 -- is refused the output sink is as it was, also out of memory
 abbrev pub IsRunFrom : {S : Type 0} → Bool → Result (List ℕ) Fault → Left S → Type 0
 IsRunFrom failed answer l = MatchBool failed
-    (IsReported fault.Read l)
-    (IsRunOf (outcome_of answer) l × IfErr answer (λ f. l.out.new ≡ l.out.old))
+    (IsReported fault.Read l) (IsRunOf (outcome_of answer) l × IfErr answer (λ f. l.out.new ≡ l.out.old))
 
 -- the bytes that standard input tells before a run, and whether it has failed afterwards
 pub record Input : Type 0 where
@@ -78,5 +76,4 @@ IsAnswerRun reads answers source l =
 
 -- a program that reads no input has answered in full where the output sink is sound: so for each answer on no bytes
 abbrev pub IsAnswerGiven : {S : Type 0} → (List ℕ → Result (List ℕ) Fault → Type 0) → Left S → Type 0
-IsAnswerGiven answers l =
-    l.out.told.failed ≡ false → (a : Result (List ℕ) Fault) → answers [] a → IsGiven (outcome_of a) l
+IsAnswerGiven answers l = l.out.told.failed ≡ false → (a : Result (List ℕ) Fault) → answers [] a → IsGiven (outcome_of a) l

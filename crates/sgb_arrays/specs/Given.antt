@@ -1,5 +1,5 @@
 -- The graph that arrays tell: names, and arcs or edges in an order.
-use Rattle.std.specs.Prelude.{◌≡◌, ◌-◌, ◌==◌, ◌&&◌, ℕ, ℤ, pos, Bool, false, not, nat_lt, nat_le, List, [], ◌∷◌, length, map, Option, Some, None, get_or, slice_index, if◌then◌else◌}
+use Rattle.std.specs.Prelude.{◌≡◌, ◌-◌, ◌==◌, ◌&&◌, ℕ, ℤ, pos, Bool, false, not, nat_lt, nat_le, List, [], ◌∷◌, length, map, Option, Some, None, unwrap_or, get_or, slice_index, if◌then◌else◌}
 use Rattle.std.specs.List.{list_all, range_with_len}
 use Rattle.sgb_vec.specs.Limits.{most_bytes, most_vertices}
 use Rattle.sgb_vec.specs.Names.{is_text_byte}
@@ -42,8 +42,7 @@ is_text_of most bytes = nat_le (length bytes) most && list_all is_text_byte byte
 -- what is wrong first with arrays of which a graph is to be made, if anything is: the names have no table, or there are not as
 -- many ends, at each side, as lengths; then there are too many names; then an end is no vertex; then a text is none
 abbrev pub fault_of : (starts bytes from to : List ℕ) (lengths : List ℤ) (id : List ℕ) → Option Unmade
-fault_of starts bytes from to lengths id =
-    let n = length starts - 1 in
+fault_of starts bytes from to lengths id = let n = length starts - 1 in
     if not (is_table (length bytes) starts && (length from == length lengths) && (length to == length lengths)) then Some unmade.Length
     else (if nat_lt most_vertices n then Some unmade.TooMany
     else (if not (list_all (λ u. nat_lt u n) from && list_all (λ u. nat_lt u n) to) then Some unmade.Vertices
@@ -52,5 +51,4 @@ fault_of starts bytes from to lengths id =
 
 -- why no graph is made: what is wrong; or, where nothing is, out of memory
 abbrev pub IsUnmade : Option Unmade → Unmade → Type 0
-IsUnmade (Some fault) why = why ≡ fault
-IsUnmade None why = why ≡ unmade.NoRoom
+IsUnmade fault why = why ≡ unwrap_or fault unmade.NoRoom

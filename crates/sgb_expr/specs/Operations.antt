@@ -21,8 +21,7 @@ AreOperands Inner make =
     Then Inner (λ first. After (codes ",") (Then Inner (λ second.
     As (λ numbers. Expression.OfGraphs (make numbers) first second) (AreArguments (codes ",") 2))))
 
--- entries with commas between them, in brackets: each is an integer or an expression, where Inner tells the texts of the
--- expressions inside
+-- entries with commas between them, in brackets: each is an integer, or an expression, whose texts Inner tells
 abbrev pub IsEntryList : (List ℕ → Expression → Type 0) → List ℕ → List Entry → Type 0
 IsEntryList Inner text entries =
     After (codes "[") (AreSeparated (Or (As Entry.Number IsInteger) (As Entry.Graph Inner)) [] (length entries) (codes "]")) text entries

@@ -55,8 +55,7 @@ vertex_of _ = 0
 
 -- the arc of the record of this number
 abbrev pub link_of : List ArcRec → ℕ → List Link
-link_of records k =
-    option_map_or (λ r. record { number = k; tip = vertex_of r.tip; len = r.len } ∷ []) (slice_get records k) []
+link_of records k = option_map_or (λ r. record { number = k; tip = vertex_of r.tip; len = r.len } ∷ []) (slice_get records k) []
 
 -- the arcs from a first record on
 abbrev pub links_of : List ArcRec → Option ℕ → List Link

@@ -70,6 +70,7 @@ pub fn run_levels<R: Source, W: Sink, E: Sink>(
 }
 
 // Reports why the words are refused, and returns the exit status.
+#[tactic(auto, unfolding(crate::specs::Program::refusal_line))]
 fn report_refusal<E: Sink>(fault: &Fault, errors: &mut E) -> u8
     ensures line { AppendsUnlessFailed (change E.written E.has_failed errors.old errors.new)
         (refusal_line fault.now) }

@@ -36,6 +36,5 @@ simplex_by_stop n entries s e =
 -- negative n first, then too many dimensions, then n above 1,000,000,000
 abbrev pub simplex_of : ℤ → ℤ → ℤ → ℤ → ℤ → ℤ → Result Normalized Panic
 simplex_of (negsuc n) n0 n1 n2 n3 n4 = Err Bad
-simplex_of (pos n) n0 n1 n2 n3 n4 =
-    let entries = first_parameter n0 ∷ n1 ∷ n2 ∷ n3 ∷ n4 ∷ [] in
+simplex_of (pos n) n0 n1 n2 n3 n4 = let entries = first_parameter n0 ∷ n1 ∷ n2 ∷ n3 ∷ n4 ∷ [] in
     simplex_by_stop n entries (bounds_to_repeat n (before_stop entries)) (stop_of entries)

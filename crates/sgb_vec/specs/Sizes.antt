@@ -41,8 +41,7 @@ pub record Normalized : Type 0 where
 -- entry stands there, GraphBase's default, 8 by 8
 abbrev pub board_by_stop : List ℤ → List ℕ → ℤ → Result Normalized Panic
 board_by_stop entries [] e = Ok (record { params = pos 8 ∷ pos 8 ∷ pos 0 ∷ pos 0 ∷ []; sizes = 8 ∷ 8 ∷ [] })
-board_by_stop entries (n ∷ s) e =
-    let sizes = repeated (n ∷ s) (count_by_stop 0 (n ∷ s) e) in
+board_by_stop entries (n ∷ s) e = let sizes = repeated (n ∷ s) (count_by_stop 0 (n ∷ s) e) in
     if nat_lt most_dimensions (count_by_stop 0 (n ∷ s) e) then Err Bad
     else (if list_any (λ m. nat_lt most_entry m) sizes then Err VeryBad
     else Ok (record { params = zero_after_stop entries; sizes = sizes }))
@@ -50,6 +49,5 @@ board_by_stop entries (n ∷ s) e =
 -- the parameters n1, n2, n3, n4 of a board normalised, with its sizes; or why they are refused:
 -- too many dimensions first, then a size above 4,294,967,295
 abbrev pub board_of : ℤ → ℤ → ℤ → ℤ → Result Normalized Panic
-board_of n1 n2 n3 n4 =
-    let entries = n1 ∷ n2 ∷ n3 ∷ n4 ∷ [] in
+board_of n1 n2 n3 n4 = let entries = n1 ∷ n2 ∷ n3 ∷ n4 ∷ [] in
     board_by_stop entries (before_stop entries) (stop_of entries)
