@@ -21,13 +21,13 @@ use Rattle.sgb_requests.specs.declared.requests.Request.{Request}
 use Rattle.sgb_requests.specs.declared.requests.Resume.{Resume}
 use Rattle.sgb_gen.specs.Generators.{IsGeneratorRefused}
 use Rattle.sgb_values.specs.FirstRefusals.{IsRefusedFirst}
-use Rattle.sgb.specs.Certain.{BeginsNowhere, IsCertain, IsPast, IsRefusedAtOnce, NeedsNoMemory}
+use Rattle.sgb.specs.Certain.{BeginsNowhere, IsBoard, IsCertain, IsPast, IsRefusedAtOnce, NeedsNoMemory}
 use Rattle.sgb.specs.Outcomes.{answer_of, left_out, outcome_of, reads_input}
 use Rattle.sgb.specs.Runs.{IsGiven, Left}
 use Rattle.sgb_gen.specs.Generators.{IsLocalOf}
 use Rattle.sgb_gen.specs.Generators.{described, generator_value, made}
 use Rattle.sgb_gen.specs.declared.locals.Local.{Local}
-use Rattle.sgb.specs.inner.Certain.{HasListingAtOnce, HasNamesAtOnce, IsBoard}
+use Rattle.sgb.specs.inner.Certain.{HasListingAtOnce, HasNamesAtOnce}
 use Rattle.sgb.specs.Writing.{Effect, IsEndedFrom}
 use Rattle.sgb.proofs.Endings.{no_line, nothing_put}
 use Rattle.sgb_values.proofs.FirstRefusals.{first_other, generator_other}

@@ -27,6 +27,10 @@ pub record IsRefusedAtOnce (e : Expression) : Type 0 where
   pub code : Panic
   pub refused : (input : List ℕ) → IsRefusedFirst input e code
 
+-- an expression is a board
+abbrev pub IsBoard : Expr → Type 0
+IsBoard e = (p : BoardParams) × (e ≡ expr.Generator (generator.Board p))
+
 -- an answer is to begin after a name that none of these is, or is resumed after all of them
 abbrev pub IsPast : List (List ℕ) → Resume → Type 0
 IsPast names resume =
@@ -41,12 +45,13 @@ BeginsNowhere e resume = (p : BoardParams) × (e ≡ expr.Generator (generator.B
 -- answering the request takes no memory: random numbers, the names of a board, what is refused at once, and the listing of a
 -- board that is to begin after a name that no vertex has, or after the last vertex
 abbrev pub NeedsNoMemory : Request → Type 0
-NeedsNoMemory (request.Names e resume) = ((p : BoardParams) × (e ≡ expr.Generator (generator.Board p))) ⊎ IsRefusedAtOnce (expression_of e)
+NeedsNoMemory (request.Names e resume) = IsBoard e ⊎ IsRefusedAtOnce (expression_of e)
 NeedsNoMemory (request.List e resume) = BeginsNowhere e resume ⊎ IsRefusedAtOnce (expression_of e)
 NeedsNoMemory (request.Save e) = IsRefusedAtOnce (expression_of e)
 NeedsNoMemory request.Queen = ⊥
 NeedsNoMemory (request.Flip p) = Unit {0}
 
--- a request whose answer takes no memory was answered in full, by its output or its refusal, where the output sink is sound
+-- a request whose answer takes no memory was answered in full where the output sink is sound: with its output, or with the line
+-- and the status of its refusal
 abbrev pub IsCertain : {S : Type 0} → Request → Left S → Type 0
 IsCertain r l = NeedsNoMemory r → l.out.told.failed ≡ false → (stdin : Result GraphData Panic) → IsGiven (outcome_of (answer_of r stdin)) l

@@ -23,15 +23,11 @@ use Rattle.sgb_requests.specs.declared.requests.Request.TheVariants as request
 use Rattle.sgb_requests.specs.declared.requests.Resume.{Resume}
 use Rattle.sgb_requests.specs.declared.requests.Resume.TheVariants as resume
 
--- the first vertex of this name
-abbrev pub vertex_named : List ℕ → List (List ℕ) → Option ℕ
-vertex_named name names = position (λ other. pointwise nat_eq other name) names
-
 -- how many first vertices of these names are left out: those up to the first one of a name, which has to be there
 abbrev pub left_out : List (List ℕ) → Resume → Result ℕ Fault
 left_out names resume.Whole = Ok 0
 left_out names (resume.Skip k) = Ok k
-left_out names (resume.After name) = ok_or (option_map suc (vertex_named name names)) fault.NoVertex
+left_out names (resume.After name) = ok_or (option_map suc (position (λ other. pointwise nat_eq other name) names)) fault.NoVertex
 
 -- the answer of a command `names`, of names
 abbrev pub names_answer : List (List ℕ) → Resume → Result (List ℕ) Fault

@@ -7,6 +7,8 @@ pub mod FlipAnswers
 pub mod KeptNames
 -- blocks of a generator's graph
 pub mod Locals
+-- the vertex of a name
+pub mod Named
 -- texts of small numbers
 pub mod Numerals
 -- pages of output, and what was put of them

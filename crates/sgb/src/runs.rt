@@ -8,8 +8,8 @@ ghost use Rattle.sgb_vec.specs.declared.panics.Panic.TheVariants.{Early, NoRoom}
 ghost use Rattle.sgb_expr.specs.Expression.{expression_of};
 ghost use Rattle.sgb_file.specs.Saving.{text_of_graph};
 ghost use Rattle.sgb_graph.specs.Vertices.{names_of};
-ghost use Rattle.sgb.specs.Certain.{BeginsNowhere, IsCertain, IsRefusedAtOnce, NeedsNoMemory};
-ghost use Rattle.sgb.specs.inner.Certain.{HasListingAtOnce, HasNamesAtOnce, IsBoard};
+ghost use Rattle.sgb.specs.Certain.{BeginsNowhere, IsBoard, IsCertain, IsRefusedAtOnce, NeedsNoMemory};
+ghost use Rattle.sgb.specs.inner.Certain.{HasListingAtOnce, HasNamesAtOnce};
 ghost use Rattle.sgb.specs.Outcomes.{IsAnswered, answer_from, list_answer, names_answer, queen_moves, queen_title, reads_input};
 ghost use Rattle.sgb.specs.Inputs.{LosesAtMost};
 ghost use Rattle.sgb.specs.Runs.{IsRunOn};

@@ -1,14 +1,12 @@
 -- The coordinates in the utility fields of the vertices, vertex by vertex.
 use Rattle.std.proofs.Common.{◌≡◌, ℕ, zero, suc, ◌+◌, ◌<◌, pos, List, [], ◌∷◌, ◌++◌, length, map, take, drop, subst, add-one, slice_index, Some, refl, sym, ap, ◌∙◌, arith, append_assoc}
 use Rattle.std.specs.List.{slice_get}
-use Rattle.std.specs.Prelude.{slice_set}
 use Rattle.std.proofs.lemmas.List.{length-map, map-append, length-take-le}
 use Rattle.std.proofs.lemmas.Option.{slice_get_within}
 use Rattle.sgb_graph.specs.Graphs.{GraphData, chain_of}
-use Rattle.sgb_graph.specs.Growth.{at_place, with_ints, some_numbers, put_numbers}
+use Rattle.sgb_graph.specs.Growth.{at_place, with_ints, with_number_kinds, some_numbers, put_numbers}
 use Rattle.sgb_graph.specs.Made.{no_kinds, no_fields}
 use Rattle.sgb_graph.specs.declared.fields.Kind.{Kind}
-use Rattle.sgb_graph.specs.declared.fields.Kind.TheVariants.{I}
 use Rattle.sgb_graph.specs.declared.fields.Util.{Util}
 use Rattle.sgb_graph.specs.declared.fields.Vertex.{Vertex}
 use Rattle.sgb_graph.proofs.Numbers.{ints_firsts}
@@ -24,10 +22,6 @@ at_place-append f (x ∷ xs) y ys (suc k) e = ap (λ zs. x ∷ zs) (at_place-app
 -- the fields of a vertex with 0 for each coordinate
 abbrev zero_fields : List Util
 zero_fields = fields_of_vector []
-
--- the kinds with the fields x, y, z of vertices holding integers
-abbrev with_number_kinds : List Kind → List Kind
-with_number_kinds kinds = slice_set (slice_set (slice_set kinds 3 I) 4 I) 5 I
 
 -- the kinds and fields with the coordinates of the first u vectors
 abbrev kinds_so_far : ℕ → List Kind

@@ -9,8 +9,7 @@ use mir.Val.{SFits, to_z, of_z}
 use Rattle.std.proofs.lemmas.List.{length-map, length_push, length-replicate, length-set, map-append, map-set, get_or-set_other, take_all, take_more, take_more_set}
 use Rattle.std.proofs.lemmas.Option.{get_or_from_slice_get, slice_get-map, slice_get_within}
 use Rattle.sgb_graph.specs.inner.Columns.{HoldsMany, column_kind, values}
-use Rattle.sgb_graph.specs.Growth.{at_place, first_arc, new_vertex, number_or_zero, put_numbers, some_numbers, with_first, with_numbers}
-use Rattle.sgb_graph.specs.inner.Growth.{with_some_numbers}
+use Rattle.sgb_graph.specs.Growth.{at_place, first_arc, new_vertex, number_or_zero, put_numbers, some_numbers, with_first, with_numbers, with_some_numbers}
 use Rattle.sgb_graph.specs.Parts.{vertex_with_ints}
 use Rattle.sgb_graph.specs.inner.KeptRecords.{kept_number}
 use Rattle.sgb_graph.specs.inner.KeptVertices.{AreColumns, AreKept, KeptVertices, HasNumber, HaveValues, HoldNumbers, TakeNumbers, bare_named, bare_vertex, field_columns, field_kinds, ints_inside, kept_items, kept_vertices, number_at, numbers_kind, numbers_values, rows, with_fields, with_row}

@@ -107,16 +107,22 @@ some_numbers fields = at_place number_or_zero 5 (at_place number_or_zero 4 (at_p
 abbrev pub put_numbers : ℤ → ℤ → ℤ → List Util → List Util
 put_numbers x y z fields = slice_set (slice_set (slice_set fields 3 (Int x)) 4 (Int y)) 5 (Int z)
 
+-- the vertex with a number in each of its fields x, y, z
+abbrev pub with_some_numbers : Vertex → Vertex
+with_some_numbers v = record v { util = some_numbers v.util }
+
 -- the vertex with these numbers in its fields x, y, z
 abbrev pub with_numbers : ℤ → ℤ → ℤ → Vertex → Vertex
 with_numbers x y z v = record v { util = put_numbers x y z v.util }
 
+-- the kinds with the fields x, y, z of vertices holding integers
+abbrev pub with_number_kinds : List Kind → List Kind
+with_number_kinds kinds = slice_set (slice_set (slice_set kinds 3 I) 4 I) 5 I
+
 -- the graph with these numbers in the fields x, y, z of vertex v, and 0 in those of other vertices that have no number there
 abbrev pub with_ints : GraphData → ℕ → ℤ → ℤ → ℤ → GraphData
-with_ints g v x y z = record g {
-  kinds = slice_set (slice_set (slice_set g.kinds 3 I) 4 I) 5 I;
-  vertices = at_place (with_numbers x y z) v (map (λ (w : Vertex). record w { util = some_numbers w.util }) g.vertices);
-}
+with_ints g v x y z =
+    record g { kinds = with_number_kinds g.kinds; vertices = at_place (with_numbers x y z) v (map with_some_numbers g.vertices) }
 
 -- the graph with this number in its own field uu (of its kinds the one at place 8)
 abbrev pub with_uu : ℤ → GraphData → GraphData

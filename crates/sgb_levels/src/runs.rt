@@ -11,8 +11,8 @@ ghost use Rattle.sgb.specs.Inputs.{LosesAtMost};
 ghost use Rattle.sgb.specs.Program.{unread_fault};
 ghost use Rattle.sgb_values.specs.Values.{most_input};
 ghost use Rattle.sgb.specs.Writing.{IsWritten, effect};
-ghost use Rattle.sgb_levels.specs.Lines.{distance_text, level_lines, line_of_level};
-ghost use Rattle.sgb_levels.specs.inner.Lines.{level_line};
+ghost use Rattle.sgb_levels.specs.Lines.{level_lines, line_of_level};
+ghost use Rattle.sgb_levels.specs.inner.Lines.{distance_text, level_line};
 ghost use Rattle.sgb_levels.specs.Program.{AreLevelsOn, AskFor, AskForNoStdin, IsLevelsRun, IsRefused, refusal_line};
 // For the search alone.
 ghost use Rattle.std.specs.Prelude.{None};

@@ -2,17 +2,12 @@
 use Rattle.std.specs.Prelude.{◌≡◌, ◌⊎◌}
 use Rattle.sgb_vec.specs.declared.panics.Panic.{Panic}
 use Rattle.sgb_gen.specs.declared.params.BoardParams.{BoardParams}
-use Rattle.sgb_expr.specs.declared.expressions.Expr.{Expr}
 use Rattle.sgb_expr.specs.declared.expressions.Expr.TheVariants as expr
 use Rattle.sgb_gen.specs.declared.params.Generator.{Generator}
 use Rattle.sgb_gen.specs.declared.params.Generator.TheVariants as generator
 use Rattle.sgb_requests.specs.declared.requests.Resume.{Resume}
 use Rattle.sgb_gen.specs.Generators.{IsGeneratorRefused}
 use Rattle.sgb.specs.Certain.{BeginsNowhere}
-
--- an expression is a board
-abbrev pub IsBoard : Expr → Type 0
-IsBoard e = (p : BoardParams) × (e ≡ expr.Generator (generator.Board p))
 
 -- a generator is refused by what needs no memory
 abbrev pub IsRefusedGenerator : Generator → Type 0

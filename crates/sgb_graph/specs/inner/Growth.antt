@@ -1,6 +1,6 @@
 -- The id of a new graph, and fields of vertices that hold integers.
 use Rattle.std.specs.Prelude.{◌≡◌, ◌++◌, ◌+◌, ◌==◌, ℕ, min, List, Option, Some, codes, decimal, slice_set, if◌then◌else◌}
-use Rattle.sgb_graph.specs.Growth.{first_arc, some_numbers}
+use Rattle.sgb_graph.specs.Growth.{first_arc}
 use Rattle.sgb_graph.specs.declared.fields.Kind.{Kind}
 use Rattle.sgb_graph.specs.declared.fields.Kind.TheVariants.{I}
 use Rattle.sgb_graph.specs.declared.fields.Vertex.{Vertex}
@@ -12,14 +12,6 @@ new_id n = codes "gb_new_graph(" ++ decimal n ++ codes ")"
 -- what follows the lower record, number k, of a new edge: where it is a loop, the higher one
 abbrev pub after_lower : ℕ → List Vertex → ℕ → ℕ → Option ℕ
 after_lower k vertices u v = if u == v then Some (k + 1) else first_arc vertices (min u v)
-
--- the vertex with a number in each of its fields x, y, z
-abbrev pub with_some_numbers : Vertex → Vertex
-with_some_numbers v = record v { util = some_numbers v.util }
-
--- the kinds with the fields x, y, z of vertices holding integers
-abbrev pub with_number_kinds : List Kind → List Kind
-with_number_kinds kinds = slice_set (slice_set (slice_set kinds 3 I) 4 I) 5 I
 
 -- of vertices with these kinds the fields x, y, z hold integers
 pub record HoldNumbers (kinds : List Kind) : Type 0 where

@@ -3,7 +3,6 @@ use Rattle.std.proofs.lemmas.Int.{to_z-of_z}
 use mir.Syntax.{w64}
 use mir.Val.{SFits}
 use Rattle.sgb_graph.specs.Graphs.{GraphData}
-use Rattle.sgb_graph.specs.inner.Growth.{with_number_kinds, with_some_numbers}
 use Rattle.sgb_graph.proofs.Numbers.{ints_kept, ints_chains, ints_names, ints_fields}
 use Rattle.sgb_graph.proofs.graphs.Graph.set_vertex_ints.Goals as goal
 
@@ -19,10 +18,10 @@ pub returns-clause-data : goal.returns-clause-data
 returns-clause-data c = search (rules, SFits, w64, to_z-of_z)
 
 pub returns-clause-chains : goal.returns-clause-chains
-returns-clause-chains c = search (rules, GraphData, with_number_kinds, with_some_numbers, ints_chains)
+returns-clause-chains c = search (rules, GraphData, ints_chains)
 
 pub returns-clause-names : goal.returns-clause-names
-returns-clause-names c = search (rules, GraphData, with_number_kinds, with_some_numbers, ints_names)
+returns-clause-names c = search (rules, GraphData, ints_names)
 
 pub returns-clause-fields : goal.returns-clause-fields
-returns-clause-fields c = search (rules, SFits, w64, to_z-of_z, GraphData, with_number_kinds, with_some_numbers, ints_fields)
+returns-clause-fields c = search (rules, SFits, w64, to_z-of_z, GraphData, ints_fields)

@@ -1,6 +1,5 @@
 use Rattle.std.proofs.Common.{rules, sym, arith}
-use Rattle.sgb_graph.specs.Growth.{at_place, with_numbers}
-use Rattle.sgb_graph.specs.inner.Growth.{with_some_numbers}
+use Rattle.sgb_graph.specs.Growth.{at_place, with_numbers, with_some_numbers}
 use Rattle.sgb_graph.specs.inner.KeptVertices.{KeptVertices}
 use Rattle.sgb_graph.proofs.KeptVertices.{written_in_words, length-kept}
 use Rattle.sgb_graph.proofs.vertices.Vertices.put_numbers.Goals as goal
