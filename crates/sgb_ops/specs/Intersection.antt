@@ -23,8 +23,7 @@ count_to u links = count_by (λ l. l.tip == u) links
 abbrev pub least_to : ℕ → List Link → ℤ
 least_to u links = least_of (map (λ l. l.len) (filter (λ l. l.tip == u) links))
 
--- how many arcs to u the result has, where the operands have gs and hs: as many as the one that has fewer;
--- but at most one, unless parallel ones are wanted
+-- how many arcs to u the result has of gs and hs: as many as the one that has fewer; one at most unless parallel ones are wanted
 abbrev pub common_count : Bool → ℕ → List Link → List Link → ℕ
 common_count true u gs hs = min (count_to u gs) (count_to u hs)
 common_count false u gs hs = min 1 (min (count_to u gs) (count_to u hs))

@@ -46,8 +46,7 @@ board_by_stop entries (n ∷ s) e = let sizes = repeated (n ∷ s) (count_by_sto
     else (if list_any (λ m. nat_lt most_entry m) sizes then Err VeryBad
     else Ok (record { params = zero_after_stop entries; sizes = sizes }))
 
--- the parameters n1, n2, n3, n4 of a board normalised, with its sizes; or why they are refused:
--- too many dimensions first, then a size above 4,294,967,295
+-- a board's parameters normalised, with its sizes; or why they are refused: too many dimensions; then a size above 4,294,967,295
 abbrev pub board_of : ℤ → ℤ → ℤ → ℤ → Result Normalized Panic
 board_of n1 n2 n3 n4 = let entries = n1 ∷ n2 ∷ n3 ∷ n4 ∷ [] in
     board_by_stop entries (before_stop entries) (stop_of entries)

@@ -19,7 +19,8 @@ pub struct Arcs<'a> {
 
 impl<'a> Model for Arcs<'a> {
     ghost use Rattle.std.specs.Prelude.{List, IsTrue};
-    ghost use Rattle.sgb_graph.specs.Graphs.{ends_of, links_of};
+    ghost use Rattle.sgb_graph.specs.Graphs.{ends_of};
+    ghost use Rattle.sgb_graph.specs.inner.Chains.{links_of};
     ghost use Rattle.sgb_graph.specs.declared.fields.Link.{Link};
 
     ghost Value = { List Link };
