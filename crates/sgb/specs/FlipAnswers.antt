@@ -22,8 +22,7 @@ number_within greatest (negsuc n) = Err Bad
 
 -- the draws that a flip asks for, where skip and count are from 0 to 1,000,000,000 and m is from 0 to 2^31
 abbrev pub accepted_draws : FlipParams → Result Draws Panic
-accepted_draws p =
-    and_then (number_within most_draws p.skip) (λ skip.
+accepted_draws p = and_then (number_within most_draws p.skip) (λ skip.
     and_then (number_within most_draws p.count) (λ count.
     and_then (number_within modulus p.m) (λ m.
     Ok (record { start = p.start; skip = skip; count = count; m = m }))))

@@ -60,8 +60,7 @@ pub record Input : Type 0 where
 -- a run that answers this request leaves this: standard input holds a text, the one that it tells, on which the request is
 -- answered (one that does not read it is answered alike on every text: input_unread_law)
 abbrev pub IsRunOn : {S : Type 0} → Request → Input → Left S → Type 0
-IsRunOn r source l =
-    (held : List ℕ) × IfSome source.bytes (λ bytes. held ≡ bytes)
+IsRunOn r source l = (held : List ℕ) × IfSome source.bytes (λ bytes. held ≡ bytes)
     × (answer : Result (List ℕ) Fault) × IsAnswered r held answer × IsRunFrom (reads_input r && source.failed) answer l
 
 -- of standard input these bytes count for an answer: those that are kept, or none where it reads none
@@ -70,8 +69,7 @@ AreUsed reads told used = (reads ≡ true → IsKeptOfInput told used) × (reads
 
 -- a program that answers leaves this: for each answer on the bytes that count it was answered so
 abbrev pub IsAnswerRun : {S : Type 0} → Bool → (List ℕ → Result (List ℕ) Fault → Type 0) → Input → Left S → Type 0
-IsAnswerRun reads answers source l =
-    (used : List ℕ) × AreUsed reads source.bytes used
+IsAnswerRun reads answers source l = (used : List ℕ) × AreUsed reads source.bytes used
     × ((a : Result (List ℕ) Fault) → answers used a → IsRunFrom (reads && source.failed) a l)
 
 -- a program that reads no input has answered in full where the output sink is sound: so for each answer on no bytes

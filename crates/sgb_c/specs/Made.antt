@@ -33,8 +33,7 @@ IsMade (Some value) None new number =
 -- graph is open, which stays.
 abbrev pub IsGiven : Option Unmade → GraphData → (old new : Option GraphData) → ℕ → Type 0
 IsGiven fault g (Some h) new number = (number ≡ number_of answer.AlreadyOpen) × (new ≡ Some h)
-IsGiven fault g None new number =
-    ((number ≡ number_of answer.Done) × (fault ≡ None) × (new ≡ Some g))
+IsGiven fault g None new number = ((number ≡ number_of answer.Done) × (fault ≡ None) × (new ≡ Some g))
     ⊎ (((why : Unmade) × (number ≡ number_of (answer_of_unmade why)) × IsUnmade fault why) × (new ≡ None))
 
 -- the entries of a list
@@ -43,8 +42,7 @@ entries_in handle = option_map_or (λ l. l.entries.items) handle.held.value []
 
 -- Adding an entry answers this number: it is done, and it stands after the others; or memory ran out, and they are as before.
 abbrev pub IsAdded : Entry → (old new : List Entry) → ℕ → Type 0
-IsAdded one old new number =
-    ((number ≡ number_of answer.Done) × (new ≡ old ++ one ∷ []))
+IsAdded one old new number = ((number ≡ number_of answer.Done) × (new ≡ old ++ one ∷ []))
     ⊎ ((number ≡ number_of (answer.Panic NoRoom)) × (new ≡ old))
 
 -- Adding the graph of a handle does so, where one is open: the entry is that graph; else the answer is that none is.

@@ -53,8 +53,7 @@ AreArguments separator n = AreSeparated IsInteger separator n (codes ")")
 abbrev pub IsGeneratorCall : GeneratorName → List ℕ → Generator → Type 0
 IsGeneratorCall Board = As (λ numbers. generator.Board (board_params numbers)) (AreArguments [] 7)
 IsGeneratorCall Simplex = As (λ numbers. generator.Simplex (simplex_params numbers)) (AreArguments [] 7)
-IsGeneratorCall Subsets =
-    Then (AreSeparated IsInteger [] 6 (codes ",")) (λ numbers. Then IsBits (λ size_bits.
+IsGeneratorCall Subsets = Then (AreSeparated IsInteger [] 6 (codes ",")) (λ numbers. Then IsBits (λ size_bits.
     As (λ directed. generator.Subsets (subsets_params numbers size_bits (nth_number directed 0))) (AreArguments (codes ",") 1)))
 IsGeneratorCall Complete = As (λ numbers. generator.Board (complete (nth_number numbers 0))) (AreArguments [] 1)
 IsGeneratorCall Transitive = As (λ numbers. generator.Board (transitive (nth_number numbers 0))) (AreArguments [] 1)

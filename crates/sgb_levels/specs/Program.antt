@@ -39,12 +39,10 @@ AreLevelsOn input e answer = (value : Result GraphData Panic) × IsValueOn input
 -- The distances in this expression's graph were written: standard input holds a text, the one that it tells, there is an answer
 -- on it, and it was given, or the run was stopped, as runs of `sgb` are.
 abbrev pub AreLevelsWritten : {S : Type 0} → Expression → Input → Left S → Type 0
-AreLevelsWritten e source l =
-    (held : List ℕ) × IfSome source.bytes (λ bytes. held ≡ bytes)
+AreLevelsWritten e source l = (held : List ℕ) × IfSome source.bytes (λ bytes. held ≡ bytes)
     × (a : Result (List ℕ) Fault) × AreLevelsOn held e a × IsRunFrom (has_stdin e && source.failed) a l
 
 -- what these words ask for was done, or their refusal was reported
 abbrev pub IsLevelsRun : {S : Type 0} → List (List ℕ) → Input → Left S → Type 0
-IsLevelsRun words source l =
-    ((e : Expr) × AskFor words (Ok e) × AreLevelsWritten (expression_of e) source l)
+IsLevelsRun words source l = ((e : Expr) × AskFor words (Ok e) × AreLevelsWritten (expression_of e) source l)
     ⊎ ((f : Fault) × AskFor words (Err f) × IsRefused f l)

@@ -26,8 +26,7 @@ accepted_parts _ _ = Err Bad
 -- bi_complete(n1, n2, directed): the board of two vertices, with n1 copies of the one and n2 of the other, and n1 in the
 -- field uu, whose kind is the ninth of fourteen
 abbrev pub bi_complete_of : ℤ → ℤ → Bool → Result Description Panic
-bi_complete_of n1 n2 directed =
-    and_then (accepted_parts n1 n2) (λ entries.
+bi_complete_of n1 n2 directed = and_then (accepted_parts n1 n2) (λ entries.
     and_then (board (pair_of_vertices directed)) (λ pair.
     and_then (induced_of (graph_described pair) entries false false directed) (λ d.
     Ok (record d {

@@ -37,8 +37,7 @@ is_unnumbered _ = false
 -- the entries for a graph with n vertices, or why they are refused: not one for each vertex; then a merged vertex 0;
 -- then too many vertices in all, those that are merged and those that stand for one vertex alone
 abbrev pub accepted_entries : ℕ → List Entry → Result (List Entry) Panic
-accepted_entries n entries =
-    if not (length entries == n) then Err Bad
+accepted_entries n entries = if not (length entries == n) then Err Bad
     else (if list_any is_unnumbered entries then Err Bad
     else (if nat_lt most_vertices (merged_count entries + sum_by size_of_entry entries) then Err VeryBad else Ok entries))
 
@@ -68,8 +67,7 @@ names_of_copies text _ = []
 
 -- the names of all vertices of the result: first those of the merged ones, -1, -2 and so on; then those of the others
 abbrev pub names_by_entries : List (List ℕ) → List Entry → List (List ℕ)
-names_by_entries names entries =
-    map (λ k. codes "-" ++ decimal k) (range_with_len 1 (merged_count entries))
+names_by_entries names entries = map (λ k. codes "-" ++ decimal k) (range_with_len 1 (merged_count entries))
     ++ flat_map (λ p. names_of_copies p.0 p.1) (zip names entries)
 
 -- the events inside an entry whose first vertex is the one given: of a graph, for each vertex w each arc b taken of w

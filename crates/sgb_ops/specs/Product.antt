@@ -50,8 +50,7 @@ product_events Strong g h directed = single_steps g h directed ++ both_steps g h
 
 -- product(g, h, kind, directed): refused where there are more pairs than a graph can have vertices
 abbrev pub product_graph_of : GraphData → GraphData → ℤ → Bool → Result Description Panic
-product_graph_of g h kind directed =
-    if nat_lt most_vertices (order_of g * order_of h) then Err VeryBad
+product_graph_of g h kind directed = if nat_lt most_vertices (order_of g * order_of h) then Err VeryBad
     else Ok (plain directed (product_events (product_type kind) g h directed)
     (flat_map (λ a. map (λ b. joined_name a (codes ",") b) (names_of h)) (names_of g))
     (double_compound_id (codes "product(") g.id (codes ",") h.id
