@@ -15,8 +15,7 @@ use Rattle.sgb_vec.specs.Boxes.{box}
 use Rattle.sgb_vec.specs.Lexicographic.{IsBelow}
 use Rattle.sgb_vec.proofs.BoxPlaces.{IsBelow-from_Contains}
 use Rattle.sgb_gen.specs.Boards.{BoardData, moves_of_board}
-use Rattle.sgb_gen.specs.Displacements.{signings, vectors_of_norm, displacements}
-use Rattle.sgb_gen.specs.inner.Squares.{sum_of_squares}
+use Rattle.sgb_gen.specs.Displacements.{signings, sum_of_squares, vectors_of_norm, displacements}
 use Rattle.sgb_gen.specs.inner.EntryBounds.{entry_bound, entry_bounds, vectors_within, displacements_within}
 use Rattle.sgb_gen.specs.Moves.{Side, sides_from_bit, sides_of, within_size, coordinate_on, in_front, place, moves_from, board_moves}
 use Rattle.sgb_gen.specs.inner.Moves.{destination, longest_move}

@@ -14,8 +14,7 @@ use Rattle.sgb_vec.specs.Lexicographic.{IsBefore, IsBelow, IsRising}
 use Rattle.sgb_vec.proofs.FamilyLaws.{box_vectors_rise}
 use Rattle.sgb_vec.proofs.BoxPlaces.{Contains-from_IsBelow, IsBelow-from_Contains}
 use Rattle.sgb_gen.specs.Boards.{BoardData, moves_of_board}
-use Rattle.sgb_gen.specs.Displacements.{signings}
-use Rattle.sgb_gen.specs.inner.Squares.{sum_of_squares}
+use Rattle.sgb_gen.specs.Displacements.{signings, sum_of_squares}
 use Rattle.sgb_gen.specs.inner.EntryBounds.{displacements_within, vectors_within}
 use Rattle.sgb_gen.specs.inner.LocalArcs.{arcs_by, arcs_of_moves}
 use Rattle.sgb_gen.specs.inner.LocalBoards.{arcs_onward, move_arc, moves_by}

@@ -4,8 +4,6 @@
 pub mod Laws
 -- what accepted boards keep
 pub mod Boards
--- squares of entries
-pub mod Squares
 -- the displacements within a board's bounds
 pub mod EntryBounds
 -- the displacements after one of them
