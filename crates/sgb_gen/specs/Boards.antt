@@ -27,8 +27,7 @@ piece_of piece = if nat_lt most_piece (nat_abs piece) then Err VeryBad else Ok (
 
 -- the board of these parameters, or why they are refused: too many dimensions, then too many vertices, then a piece too great
 abbrev pub accepted_board : BoardParams → Result BoardData Panic
-accepted_board p =
-    and_then (board_of p.n1 p.n2 p.n3 p.n4) (λ shape.
+accepted_board p = and_then (board_of p.n1 p.n2 p.n3 p.n4) (λ shape.
     and_then (box_of shape.sizes) (λ sizes.
     and_then (piece_of p.piece) (λ piece.
     Ok (record { params = shape.params; sizes = sizes; piece = piece; wrap = p.wrap; directed = p.directed }))))

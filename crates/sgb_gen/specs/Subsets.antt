@@ -20,8 +20,7 @@ pub record SubsetsData : Type 0 where
 
 -- the subsets of these parameters, or why they are refused: as a simplex is
 abbrev pub accepted_subsets : SubsetsParams → Result SubsetsData Panic
-accepted_subsets p =
-    and_then (simplex_of p.n p.n0 p.n1 p.n2 p.n3 p.n4) (λ shape.
+accepted_subsets p = and_then (simplex_of p.n p.n0 p.n1 p.n2 p.n3 p.n4) (λ shape.
     and_then (sum_of p.n shape.sizes) (λ s.
     Ok (record { params = shape.params; sum = s; size_bits = p.size_bits; directed = p.directed })))
 

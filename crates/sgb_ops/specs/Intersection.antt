@@ -48,6 +48,5 @@ intersection_events g h multi directed =
 
 -- intersection(g, h, multi, directed): it is never refused
 abbrev pub intersection_of : GraphData → GraphData → Bool → Bool → Result Description Panic
-intersection_of g h multi directed =
-    Ok (plain directed (intersection_events g h multi directed) (names_of g)
+intersection_of g h multi directed = Ok (plain directed (intersection_events g h multi directed) (names_of g)
     (double_compound_id (codes "intersection(") g.id (codes ",") h.id (closing (flag_text multi ∷ flag_text directed ∷ []))))

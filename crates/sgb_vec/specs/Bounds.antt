@@ -24,8 +24,7 @@ clamped_parameter n (negsuc d) = negsuc d
 
 -- the parameters and bounds, where s is to be repeated before the stop e of the entries: to d + 1 bounds where e is -d
 abbrev pub simplex_by_stop : ℕ → List ℤ → List ℕ → ℤ → Result Normalized Panic
-simplex_by_stop n entries s e =
-    if nat_lt (most_dimensions + 1) (count_by_stop 1 s e) then Err Bad
+simplex_by_stop n entries s e = if nat_lt (most_dimensions + 1) (count_by_stop 1 s e) then Err Bad
     else (if nat_lt most_vertices n then Err VeryBad
     else Ok (record {
       params = pos n ∷ map (clamped_parameter n) (zero_after_stop entries);

@@ -24,6 +24,5 @@ has_great_count n bounds =
 -- a sum whose vectors can be a graph's vertices, or why not: it is negative; then above 1,000,000,000; then too many vectors
 abbrev pub sum_of : ℤ → List ℕ → Result BoundedSum Panic
 sum_of (negsuc n) bounds = Err Bad
-sum_of (pos n) bounds =
-    if nat_lt most_vertices n then Err VeryBad
+sum_of (pos n) bounds = if nat_lt most_vertices n then Err VeryBad
     else (if has_great_count n bounds then Err VeryBad else Ok (record { total = n; bounds = bounds }))
