@@ -5,11 +5,12 @@ use Rattle.sgb_expr.specs.Expression.{Expression, Entry, Entries, Generated, OfN
 abbrev mutual
   -- whether `stdin` stands anywhere in an expression
   pub has_stdin : Expression → Bool
+  has_stdin (Generated f) = false
+  has_stdin (OfNumbers operation) = false
   has_stdin (OfGraph operation graph) = has_stdin graph
   has_stdin (OfGraphs operation first second) = has_stdin first || has_stdin second
   has_stdin (Induced graph entries self_loops multi directed) = has_stdin graph || entries_have_stdin entries
   has_stdin Stdin = true
-  has_stdin _ = false
 
   -- or in an entry
   pub entry_has_stdin : Entry → Bool

@@ -1,12 +1,12 @@
 -- Refusals that come before memory is taken.
-use Rattle.std.proofs.Common.{rules, ◌≡◌, ◌≢◌, ◌∙◌, ℕ, ℤ, List, true, false, length, nat_le, Result, Ok, Err, ap, arith, inl, subst, sym}
+use Rattle.std.proofs.Common.{rules, ◌≡◌, ◌≢◌, ◌∙◌, ℕ, ℤ, List, true, false, length, nat_le, Result, Ok, Err, ap, arith}
 use Rattle.std.specs.Result.{IsErrAnd}
 use Rattle.std.proofs.lemmas.Bool.{leb-true, leb-false}
 use Rattle.std.proofs.lemmas.Result.{err_from_is_err_and}
 use Rattle.sgb_vec.specs.declared.panics.Panic.{Panic}
 use Rattle.sgb_vec.specs.declared.panics.Panic.TheVariants.{Early, NoRoom, Syntax}
 use Rattle.sgb_graph.specs.Graphs.{GraphData}
-use Rattle.sgb_file.specs.Refused.{HasNoOpening, IsRestoredAs}
+use Rattle.sgb_file.specs.Refused.{HasNoOpening}
 use Rattle.sgb_expr.specs.Expression.{Expression, Generated, OfNumbers, OfGraph, OfGraphs, Induced, Stdin, OnNumbers, BiComplete, expression_of}
 use Rattle.sgb_expr.specs.declared.expressions.Expr.{Expr}
 use Rattle.sgb_gen.specs.declared.params.Generator.{Generator}
@@ -35,7 +35,7 @@ first_other input (OfNumbers operation) code is = numbers_other operation code i
 first_other input (OfGraph operation e) code is = first_other input e code is
 first_other input (OfGraphs operation e f) code is = first_other input e code is
 first_other input (Induced e _ self_loops multi directed) code is = first_other input e code is
-first_other input Stdin code is = grind (arith)
+first_other input Stdin code is = search rules
 
 -- a text that is too long
 pub long_refused : (input : List ℕ) (r : Result GraphData Panic) → nat_le (length input) most_input ≡ false → r ≡ Err Syntax → (p : Panic) → IsInputRefused input p → r ≡ Err p
@@ -44,7 +44,6 @@ long_refused input r more is p h = grind (arith, leb-false)
 -- a text that is read
 pub text_refused : (input : List ℕ) (r : Result GraphData Panic) → nat_le (length input) most_input ≡ true → (HasNoOpening input → r ≡ Err Early)
     → (p : Panic) → IsInputRefused input p → r ≡ Err p
-text_refused input r fits early p (inl (low, restored), inl is) = early (subst (λ c. IsRestoredAs input (Err c)) is restored) ∙ ap Err (sym is)
 text_refused input r fits early p h = grind (arith, leb-true)
 
 -- an operand that was made is not refused so

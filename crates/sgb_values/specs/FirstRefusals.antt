@@ -1,16 +1,19 @@
 -- Refusals of expressions that come before memory is taken.
-use Rattle.std.specs.Prelude.{◌≡◌, ◌⊎◌, ◌<◌, ℕ, List, length, Err}
+use Rattle.std.specs.Prelude.{◌≡◌, ◌⊎◌, ◌≤◌, ◌<◌, ℕ, List, length, Err}
 use Rattle.sgb_vec.specs.declared.panics.Panic.{Panic}
-use Rattle.sgb_vec.specs.declared.panics.Panic.TheVariants.{Early}
+use Rattle.sgb_vec.specs.declared.panics.Panic.TheVariants.{Early, Syntax}
+use Rattle.sgb_file.specs.Refused.{HasNoOpening}
 use Rattle.sgb_gen.specs.Generators.{IsGeneratorRefused}
 use Rattle.sgb_ops.specs.BiComplete.{accepted_parts}
 use Rattle.sgb_ops.specs.Wheel.{accepted_rim}
 use Rattle.sgb_expr.specs.Expression.{Expression, Generated, OfNumbers, OfGraph, OfGraphs, Induced, Stdin, OnNumbers, BiComplete, Wheel}
-use Rattle.sgb_values.specs.Values.{IsStdinValue, most_input}
+use Rattle.sgb_values.specs.Values.{most_input}
 
--- standard input is refused with this code before a record of it is read: no file begins so, or it is too long
+-- standard input is refused before a record of it is read: it is too long, or no file begins so
 abbrev pub IsInputRefused : List ℕ → Panic → Type 0
-IsInputRefused input code = IsStdinValue input (Err code) × ((code ≡ Early) ⊎ (most_input < length input))
+IsInputRefused input code =
+    ((most_input < length input) × (code ≡ Syntax))
+    ⊎ ((length input ≤ most_input) × HasNoOpening input × (code ≡ Early))
 
 -- an operation on numbers is refused with this code for what they are, before memory is taken
 abbrev pub AreNumbersRefused : OnNumbers → Panic → Type 0
