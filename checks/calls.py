@@ -22,8 +22,6 @@ import time
 
 from laying import lay
 
-BELOW = ["sgb_text", "sgb_vec", "sgb_graph", "sgb_gen", "sgb_ops", "sgb_file", "sgb_expr", "sgb_requests", "sgb_values",
-         "sgb"]
 FAILS = 2000  # as in checks/calls/main.in
 CASES = 900  # more than there are allocations
 CALLS = [
@@ -83,7 +81,7 @@ def check(what, holds):
 
 def compiled(folder):
     """The program, as `rt try` compiles it: it is copied while it waits, and then stopped."""
-    crate = lay(folder, "calls", BELOW)
+    crate = lay(folder, "calls", ["sgb"])
     place = os.path.join(folder, "calls")
     own = os.path.join(folder, "tmp")
     os.mkdir(own)

@@ -7,11 +7,17 @@ import glob
 import os
 import shutil
 
+from prove import needed, uses
+
 TOP = os.path.dirname(os.path.dirname(os.path.abspath(__file__)))
 
 
-def lay(folder, name, below):
-    """Lays these crates, and the crate of checks/NAME, which has them all as its libraries; the folder of that crate."""
+def lay(folder, name, libraries):
+    """Lays these crates and all below them, and the crate of checks/NAME, which has them all as its libraries; the folder of
+    that crate."""
+    known = uses()
+    laid = needed(libraries, known)
+    below = [crate for crate in known if crate in laid]
     for crate in below:
         for part in ("src", "specs", "proofs"):
             there = os.path.join(TOP, "crates", crate, part)

@@ -18,15 +18,13 @@ import tempfile
 import unproved
 from laying import lay
 
-BELOW = ["sgb_text", "sgb_vec", "sgb_graph", "sgb_gen", "sgb_ops", "sgb_file", "sgb_expr", "sgb_requests", "sgb_values",
-         "sgb", "sgb_arrays"]
 TEST = re.compile(r"^test (\S+) \.\.\. (.*)$", re.MULTILINE)
 SECONDS = os.environ.get("OUTSIDE_SECONDS", "120")  # that one test may take
 
 
 def main():
     with tempfile.TemporaryDirectory() as folder:
-        crate = lay(folder, "library", BELOW)
+        crate = lay(folder, "library", ["sgb", "sgb_arrays"])
         # a check of names beside it would take as long as the rest
         rt = os.environ.get("RT") or unproved.shadow(unproved.toolchain(), "tries", folder)
         own = os.path.join(folder, "tmp")

@@ -32,17 +32,7 @@ static void begin_whole(void) {
 static void list(void) {
     fill_run();
     must_call(&graph, ID);
-    printf("  The graph whose official name is\n%.*s\n  has %" PRIu32 " vertices and %" PRIu64 " arcs:\n\n", (int)size.sizes.id, id,
-           vertices(), size.arcs);
-    for (uint32_t v = 0; v < count; v++) {
-        put_name(v);
-        putchar('\n');
-        for (uint64_t k = starts[v]; k < starts[v + 1]; k++) {
-            fputs("  -> ", stdout);
-            put_name(tips[k]);
-            printf(", length %" PRId64 "\n", lengths[k]);
-        }
-    }
+    put_listing();
 }
 
 static void list_names(void) {

@@ -86,6 +86,14 @@ static char *whole(FILE *from, size_t *len) {
     return bytes;
 }
 
+static inline char *file_at(const char *path, size_t *len) {
+    FILE *from = fopen(path, "rb");
+    if (!from) fail(path);
+    char *bytes = whole(from, len);
+    fclose(from);
+    return bytes;
+}
+
 /* New arrays for the run, and no numbers. */
 static void make_arrays(void) {
     starts = array(count + 1ull, sizeof *starts);
@@ -208,4 +216,19 @@ static void fill_run(void) {
 }
 
 static void put_name(uint32_t k) { fwrite(names + name_starts[k], 1, name_starts[k + 1] - name_starts[k], stdout); }
+
+/* The listing of the graph whose vertices all are the run, as the program writes it. */
+static inline void put_listing(void) {
+    printf("  The graph whose official name is\n%.*s\n  has %" PRIu32 " vertices and %" PRIu64 " arcs:\n\n", (int)size.sizes.id, id,
+           vertices(), size.arcs);
+    for (uint32_t v = 0; v < count; v++) {
+        put_name(v);
+        putchar('\n');
+        for (uint64_t k = starts[v]; k < starts[v + 1]; k++) {
+            fputs("  -> ", stdout);
+            put_name(tips[k]);
+            printf(", length %" PRId64 "\n", lengths[k]);
+        }
+    }
+}
 #endif

@@ -21,14 +21,6 @@
 #include "c_stacks.h"
 #include "c_states.h"
 
-static char *file_at(const char *path, size_t *len) {
-    FILE *from = fopen(path, "rb");
-    if (!from) fail(path);
-    char *bytes = whole(from, len);
-    fclose(from);
-    return bytes;
-}
-
 /* The run of the graph that is open, told as the program tells it, with the names of all vertices; and the file. */
 static void put_run(uint32_t from, uint32_t so_many) {
     begin_run(0, vertices());

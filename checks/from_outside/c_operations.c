@@ -42,14 +42,6 @@ static sgb_entry operands[MOST];
 static uint64_t states[MOST];
 static given_graph made_of;
 
-static char *file_at(const char *path, size_t *len) {
-    FILE *from = fopen(path, "rb");
-    if (!from) fail(path);
-    char *bytes = whole(from, len);
-    fclose(from);
-    return bytes;
-}
-
 static uint64_t make(const given_graph *of, sgb_graph *result) {
     return sgb_make(of->name_starts, of->n + 1, of->names, of->name_starts[of->n], of->from, of->m, of->to, of->m, of->lengths, of->m,
                     of->directed, of->id, strlen(of->id), result);
@@ -178,17 +170,7 @@ static void put_graph(void) {
     must_call(&graph, ID);
     must_call(&graph, WHOLE_FILE);
     ends_are_kept();
-    printf("  The graph whose official name is\n%.*s\n  has %" PRIu32 " vertices and %" PRIu64 " arcs:\n\n", (int)size.sizes.id, id,
-           vertices(), size.arcs);
-    for (uint32_t v = 0; v < count; v++) {
-        put_name(v);
-        putchar('\n');
-        for (uint64_t k = starts[v]; k < starts[v + 1]; k++) {
-            fputs("  -> ", stdout);
-            put_name(tips[k]);
-            printf(", length %" PRId64 "\n", lengths[k]);
-        }
-    }
+    put_listing();
     puts("--");
     fwrite(file, 1, size.file, stdout);
     free_arrays();

@@ -12,11 +12,10 @@ use Rattle.sgb.specs.Outcomes.{answer_from}
 use Rattle.sgb_file.specs.Devices.{AppendsUnlessFailed, Change}
 use Rattle.sgb_requests.specs.Faults.{fault_line, status_of}
 use Rattle.sgb.specs.Runs.{AreUsed, IsRunFrom}
-use Rattle.sgb.specs.Writing.{Effect, IsEnded, IsEndedFrom, IsUntouched, IsWritten}
+use Rattle.sgb.specs.Writing.{Effect, IsEnded, IsEndedFrom, IsEndedBy, IsUntouched, IsWritten}
 use Rattle.sgb_requests.specs.declared.faults.Fault.{Fault}
 use Rattle.sgb_requests.specs.declared.faults.Fault.TheVariants as fault
 use Rattle.sgb_file.proofs.WrittenPrefixes.{prefix_all, prefix_none}
-use Rattle.sgb.specs.Inputs.{IsReadFault}
 use Rattle.sgb_values.specs.Values.{most_input}
 
 -- the bytes that a sink tells, before and after, and whether it has failed
@@ -93,7 +92,7 @@ some_used true (Some bytes) = (take (most_input + 1) bytes, (λ _. refl, λ e. a
 
 -- reading failed before anything was written
 pub read_refused : (T : Type 0) {S : Type 0} (failed : Bool) (a : Result (List ℕ) Fault) (s : S) (f : Fault) (w : Option (List ℕ)) (unsound : Bool)
-    → IsReadFault failed f → unsound ≡ false → IsEndedFrom {T = T} failed a (effect_of s s (change_of w w unsound)) (Err f)
+    → IsEndedBy fault.Read failed f → unsound ≡ false → IsEndedFrom {T = T} failed a (effect_of s s (change_of w w unsound)) (Err f)
 read_refused T failed a s f w unsound h sound = grind (arith, memory_at_once)
 
 -- reading ended well

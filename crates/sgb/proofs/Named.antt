@@ -5,7 +5,7 @@ use Rattle.std.specs.Cmp.Lexicographic.{pointwise}
 use Rattle.std.proofs.lemmas.List.Sums.{position_or_len_is}
 use Rattle.std.proofs.lemmas.Option.{slice_get_within, get_or_from_slice_get}
 use Rattle.std.proofs.lemmas.Bool.{cases_lt}
-use Rattle.sgb.specs.Outcomes.{vertex_named}
+use Rattle.sgb.specs.inner.Named.{vertex_named}
 
 -- this vertex has the name
 abbrev pub has_name : List ℕ → List ℕ → Bool

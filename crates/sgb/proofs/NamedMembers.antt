@@ -13,7 +13,7 @@ use Rattle.sgb_vec.proofs.RisingLists.{place-once}
 use Rattle.sgb_vec.proofs.SumSuccessors.{IsBefore-asymmetric}
 use Rattle.sgb_gen.specs.VectorGraphs.{vertex_among}
 use Rattle.sgb_gen.proofs.RisingVectors.{vertex_in_rising}
-use Rattle.sgb.specs.Outcomes.{vertex_named}
+use Rattle.sgb.specs.inner.Named.{vertex_named}
 use Rattle.sgb.specs.Texts.{name_line, name_lines}
 use Rattle.sgb.proofs.Named.{NoneBefore, has_name, named_here, named_nowhere}
 

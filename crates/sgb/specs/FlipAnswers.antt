@@ -22,8 +22,7 @@ number_within greatest (negsuc n) = Err Bad
 
 -- the draws that a flip asks for, where skip and count are from 0 to 1,000,000,000 and m is from 0 to 2^31
 abbrev pub accepted_draws : FlipParams → Result Draws Panic
-accepted_draws p =
-    and_then (number_within most_draws p.skip) (λ skip.
+accepted_draws p = and_then (number_within most_draws p.skip) (λ skip.
     and_then (number_within most_draws p.count) (λ count.
     and_then (number_within modulus p.m) (λ m.
     Ok (record { start = p.start; skip = skip; count = count; m = m }))))
@@ -33,14 +32,10 @@ abbrev pub drawn_from : ℕ → ℕ → ℕ → ℕ → List ℕ
 drawn_from seed zero k count = plain_draws seed k count
 drawn_from seed (suc m) k count = uniform_draws seed (suc m) k count
 
--- the numbers drawn: after so many draws that are thrown away
-abbrev pub drawn : Draws → List ℕ
-drawn d = drawn_from (seed_of d.start) d.m d.skip d.count
-
 -- the lines of numbers, each its decimal digits and a newline (10)
 unfoldable pub number_lines : List ℕ → List ℕ
 number_lines numbers = flat_map (λ number. decimal number ++ 10 ∷ []) numbers
 
--- the output of a flip, or the fault that refuses it
+-- the output of a flip, of numbers after so many draws that are thrown away; or the fault that refuses it
 abbrev pub flip_answer : FlipParams → Result (List ℕ) Fault
-flip_answer p = result_map_both (λ d. number_lines (drawn d)) fault.Panic (accepted_draws p)
+flip_answer p = result_map_both (λ d. number_lines (drawn_from (seed_of d.start) d.m d.skip d.count)) fault.Panic (accepted_draws p)

@@ -23,15 +23,11 @@ use Rattle.sgb_requests.specs.declared.requests.Request.TheVariants as request
 use Rattle.sgb_requests.specs.declared.requests.Resume.{Resume}
 use Rattle.sgb_requests.specs.declared.requests.Resume.TheVariants as resume
 
--- the first vertex of this name
-abbrev pub vertex_named : List ℕ → List (List ℕ) → Option ℕ
-vertex_named name names = position (λ other. pointwise nat_eq other name) names
-
 -- how many first vertices of these names are left out: those up to the first one of a name, which has to be there
 abbrev pub left_out : List (List ℕ) → Resume → Result ℕ Fault
 left_out names resume.Whole = Ok 0
 left_out names (resume.Skip k) = Ok k
-left_out names (resume.After name) = ok_or (option_map suc (vertex_named name names)) fault.NoVertex
+left_out names (resume.After name) = ok_or (option_map suc (position (λ other. pointwise nat_eq other name) names)) fault.NoVertex
 
 -- the answer of a command `names`, of names
 abbrev pub names_answer : List (List ℕ) → Resume → Result (List ℕ) Fault
@@ -40,8 +36,7 @@ names_answer names resume = result_map_both (name_lines names) (λ f. f) (left_o
 -- what stands before the blocks: nothing where the listing is resumed
 abbrev pub head_for : Resume → List ℕ → List ℕ
 head_for resume.Whole text = text
-head_for (resume.Skip k) text = []
-head_for (resume.After name) text = []
+head_for _ text = []
 
 -- the answer of a command `list`, of a graph
 abbrev pub list_answer : GraphData → Resume → Result (List ℕ) Fault
@@ -70,8 +65,7 @@ abbrev pub reads_input : Request → Bool
 reads_input (request.Names e resume) = has_stdin (expression_of e)
 reads_input (request.List e resume) = has_stdin (expression_of e)
 reads_input (request.Save e) = has_stdin (expression_of e)
-reads_input request.Queen = false
-reads_input (request.Flip p) = false
+reads_input _ = false
 
 -- the output of a request where `stdin` has this value, or the fault that refuses it (`queen` has no `stdin`, and any value would do)
 abbrev pub answer_of : Request → Result GraphData Panic → Result (List ℕ) Fault

@@ -19,8 +19,7 @@ unread_fault _ = fault.Usage
 -- a run of the program with these words leaves this: they make a request, which was answered, in full where that takes no memory
 -- and the output is sound; or they are refused with a fault, and it was reported
 abbrev pub IsProgramRun : {S : Type 0} → List (List ℕ) → Input → Left S → Type 0
-IsProgramRun words source l =
-    ((r : Request) × IsRequest words r × IsRunOn r source l × IsCertain r l)
+IsProgramRun words source l = ((r : Request) × IsRequest words r × IsRunOn r source l × IsCertain r l)
     ⊎ ((f : Fault) × IsRefusedCommandLine words f × IsReported f l)
 
 -- the words make no request that reads standard input

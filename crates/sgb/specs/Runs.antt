@@ -34,8 +34,7 @@ pub record IsStopped {S : Type 0} (by : Fault) (answer : Outcome) (l : Left S) :
 -- answer was given, or the run was stopped when memory ran out.
 abbrev pub IsRunOf : {S : Type 0} → Outcome → Left S → Type 0
 IsRunOf answer l = MatchBool l.out.told.failed
-    (IsStopped fault.Write answer l)
-    (IsGiven answer l ⊎ IsStopped (fault.Panic NoRoom) answer l)
+    (IsStopped fault.Write answer l) (IsGiven answer l ⊎ IsStopped (fault.Panic NoRoom) answer l)
 
 -- only a refusal was reported: the output sink is untouched, standard error took this line or failed, and this is the status
 pub record IsReportedAs {S : Type 0} (text : List ℕ) (code : ℕ) (l : Left S) : Type 0 where
@@ -51,8 +50,7 @@ IsReported f l = IsReportedAs (fault_line f) (status_of f) l
 -- is refused the output sink is as it was, also out of memory
 abbrev pub IsRunFrom : {S : Type 0} → Bool → Result (List ℕ) Fault → Left S → Type 0
 IsRunFrom failed answer l = MatchBool failed
-    (IsReported fault.Read l)
-    (IsRunOf (outcome_of answer) l × IfErr answer (λ f. l.out.new ≡ l.out.old))
+    (IsReported fault.Read l) (IsRunOf (outcome_of answer) l × IfErr answer (λ f. l.out.new ≡ l.out.old))
 
 -- the bytes that standard input tells before a run, and whether it has failed afterwards
 pub record Input : Type 0 where
@@ -62,8 +60,7 @@ pub record Input : Type 0 where
 -- a run that answers this request leaves this: standard input holds a text, the one that it tells, on which the request is
 -- answered (one that does not read it is answered alike on every text: input_unread_law)
 abbrev pub IsRunOn : {S : Type 0} → Request → Input → Left S → Type 0
-IsRunOn r source l =
-    (held : List ℕ) × IfSome source.bytes (λ bytes. held ≡ bytes)
+IsRunOn r source l = (held : List ℕ) × IfSome source.bytes (λ bytes. held ≡ bytes)
     × (answer : Result (List ℕ) Fault) × IsAnswered r held answer × IsRunFrom (reads_input r && source.failed) answer l
 
 -- of standard input these bytes count for an answer: those that are kept, or none where it reads none
@@ -72,11 +69,9 @@ AreUsed reads told used = (reads ≡ true → IsKeptOfInput told used) × (reads
 
 -- a program that answers leaves this: for each answer on the bytes that count it was answered so
 abbrev pub IsAnswerRun : {S : Type 0} → Bool → (List ℕ → Result (List ℕ) Fault → Type 0) → Input → Left S → Type 0
-IsAnswerRun reads answers source l =
-    (used : List ℕ) × AreUsed reads source.bytes used
+IsAnswerRun reads answers source l = (used : List ℕ) × AreUsed reads source.bytes used
     × ((a : Result (List ℕ) Fault) → answers used a → IsRunFrom (reads && source.failed) a l)
 
 -- a program that reads no input has answered in full where the output sink is sound: so for each answer on no bytes
 abbrev pub IsAnswerGiven : {S : Type 0} → (List ℕ → Result (List ℕ) Fault → Type 0) → Left S → Type 0
-IsAnswerGiven answers l =
-    l.out.told.failed ≡ false → (a : Result (List ℕ) Fault) → answers [] a → IsGiven (outcome_of a) l
+IsAnswerGiven answers l = l.out.told.failed ≡ false → (a : Result (List ℕ) Fault) → answers [] a → IsGiven (outcome_of a) l

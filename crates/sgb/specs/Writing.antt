@@ -12,14 +12,14 @@ pub record IsWhole (text : List ℕ) (out : Change) : Type 0 where
   pub output : Appends out.before out.after text
   pub sound : out.failed ≡ false
 
--- writing was cut off by the sink's failure, or when out of memory while the sink is sound
-abbrev pub IsCause : Change → Fault → Type 0
-IsCause out f = ((out.failed ≡ true) × (f ≡ fault.Write)) ⊎ ((out.failed ≡ false) × (f ≡ fault.Panic NoRoom))
+-- a device ended what was under way: with its fault where it has failed, else out of memory
+abbrev pub IsEndedBy : Fault → Bool → Fault → Type 0
+IsEndedBy its failed f = ((failed ≡ true) × (f ≡ its)) ⊎ ((failed ≡ false) × (f ≡ fault.Panic NoRoom))
 
 -- a prefix of the text was written, until this fault
 pub record IsCutOff (text : List ℕ) (out : Change) (f : Fault) : Type 0 where
   pub output : AppendsPrefix out.before out.after text
-  pub cause : IsCause out f
+  pub cause : IsEndedBy fault.Write out.failed f
 
 -- the text was written, or a prefix of it until a fault
 abbrev pub IsWritten : {T : Type 0} → List ℕ → Change → Result T Fault → Type 0

@@ -1,10 +1,14 @@
 -- What only the private contracts and the proofs of sgb speak of.
 -- generators whose answers take no memory
 pub mod Certain
+-- the numbers that a flip draws
+pub mod FlipAnswers
 -- names of vectors that are kept
 pub mod KeptNames
 -- blocks of a generator's graph
 pub mod Locals
+-- the vertex of a name
+pub mod Named
 -- texts of small numbers
 pub mod Numerals
 -- pages of output, and what was put of them

@@ -5,7 +5,8 @@ use Rattle.std.proofs.lemmas.List.{length-map}
 use Rattle.sgb_graph.specs.Graphs.{GraphData, chain_of}
 use Rattle.sgb_graph.specs.declared.fields.Link.{Link}
 use Rattle.sgb_arrays.specs.Copies.{HaveLengthsOfNames, HaveLengthsOfRows, HaveLengthsOfTips}
-use Rattle.sgb_arrays.specs.Runs.{AreNames, AreRows, AreTips, HaveNameLengths, HaveRowLengths, HaveTipLengths, IsFillRefusal, IsThere, name_at, parts_of}
+use Rattle.sgb_arrays.specs.Runs.{AreNames, AreRows, AreTips, HaveNameLengths, HaveRowLengths, HaveTipLengths, IsFillRefusal, IsThere, parts_of}
+use Rattle.sgb_graph.specs.Vertices.{name_at}
 use Rattle.sgb_arrays.specs.declared.names.Names.{Names}
 use Rattle.sgb_arrays.specs.declared.refusals.Wrong.{Wrong}
 use Rattle.sgb_arrays.specs.declared.refusals.Wrong.TheVariants as wrong

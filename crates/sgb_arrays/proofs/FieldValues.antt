@@ -9,7 +9,8 @@ use Rattle.std.specs.Bool.{OnTrue, OnFalse}
 use Rattle.sgb_graph.specs.declared.fields.Kind.{Kind}
 use Rattle.sgb_graph.specs.declared.fields.Kind.TheVariants.{I}
 use Rattle.sgb_arrays.specs.inner.Kinds.{is_int_kind}
-use Rattle.sgb_arrays.specs.Fields.{int_at, ints_of}
+use Rattle.sgb_arrays.specs.Fields.{ints_of}
+use Rattle.sgb_arrays.specs.inner.Fields.{int_at}
 use Rattle.sgb_arrays.specs.inner.Puts.{put_from}
 use Rattle.sgb_arrays.proofs.PutValues.{put_from-all}
 

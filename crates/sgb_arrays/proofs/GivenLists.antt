@@ -11,7 +11,8 @@ use Rattle.std.proofs.lemmas.List.Sums.{fold-append}
 use Rattle.sgb_graph.specs.Graphs.{GraphData}
 use Rattle.sgb_graph.specs.Growth.{new_graph, new_vertex, with_event, with_events}
 use Rattle.sgb_arrays.specs.Lists.{part_by_starts}
-use Rattle.sgb_arrays.specs.Given.{are_below, climbs_to, event_given, fault_of, first_fault, is_table, names_given}
+use Rattle.sgb_arrays.specs.Given.{climbs_to, event_given, fault_of, is_table, names_given}
+use Rattle.sgb_arrays.specs.inner.Given.{are_below}
 
 -- places that climb end no lower than they begin
 pub climbs_up : (end first : ℕ) (xs : List ℕ) → climbs_to end first xs ≡ true → first ≤ end
@@ -61,19 +62,10 @@ pub name_more : (f : ℕ → List ℕ) (v : ℕ) (names new : List (List ℕ)) (
 name_more f v names new x before is more =
     more ∙ ap (λ ys. ys ++ x ∷ []) before ∙ ap (λ y. map f (range_with_len 0 v) ++ y ∷ []) is ∙ sym (map-range_with_len_more f 0 v v (omega arith))
 
--- what is known of arrays with which nothing is wrong
-pub record AreSound (tables few ends texts : Bool) : Type 0 where
-  pub have_tables : tables ≡ true
-  pub are_few : few ≡ true
-  pub have_ends : ends ≡ true
-  pub have_texts : texts ≡ true
-
-pub no_fault : (tables few ends texts : Bool) → first_fault tables few ends texts ≡ None → AreSound tables few ends texts
-no_fault false few ends texts e = search e
-no_fault true false ends texts e = search e
-no_fault true true false texts e = search e
-no_fault true true true false e = search e
-no_fault true true true true e = record { have_tables = refl; are_few = refl; have_ends = refl; have_texts = refl }
+-- where nothing is wrong with arrays the ends are vertices
+no_fault : (starts bytes from to : List ℕ) (lengths : List ℤ) (id : List ℕ) → fault_of starts bytes from to lengths id ≡ None
+    → (are_below (length starts - 1) from && are_below (length starts - 1) to) ≡ true
+no_fault starts bytes from to lengths id e = grind (arith, e)
 
 -- the ends are vertices of the graph of the names
 pub ends_there : (starts bytes from to : List ℕ) (lengths : List ℤ) (id : List ℕ) (g : GraphData) → fault_of starts bytes from to lengths id ≡ None
@@ -82,7 +74,7 @@ ends_there starts bytes from to lengths id g e is =
     let n = length starts - 1 in
     let size : n ≡ length g.vertices =
     sym (ap (λ (h : GraphData). length h.vertices) is ∙ length-map (names_given starts bytes) new_vertex ∙ length-map-range_with_len (part_by_starts bytes starts) 0 n) in
-    let ends = and_parts (are_below n from) (are_below n to) (no_fault _ _ _ _ e).have_ends in
+    let ends = and_parts (are_below n from) (are_below n to) (no_fault starts bytes from to lengths id e) in
     (subst (λ (k : ℕ). are_below k from ≡ true) size ends.0, subst (λ (k : ℕ). are_below k to ≡ true) size ends.1)
 
 -- the graph with one event more

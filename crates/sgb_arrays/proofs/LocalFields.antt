@@ -9,7 +9,8 @@ use Rattle.sgb_graph.specs.Sound.{vertex_kinds}
 use Rattle.sgb_graph.specs.declared.fields.Kind.TheVariants.{I}
 use Rattle.sgb_graph.specs.declared.fields.Util.TheVariants.{Nothing}
 use Rattle.sgb_gen.specs.VectorGraphs.{VectorGraph, described_by, family_graph, fields_of_vector, kinds_of_family}
-use Rattle.sgb_arrays.specs.Fields.{int_at, int_of, ints_of}
+use Rattle.sgb_arrays.specs.Fields.{int_of, ints_of}
+use Rattle.sgb_arrays.specs.inner.Fields.{int_at}
 use Rattle.sgb_arrays.specs.inner.Kinds.{HoldIntsAt}
 
 -- the fields that hold integers

@@ -3,7 +3,7 @@ use Rattle.std.proofs.Common.{◌≡◌, ◌≤◌, ◌<◌, ◌+◌, ℕ, zero,
 use Rattle.std.specs.Prelude.{slice_index}
 use Rattle.std.proofs.lemmas.Bool.{cases_eq}
 use Rattle.std.proofs.lemmas.List.{get_or-replicate, get_or-set_same, get_or-set_other, length-replicate, length-set}
-use Rattle.sgb_graph.specs.Graphs.{GraphData, chain_of, ends_of, links_of, vertex_of}
+use Rattle.sgb_graph.specs.Graphs.{GraphData, chain_of, ends_of, vertex_of}
 use Rattle.sgb_graph.specs.Growth.{IsKept, link}
 use Rattle.sgb_graph.specs.declared.fields.ArcRec.{ArcRec}
 use Rattle.sgb_graph.specs.declared.fields.Link.{Link}
@@ -11,7 +11,7 @@ use Rattle.sgb_graph.proofs.AddingArcs.{chain_of_vertex}
 use Rattle.sgb_graph.proofs.Chains.{links_of_none, step_of}
 use Rattle.sgb_graph.proofs.Growing.{lists_end, parts_of}
 use Rattle.sgb_graph.proofs.MarkedWays.{way_inside}
-use Rattle.sgb_arrays.specs.inner.Sizes.{AreKnown}
+use Rattle.sgb_arrays.specs.inner.Sizes.{AreKnown, links_of}
 
 -- these arcs are the rest of a list: each begins the list from its record on, which is all of them from it on
 abbrev pub AreOnWay : List ArcRec → List Link → Type 0

@@ -20,13 +20,9 @@ abbrev pub int_of : Util → ℤ
 int_of (Int i) = i
 int_of _ = pos 0
 
--- the integer in this field of a vertex
-abbrev pub int_at : ℕ → Vertex → ℤ
-int_at field x = int_of (slice_index_or x.util field Nothing)
-
 -- the integers in this field of the vertices of a run, in order
 unfoldable pub ints_of : GraphData → ℕ → ℕ → ℕ → List ℤ
-ints_of g field first count = map (int_at field) (take count (drop first g.vertices))
+ints_of g field first count = map (λ (x : Vertex). int_of (slice_index_or x.util field Nothing)) (take count (drop first g.vertices))
 
 -- why a field of a run is not handed over into an array of so many places
 abbrev pub IsIntsRefusal : GraphData → ℕ → ℕ → ℕ → ℕ → Wrong → Type 0

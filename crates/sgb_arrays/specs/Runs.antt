@@ -1,9 +1,8 @@
 -- A run of a graph's vertices, so many one after another from the first one on, as arrays: their lists ("compressed sparse
 -- rows"), and their names. All vertices are the run from 0 on of as many as there are.
-use Rattle.std.specs.Prelude.{◌≡◌, ◌⊎◌, ◌≤◌, ◌+◌, ℕ, ℤ, List, [], length, map}
-use Rattle.std.specs.List.{flat_map, range_with_len, slice_index_or}
+use Rattle.std.specs.Prelude.{◌≡◌, ◌⊎◌, ◌≤◌, ◌+◌, ℕ, ℤ, Unit, List, length, map}
+use Rattle.std.specs.List.{flat_map, range_with_len}
 use Rattle.sgb_graph.specs.Graphs.{GraphData, chain_of}
-use Rattle.sgb_graph.specs.Vertices.{names_of}
 use Rattle.sgb_arrays.specs.Lists.{starts_from}
 use Rattle.sgb_arrays.specs.declared.refusals.Wrong.{Wrong}
 use Rattle.sgb_arrays.specs.declared.refusals.Wrong.TheVariants as wrong
@@ -19,10 +18,6 @@ parts_of parts first count = flat_map parts (range_with_len first count)
 -- where that of each vertex starts in it, and then where the last one ends
 unfoldable pub part_starts : {X : Type 0} → (ℕ → List X) → ℕ → ℕ → List ℕ
 part_starts parts first count = starts_from 0 (map (λ v. length (parts v)) (range_with_len first count))
-
--- the name of vertex v
-abbrev pub name_at : GraphData → ℕ → List ℕ
-name_at g v = slice_index_or (names_of g) v []
 
 -- arrays that the lists of the run fit into: a start more than vertices, and as many tips and lengths as arcs
 pub record HaveRowLengths (g : GraphData) (first count : ℕ) (starts tips : List ℕ) (lengths : List ℤ) : Type 0 where
@@ -66,8 +61,6 @@ IsFillRefusal g first count fits memory wrong.Length = IsThere g first count × 
 IsFillRefusal g first count fits memory wrong.NoRoom = IsThere g first count × memory
 IsFillRefusal g first count fits memory _ = ⊥
 
--- why the size of a run is not told
+-- why the size of a run is not told: as arrays of which none can misfit are not filled
 abbrev pub IsSizeRefusal : GraphData → ℕ → ℕ → (memory : Type 0) → Wrong → Type 0
-IsSizeRefusal g first count memory wrong.Vertices = IsThere g first count → ⊥
-IsSizeRefusal g first count memory wrong.NoRoom = IsThere g first count × memory
-IsSizeRefusal g first count memory _ = ⊥
+IsSizeRefusal g first count = IsFillRefusal g first count (Unit {0})

@@ -13,5 +13,9 @@ pub mod Sizes
 pub mod Cuts
 -- what is kept of the lists of a graph
 pub mod Packed
+-- arrays that tell a graph, part by part
+pub mod Given
+-- a field of one vertex
+pub mod Fields
 -- the parts of a graph that is copied
 pub mod CopiedParts

@@ -1,7 +1,8 @@
 //! The utility fields of a run of vertices as arrays: of a graph, and of a generator's graph that is not built.
 ghost use Rattle.std.specs.Prelude.{◌≡◌, ◌<◌, ◌≤◌, ◌+◌, drop, length, map, pos, slice_index, take, OnOk, IfErr};
 ghost use Rattle.std.specs.Bool.{OnTrue, OnFalse};
-ghost use Rattle.sgb_arrays.specs.Fields.{HoldsInts, IsIntsRefusal, int_at, int_of, ints_of};
+ghost use Rattle.sgb_arrays.specs.Fields.{HoldsInts, IsIntsRefusal, int_of, ints_of};
+ghost use Rattle.sgb_arrays.specs.inner.Fields.{int_at};
 ghost use Rattle.sgb_arrays.specs.Runs.{IsThere};
 ghost use Rattle.sgb_arrays.specs.inner.Kinds.{HoldIntsAt, IsMisfitOfInts, is_int_kind};
 ghost use Rattle.sgb_graph.specs.Columns.{util_seen, vertex_seen};

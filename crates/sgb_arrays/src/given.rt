@@ -7,7 +7,8 @@ ghost use Rattle.sgb_vec.specs.Limits.{most_bytes};
 ghost use Rattle.sgb_vec.specs.Names.{is_text_byte};
 ghost use Rattle.sgb_graph.specs.Growth.{HasPlainArcs, with_events};
 ghost use Rattle.sgb_arrays.specs.Lists.{part_by_starts};
-ghost use Rattle.sgb_arrays.specs.Given.{IsUnmade, are_below, are_tables, climbs_to, events_given, fault_of, graph_given, is_table, is_text_of, names_given};
+ghost use Rattle.sgb_arrays.specs.Given.{IsUnmade, climbs_to, fault_of, graph_given, is_table, is_text_of, names_given};
+ghost use Rattle.sgb_arrays.specs.inner.Given.{are_below, are_tables, events_given};
 
 use sgb_graph::{Graph, Id, Names};
 use sgb_vec::{MOST_VERTICES, Panic, Text, is_text_byte};

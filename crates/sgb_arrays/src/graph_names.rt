@@ -1,6 +1,7 @@
 //! The names of a run of a graph's vertices, put into arrays one after another.
 ghost use Rattle.std.specs.Prelude.{◌≡◌, length, IfErr, IfOk, OnOk};
-ghost use Rattle.sgb_arrays.specs.Runs.{AreNames, HaveNameLengths, IsFillRefusal, IsThere, name_at, parts_of};
+ghost use Rattle.sgb_arrays.specs.Runs.{AreNames, HaveNameLengths, IsFillRefusal, IsThere, parts_of};
+ghost use Rattle.sgb_graph.specs.Vertices.{name_at};
 ghost use Rattle.sgb_arrays.specs.declared.refusals.Wrong.TheVariants as wrong;
 // For the search alone.
 ghost use Rattle.std.specs.Prelude.{◌≤◌, ◌<◌, ◌+◌};

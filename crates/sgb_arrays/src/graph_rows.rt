@@ -89,7 +89,7 @@ fn sizes_from(graph: &Graph, v: u32) -> [usize; 8]
     last_sizes(graph, v)
 }
 
-// The same, one list after another.
+// How many arcs are on these lists, one followed after another.
 fn last_sizes(graph: &Graph, v: u32) -> [usize; 8]
     ensures { AreSizesFrom graph.now v result }
 {

@@ -2,7 +2,8 @@
 ghost use Rattle.std.specs.Prelude.{◌≡◌, ◌<◌, ◌+◌, ◌++◌, ℕ, ℤ, List, map};
 ghost use Rattle.sgb_graph.specs.Graphs.{GraphData, chain_of};
 ghost use Rattle.sgb_arrays.specs.Lists.{part_by_starts};
-ghost use Rattle.sgb_arrays.specs.Runs.{AreNames, AreRows, name_at, parts_of};
+ghost use Rattle.sgb_arrays.specs.Runs.{AreNames, AreRows, parts_of};
+ghost use Rattle.sgb_graph.specs.Vertices.{name_at};
 
 /// In arrays that hold the lists of a run, the list of its vertex k is what stands from its start up to the next one; in
 /// those that hold its names, the name of that vertex stands so.

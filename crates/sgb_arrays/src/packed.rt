@@ -120,7 +120,7 @@ impl PackedGraph {
         }
     }
 
-    /// The same without the lengths of the arcs, as `fill_tips` does. No memory is taken.
+    /// Puts where the lists of a run start and where their arcs lead into arrays, as `fill_tips` does. No memory is taken.
     ///
     /// Refused as it is.
     pub fn fill_tips(

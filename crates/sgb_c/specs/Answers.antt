@@ -38,20 +38,15 @@ answer_of_unread unread.TooLarge = answer.TooLarge
 answer_of_unread (unread.At k) = answer.BadExpression k
 answer_of_unread unread.NoRoom = answer.Panic NoRoom
 
--- the text is read as no expression, and this is the answer
-abbrev pub IsTextRefusal : List ℕ → Answer → Type 0
-IsTextRefusal text why = (cause : Unread) × IsExpressionRead text (Err cause) × (why ≡ answer_of_unread cause)
-
 -- the text is an expression, and this is the value of it where this is standard input
 abbrev pub IsValueOfText : List ℕ → List ℕ → Result GraphData Panic → Type 0
 IsValueOfText text input value = (e : Expression) × (IsTooLarge text → ⊥) × IsExpression text e × IsValueOn input e value
 
--- the graph that a text names, or why there is none: the text is refused, or its value is a refusal, or memory ran out once it
--- was read
+-- the graph that a text names, or why there is none: the text is refused, or its value is, or memory ran out once it was read
 abbrev pub IsGraphNamed : List ℕ → List ℕ → Result GraphData Answer → Type 0
 IsGraphNamed text input (Ok g) = IsValueOfText text input (Ok g)
 IsGraphNamed text input (Err why) =
-    IsTextRefusal text why
+    ((cause : Unread) × IsExpressionRead text (Err cause) × (why ≡ answer_of_unread cause))
     ⊎ (((p : Panic) × (why ≡ answer.Panic p) × IsValueOfText text input (Err p))
     ⊎ ((why ≡ answer.Panic NoRoom) × ((e : Expression) × (IsTooLarge text → ⊥) × IsExpression text e)))
 

@@ -16,8 +16,7 @@ use Rattle.sgb_c.specs.declared.entry_handles.EntriesHandle.{EntriesHandle}
 -- what a definition says of two graphs, where both handles hold one
 abbrev pub of_both : {T : Type 0} → (GraphData → GraphData → T) → Option GraphData → Option GraphData → Option T
 of_both f (Some g) (Some h) = Some (f g h)
-of_both f (Some g) None = None
-of_both f None h = None
+of_both f _ _ = None
 
 -- Making a graph answers this number, where this is what the definition says of the operands, if all are open: that it is done,
 -- and the handle holds a graph that is described; or the refusal, or that memory ran out, and the handle holds none; or that an
@@ -34,19 +33,16 @@ IsMade (Some value) None new number =
 -- graph is open, which stays.
 abbrev pub IsGiven : Option Unmade → GraphData → (old new : Option GraphData) → ℕ → Type 0
 IsGiven fault g (Some h) new number = (number ≡ number_of answer.AlreadyOpen) × (new ≡ Some h)
-IsGiven fault g None new number =
-    ((number ≡ number_of answer.Done) × (fault ≡ None) × (new ≡ Some g))
+IsGiven fault g None new number = ((number ≡ number_of answer.Done) × (fault ≡ None) × (new ≡ Some g))
     ⊎ (((why : Unmade) × (number ≡ number_of (answer_of_unmade why)) × IsUnmade fault why) × (new ≡ None))
 
 -- the entries of a list
 abbrev pub entries_in : EntriesHandle → List Entry
 entries_in handle = option_map_or (λ l. l.entries.items) handle.held.value []
 
--- Adding an entry answers this number: that it is done, and it stands after the others; or that memory ran out, and they are as
--- they were.
+-- Adding an entry answers this number: it is done, and it stands after the others; or memory ran out, and they are as before.
 abbrev pub IsAdded : Entry → (old new : List Entry) → ℕ → Type 0
-IsAdded one old new number =
-    ((number ≡ number_of answer.Done) × (new ≡ old ++ one ∷ []))
+IsAdded one old new number = ((number ≡ number_of answer.Done) × (new ≡ old ++ one ∷ []))
     ⊎ ((number ≡ number_of (answer.Panic NoRoom)) × (new ≡ old))
 
 -- Adding the graph of a handle does so, where one is open: the entry is that graph; else the answer is that none is.

@@ -8,13 +8,9 @@ use mir.Syntax.{Ty}
 use denote.RattleType.{RattleType}
 use denote.RawPtr.{Ptr}
 
--- the C library's heap: one as the other
-abbrev heap : Global
-heap = record { memory = record { seal = tt } }
-
--- the right to give a block of it back
+-- the right to give a block of the C library's heap back, of which one is as the other
 abbrev pub gives_back : Ty → Ptr → Fml
-gives_back = ghosts.dealloc_token heap
+gives_back = ghosts.dealloc_token (record { memory = record { seal = tt } })
 
 -- ownership of the value at a pointer, in a block of the C library's heap, where there is one
 abbrev pub owns_if : (R : RattleType) → Ptr → Option R.Denot → Fml

@@ -10,7 +10,8 @@ ghost use Rattle.sgb_graph.specs.Draws.{modulus, plain_draws, seed_of, uniform_d
 ghost use Rattle.sgb_graph.specs.Kinds.{letter_of};
 ghost use Rattle.sgb_arrays.specs.Fields.{HoldsInts, IsIntsRefusal, ints_of};
 ghost use Rattle.sgb_arrays.specs.OpenGraphs.{IsFileRefusal};
-ghost use Rattle.sgb_arrays.specs.Runs.{AreNames, AreRows, AreTips, HaveNameLengths, HaveRowLengths, HaveTipLengths, IsFillRefusal, IsSizeRefusal, IsThere, name_at, parts_of};
+ghost use Rattle.sgb_arrays.specs.Runs.{AreNames, AreRows, AreTips, HaveNameLengths, HaveRowLengths, HaveTipLengths, IsFillRefusal, IsSizeRefusal, IsThere, parts_of};
+ghost use Rattle.sgb_graph.specs.Vertices.{name_at};
 ghost use Rattle.sgb_vec.specs.declared.panics.Panic.{Panic};
 ghost use Rattle.sgb_vec.specs.declared.panics.Panic.TheVariants as panic;
 ghost use Rattle.sgb_gen.specs.declared.params.Generator.{Generator};

@@ -23,8 +23,7 @@ pub data OnGraphs : Type 0 where
   Product : (kind : ℤ) → (directed : Bool) → OnGraphs
 
 mutual
-  -- an expression that names a graph: a generator with its parameters, an operation on the expressions inside it, which are
-  -- evaluated in their order, or standard input
+  -- an expression that names a graph: a generator with its parameters, an operation on those inside, in order, or `stdin`
   pub data Expression : Type 0 where
     Generated : Generator → Expression
     OfNumbers : OnNumbers → Expression

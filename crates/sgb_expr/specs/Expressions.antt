@@ -24,8 +24,7 @@ IsExpression text e = (depth : ℕ) × IsNested depth text e
 
 -- the text is too large, whatever it says: over 65,536 bytes, or over 64 more `(` (40) than `)` (41) in some prefix
 abbrev pub IsTooLarge : List ℕ → Type 0
-IsTooLarge text =
-    (65_536 < length text)
+IsTooLarge text = (65_536 < length text)
     ⊎ ((k : ℕ) × (k ≤ length text) × (count_by (λ byte. byte == 41) (take k text) + 64 < count_by (λ byte. byte == 40) (take k text)))
 
 -- the text is read as this, the word of which it stands for, or not read for this cause: too large before all else, then no
@@ -45,8 +44,7 @@ IsOnGraphs _ = ⊥
 
 -- reading the text takes memory: an operation on graphs stands in it as a whole, or the `[` of a list of entries does
 abbrev pub TakesMemory : List ℕ → Type 0
-TakesMemory text =
-    (before part after : List ℕ) × (text ≡ before ++ (part ++ after))
+TakesMemory text = (before part after : List ℕ) × (text ≡ before ++ (part ++ after))
     × ((part ≡ codes "[") ⊎ ((e : Expression) × IsExpression part e × IsOnGraphs e))
 
 -- the text is read as this expression, or not read for this cause

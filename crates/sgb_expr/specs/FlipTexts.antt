@@ -8,8 +8,7 @@ use Rattle.sgb_expr.specs.declared.flips.FlipParams.{FlipParams}
 
 -- start, skip, count and m, in this order
 abbrev pub flip_of : List ℤ → FlipParams
-flip_of numbers =
-    let nth = nth_number numbers in
+flip_of numbers = let nth = nth_number numbers in
     record { start = nth 0; skip = nth 1; count = nth 2; m = nth 3 }
 
 -- the text asks for these

@@ -27,20 +27,17 @@ flag_at numbers k = flag_of (nth_number numbers k)
 
 -- board(n1,n2,n3,n4,piece,wrap,directed)
 abbrev pub board_params : List ℤ → BoardParams
-board_params numbers =
-    let nth = nth_number numbers in
+board_params numbers = let nth = nth_number numbers in
     record { n1 = nth 0; n2 = nth 1; n3 = nth 2; n4 = nth 3; piece = nth 4; wrap = nth 5; directed = flag_of (nth 6) }
 
 -- simplex(n,n0,n1,n2,n3,n4,directed)
 abbrev pub simplex_params : List ℤ → SimplexParams
-simplex_params numbers =
-    let nth = nth_number numbers in
+simplex_params numbers = let nth = nth_number numbers in
     record { n = nth 0; n0 = nth 1; n1 = nth 2; n2 = nth 3; n3 = nth 4; n4 = nth 5; directed = flag_of (nth 6) }
 
 -- subsets(n,n0,n1,n2,n3,n4,size_bits,directed)
 abbrev pub subsets_params : List ℤ → ℕ → ℤ → SubsetsParams
-subsets_params numbers size_bits directed =
-    let nth = nth_number numbers in
+subsets_params numbers size_bits directed = let nth = nth_number numbers in
     record { n = nth 0; n0 = nth 1; n1 = nth 2; n2 = nth 3; n3 = nth 4; n4 = nth 5; size_bits = size_bits; directed = flag_of directed }
 
 -- n words of a language, each after a separator, which is `,` from the second on, and then this end
@@ -56,8 +53,7 @@ AreArguments separator n = AreSeparated IsInteger separator n (codes ")")
 abbrev pub IsGeneratorCall : GeneratorName → List ℕ → Generator → Type 0
 IsGeneratorCall Board = As (λ numbers. generator.Board (board_params numbers)) (AreArguments [] 7)
 IsGeneratorCall Simplex = As (λ numbers. generator.Simplex (simplex_params numbers)) (AreArguments [] 7)
-IsGeneratorCall Subsets =
-    Then (AreSeparated IsInteger [] 6 (codes ",")) (λ numbers. Then IsBits (λ size_bits.
+IsGeneratorCall Subsets = Then (AreSeparated IsInteger [] 6 (codes ",")) (λ numbers. Then IsBits (λ size_bits.
     As (λ directed. generator.Subsets (subsets_params numbers size_bits (nth_number directed 0))) (AreArguments (codes ",") 1)))
 IsGeneratorCall Complete = As (λ numbers. generator.Board (complete (nth_number numbers 0))) (AreArguments [] 1)
 IsGeneratorCall Transitive = As (λ numbers. generator.Board (transitive (nth_number numbers 0))) (AreArguments [] 1)

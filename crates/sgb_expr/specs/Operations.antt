@@ -17,12 +17,10 @@ AreOperand Inner make n = Then Inner (λ graph. As (λ numbers. Expression.OfGra
 
 -- two graphs and two integers, to a `)`, as the operation that is made of them
 abbrev pub AreOperands : (List ℕ → Expression → Type 0) → (List ℤ → OnGraphs) → List ℕ → Expression → Type 0
-AreOperands Inner make =
-    Then Inner (λ first. After (codes ",") (Then Inner (λ second.
+AreOperands Inner make = Then Inner (λ first. After (codes ",") (Then Inner (λ second.
     As (λ numbers. Expression.OfGraphs (make numbers) first second) (AreArguments (codes ",") 2))))
 
--- entries with commas between them, in brackets: each is an integer or an expression, where Inner tells the texts of the
--- expressions inside
+-- entries with commas between them, in brackets: each is an integer, or an expression, whose texts Inner tells
 abbrev pub IsEntryList : (List ℕ → Expression → Type 0) → List ℕ → List Entry → Type 0
 IsEntryList Inner text entries =
     After (codes "[") (AreSeparated (Or (As Entry.Number IsInteger) (As Entry.Graph Inner)) [] (length entries) (codes "]")) text entries
@@ -36,8 +34,7 @@ IsCallOf Inner Gunion = AreOperands Inner (λ numbers. OnGraphs.Gunion (flag_at 
 IsCallOf Inner Intersection = AreOperands Inner (λ numbers. OnGraphs.Intersection (flag_at numbers 0) (flag_at numbers 1))
 IsCallOf Inner Lines = AreOperand Inner (λ numbers. OnGraph.Lines (flag_at numbers 0)) 1
 IsCallOf Inner Product = AreOperands Inner (λ numbers. OnGraphs.Product (nth_number numbers 0) (flag_at numbers 1))
-IsCallOf Inner Induced =
-    Then Inner (λ graph. After (codes ",") (Then (IsEntryList Inner) (λ entries.
+IsCallOf Inner Induced = Then Inner (λ graph. After (codes ",") (Then (IsEntryList Inner) (λ entries.
     As (λ numbers. Expression.Induced graph (entries_of entries) (flag_at numbers 0) (flag_at numbers 1) (flag_at numbers 2))
     (AreArguments (codes ",") 3))))
 IsCallOf Inner BiComplete = AreNumbers (λ numbers. OnNumbers.BiComplete (nth_number numbers 0) (nth_number numbers 1) (flag_at numbers 2))

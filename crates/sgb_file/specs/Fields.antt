@@ -42,6 +42,5 @@ unbroken (b ∷ c ∷ bytes) = if b == 92 && c == 10 then unbroken bytes else b 
 
 -- the text of a string of at most so many bytes: bytes that say it, between quotes, and no quote (34) among them
 abbrev pub IsStringText : ℕ → List ℕ → List ℕ → Type 0
-IsStringText most text s =
-    (inside : List ℕ) × (text ≡ quoted inside) × All (λ b. b ≢ 34) inside
+IsStringText most text s = (inside : List ℕ) × (text ≡ quoted inside) × All (λ b. b ≢ 34) inside
     × (unbroken inside ≡ s) × (length s ≤ most) × IsTrue (list_all is_text_byte s)

@@ -11,8 +11,7 @@ lines_among (part ∷ next ∷ parts) = part ∷ lines_among (next ∷ parts)
 -- a line without the spaces (32) at its end
 unfoldable pub without_end_spaces : List ℕ → List ℕ
 without_end_spaces [] = []
-without_end_spaces (b ∷ line) =
-    if b == 32 && length (without_end_spaces line) == 0 then [] else b ∷ without_end_spaces line
+without_end_spaces (b ∷ line) = if b == 32 && length (without_end_spaces line) == 0 then [] else b ∷ without_end_spaces line
 
 -- the lines of a text, without their newlines (10) and the spaces at their ends
 abbrev pub clean_lines : List ℕ → List (List ℕ)

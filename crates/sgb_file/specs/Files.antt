@@ -66,8 +66,7 @@ pub record AreRecordsOf (g : GraphData) (text : List ℕ) : Type 0 where
 
 -- a first line: these kinds of utility fields, so many vertices and arc records, then anything
 abbrev pub IsFirstLine : List Kind → ℕ → ℕ → List ℕ → Type 0
-IsFirstLine kinds n m line =
-    (vertices arcs anything : List ℕ) × IsNumberText vertices n × IsNumberText arcs m
+IsFirstLine kinds n m line = (vertices arcs anything : List ℕ) × IsNumberText vertices n × IsNumberText arcs m
     × (length kinds ≡ 14) × (n ≤ most_vertices)
     × (line ≡ codes "* GraphBase graph (util_types " ++ (map letter_of kinds ++ (codes "," ++ (vertices ++ (codes "V," ++ (arcs ++ (codes "A)" ++ anything)))))))
 

@@ -69,8 +69,7 @@ record_lines texts = laid_out [] (pieces_of texts)
 
 -- the lines between the first and the last: the records of the graph, of its vertices and of its arcs
 abbrev pub middle_lines : GraphData → List (List ℕ)
-middle_lines g =
-    record_lines (quoted g.id ∷ decimal (length g.vertices) ∷ decimal g.m ∷ flat_map field_texts g.util)
+middle_lines g = record_lines (quoted g.id ∷ decimal (length g.vertices) ∷ decimal g.m ∷ flat_map field_texts g.util)
     ++ codes "* Vertices" ∷ flat_map (λ v. record_lines (quoted v.name ∷ record_number_text v.arcs ∷ flat_map field_texts v.util)) g.vertices
     ++ codes "* Arcs" ∷ flat_map (λ r. record_lines (ref_text r.tip ∷ record_number_text r.next ∷ signed_decimal r.len
     ∷ flat_map field_texts (r.a ∷ r.b ∷ []))) g.records

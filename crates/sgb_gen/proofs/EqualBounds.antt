@@ -4,7 +4,8 @@ use Rattle.std.specs.List.{remove}
 use Rattle.std.proofs.lemmas.Bool.{cases_lt}
 use Rattle.std.proofs.lemmas.List.{get_or-set_same, get_or-set_other}
 use Rattle.std.proofs.lemmas.List.Edits.{get_or-remove_below, length-remove}
-use Rattle.sgb_vec.specs.Sums.{BoundedSum, count_of_sum}
+use Rattle.sgb_vec.specs.Sums.{BoundedSum}
+use Rattle.sgb_gen.specs.inner.KeptCounts.{count_of_sum}
 use Rattle.sgb_vec.proofs.SumCounts.{count_of_sum-cons, count_of_sum-remove}
 use Rattle.sgb_vec.proofs.Windows.{window, window_same}
 use Rattle.sgb_gen.specs.Simplexes.{Places}

@@ -4,12 +4,12 @@ use Rattle.std.specs.List.{Contains}
 use Rattle.std.proofs.lemmas.Bool.{cases_lt}
 use Rattle.std.proofs.lemmas.List.{drop_more, get_or_append_left, get_or-append_right, get_or-replicate}
 use Rattle.sgb_vec.specs.Lexicographic.{IsWithin}
-use Rattle.sgb_vec.specs.Sums.{bounded_sums, count_of_sum}
+use Rattle.sgb_vec.specs.Sums.{bounded_sums}
 use Rattle.sgb_vec.proofs.SumCounts.{count_of_sum-cons, count_of_sum-few}
 use Rattle.sgb_vec.proofs.SumMembers.{Contains-bounded_sums}
 use Rattle.sgb_vec.proofs.SumPlaces.{IsPlaceSoFar, place-entry_le, place-more}
 use Rattle.sgb_vec.proofs.Windows.{up_to, window_after, window_prefix}
-use Rattle.sgb_gen.specs.inner.KeptCounts.{HasCounts, HaveCounts, count_up_to}
+use Rattle.sgb_gen.specs.inner.KeptCounts.{HasCounts, HaveCounts, count_of_sum, count_up_to}
 
 -- up to n: those that add to 0, 1, .. n
 count_up_to-sums : (n : ℕ) (bounds : List ℕ) → count_up_to n bounds ≡ up_to (λ i. count_of_sum i bounds) n

@@ -5,7 +5,8 @@ use Rattle.std.proofs.lemmas.Bool.{cases_lt, or_from, or_parts, lt-ltb, le-ltb, 
 use Rattle.std.proofs.lemmas.List.{get_or_past}
 use Rattle.std.proofs.lemmas.List.Sums.{sum_by-set}
 use Rattle.sgb_vec.specs.Lexicographic.{IsBefore, IsWithin}
-use Rattle.sgb_vec.specs.Sums.{count_of_sum, has_great_count}
+use Rattle.sgb_vec.specs.Sums.{has_great_count}
+use Rattle.sgb_gen.specs.inner.KeptCounts.{count_of_sum}
 use Rattle.sgb_vec.proofs.SumCounts.{count_of_sum-cons}
 use Rattle.sgb_vec.proofs.SumSuccessors.{IsBefore-cases, IsBefore-less, IsBefore-same}
 use Rattle.sgb_vec.proofs.Windows.{window, window_le, window-wide, window-wider}

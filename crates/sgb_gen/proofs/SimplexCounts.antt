@@ -8,7 +8,8 @@ use Rattle.std.proofs.lemmas.List.Elements.{All-contains_itself, All-filter, All
 use Rattle.std.proofs.lemmas.List.Kept.{AllPairs-filter}
 use Rattle.sgb_graph.specs.Made.{graph_described}
 use Rattle.sgb_vec.specs.Lexicographic.{IsBefore}
-use Rattle.sgb_vec.specs.Sums.{BoundedSum, bounded_sums, count_of_sum, has_great_count, sum_of}
+use Rattle.sgb_vec.specs.Sums.{BoundedSum, bounded_sums, has_great_count, sum_of}
+use Rattle.sgb_gen.specs.inner.KeptCounts.{count_of_sum}
 use Rattle.sgb_vec.specs.Limits.{most_vertices}
 use Rattle.sgb_vec.specs.declared.panics.Panic.{Panic}
 use Rattle.sgb_vec.specs.declared.panics.Panic.TheVariants.{NoRoom}

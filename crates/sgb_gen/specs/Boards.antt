@@ -23,21 +23,18 @@ pub record BoardData : Type 0 where
 
 -- the piece that a parameter stands for, 1 in the place of 0, or why it is refused
 abbrev pub piece_of : ℤ → Result ℤ Panic
-piece_of piece =
-    if nat_lt most_piece (nat_abs piece) then Err VeryBad else Ok (if nat_abs piece == 0 then pos 1 else piece)
+piece_of piece = if nat_lt most_piece (nat_abs piece) then Err VeryBad else Ok (if nat_abs piece == 0 then pos 1 else piece)
 
 -- the board of these parameters, or why they are refused: too many dimensions, then too many vertices, then a piece too great
 abbrev pub accepted_board : BoardParams → Result BoardData Panic
-accepted_board p =
-    and_then (board_of p.n1 p.n2 p.n3 p.n4) (λ shape.
+accepted_board p = and_then (board_of p.n1 p.n2 p.n3 p.n4) (λ shape.
     and_then (box_of shape.sizes) (λ sizes.
     and_then (piece_of p.piece) (λ piece.
     Ok (record { params = shape.params; sizes = sizes; piece = piece; wrap = p.wrap; directed = p.directed }))))
 
 -- its id: board(n1,n2,n3,n4,piece,wrap,directed)
 unfoldable pub board_id : BoardData → List ℕ
-board_id b =
-    call_text (codes "board") (map signed_decimal (b.params ++ (b.piece ∷ b.wrap ∷ [])) ++ flag_text b.directed ∷ [])
+board_id b = call_text (codes "board") (map signed_decimal (b.params ++ (b.piece ∷ b.wrap ∷ [])) ++ flag_text b.directed ∷ [])
 
 -- its moves, from one vertex to another
 abbrev pub moves_of_board : BoardData → List Move
@@ -45,8 +42,7 @@ moves_of_board b = board_moves (sides_of b.sizes b.wrap) b.piece (box b.sizes) (
 
 -- its graph, as one of vectors: its vertices are those of the box of its sizes
 abbrev pub board_vector_graph : BoardData → VectorGraph
-board_vector_graph b =
-    record { id = board_id b; directed = b.directed; vectors = box b.sizes; moves = moves_of_board b }
+board_vector_graph b = record { id = board_id b; directed = b.directed; vectors = box b.sizes; moves = moves_of_board b }
 
 -- the graph of board(n1,n2,n3,n4,piece,wrap,directed), or why it is refused
 abbrev pub board : BoardParams → Result Description Panic

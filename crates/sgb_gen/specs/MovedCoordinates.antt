@@ -6,8 +6,7 @@ use Rattle.sgb_gen.specs.Moves.{is_bit_set, coordinate_on}
 abbrev pub parts_from : ℕ → List ℤ → List (ℕ × ℤ)
 parts_from k [] = []
 parts_from k (pos zero ∷ t) = parts_from (k + 1) t
-parts_from k (pos (suc c) ∷ t) = (k, pos (suc c)) ∷ parts_from (k + 1) t
-parts_from k (negsuc c ∷ t) = (k, negsuc c) ∷ parts_from (k + 1) t
+parts_from k (c ∷ t) = (k, c) ∷ parts_from (k + 1) t
 
 -- the coordinates that a displacement moves
 abbrev pub parts_of : List ℤ → List (ℕ × ℤ)

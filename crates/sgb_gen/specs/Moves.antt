@@ -37,15 +37,13 @@ coordinate_on s y = if s.wraps then Some (nat_abs (int_rem_euclid y (pos s.size)
 -- x in front of v, where both exist
 abbrev pub in_front : Option ℕ → Option (List ℕ) → Option (List ℕ)
 in_front (Some x) (Some v) = Some (x ∷ v)
-in_front (Some x) None = None
-in_front None v = None
+in_front _ _ = None
 
 -- the place at length l from x on by the displacement t, with coordinates xk + l * tk, where it exists
 abbrev pub place : List Side → List ℕ → List ℤ → ℕ → Option (List ℕ)
 place [] x t l = Some []
-place (s ∷ sides) [] t l = None
-place (s ∷ sides) (x ∷ xs) [] l = None
 place (s ∷ sides) (x ∷ xs) (t ∷ ts) l = in_front (coordinate_on s (pos x +ℤ pos l *ℤ t)) (place sides xs ts l)
+place _ _ _ l = None
 
 -- a place exists, and is not x
 abbrev pub is_elsewhere : List ℕ → Option (List ℕ) → Bool

@@ -17,11 +17,9 @@ pub record SimplexData : Type 0 where
   pub sum : BoundedSum
   pub directed : Bool
 
--- the simplex of these parameters, or why they are refused: a negative n first, then too many dimensions, then
--- n above 1,000,000,000, then too many vectors
+-- the simplex of these parameters; or, in order, a negative n, too many dimensions, n above 1,000,000,000, too many vectors
 abbrev pub accepted_simplex : SimplexParams → Result SimplexData Panic
-accepted_simplex p =
-    and_then (simplex_of p.n p.n0 p.n1 p.n2 p.n3 p.n4) (λ shape.
+accepted_simplex p = and_then (simplex_of p.n p.n0 p.n1 p.n2 p.n3 p.n4) (λ shape.
     and_then (sum_of p.n shape.sizes) (λ s.
     Ok (record { params = shape.params; sum = s; directed = p.directed })))
 

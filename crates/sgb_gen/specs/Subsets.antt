@@ -20,16 +20,14 @@ pub record SubsetsData : Type 0 where
 
 -- the subsets of these parameters, or why they are refused: as a simplex is
 abbrev pub accepted_subsets : SubsetsParams → Result SubsetsData Panic
-accepted_subsets p =
-    and_then (simplex_of p.n p.n0 p.n1 p.n2 p.n3 p.n4) (λ shape.
+accepted_subsets p = and_then (simplex_of p.n p.n0 p.n1 p.n2 p.n3 p.n4) (λ shape.
     and_then (sum_of p.n shape.sizes) (λ s.
     Ok (record { params = shape.params; sum = s; size_bits = p.size_bits; directed = p.directed })))
 
 -- how many elements two multisets have in common: the sum of the lesser entries
 abbrev pub common_size : List ℕ → List ℕ → ℕ
-common_size [] v = 0
-common_size (x ∷ u) [] = 0
 common_size (x ∷ u) (y ∷ v) = min x y + common_size u v
+common_size _ _ = 0
 
 -- bit c of size_bits, which has 128 bits, is 1
 abbrev pub is_wanted_size : ℕ → ℕ → Bool
@@ -37,8 +35,7 @@ is_wanted_size size_bits c = nat_lt c 128 && (size_bits / 2 ^ c % 2 == 1)
 
 -- the moves to the i-th vector: from each vector up to it, itself too, with which it has a wanted size in common
 abbrev pub moves_to_place : ℕ → List (List ℕ) → ℕ → List Move
-moves_to_place size_bits vectors i =
-    let v = slice_index_or vectors i [] in
+moves_to_place size_bits vectors i = let v = slice_index_or vectors i [] in
     map (λ u. record { from = u; to = v; len = 1 })
     (filter (λ u. is_wanted_size size_bits (common_size u v)) (take (i + 1) vectors))
 
@@ -53,8 +50,7 @@ subsets_vectors s = bounded_sums s.sum.total s.sum.bounds
 
 -- their moves, for each vertex in order those to it
 unfoldable pub moves_of_subsets : SubsetsData → List Move
-moves_of_subsets s =
-    let vectors = subsets_vectors s in
+moves_of_subsets s = let vectors = subsets_vectors s in
     flat_map (moves_to_place s.size_bits vectors) (range_with_len 0 (length vectors))
 
 -- their graph, as one of vectors

@@ -5,9 +5,9 @@
 //! smaller entry than this one are the difference of two counts.
 ghost use Rattle.std.specs.Prelude.{◌≡◌, ◌<◌, ◌≤◌, ◌-◌, ◌∷◌, [], ℕ, List, length, slice_get, slice_index, Contains, IfSome, Some};
 ghost use Rattle.sgb_vec.specs.Limits.{most_vertices};
-ghost use Rattle.sgb_vec.specs.Sums.{bounded_sums, count_of_sum};
+ghost use Rattle.sgb_vec.specs.Sums.{bounded_sums};
 ghost use Rattle.sgb_gen.specs.VectorGraphs.{vertex_among};
-ghost use Rattle.sgb_gen.specs.inner.KeptCounts.{HasCounts, HaveCounts};
+ghost use Rattle.sgb_gen.specs.inner.KeptCounts.{HasCounts, HaveCounts, count_of_sum};
 
 use sgb_vec::{Family, SumFamily};
 use std::alloc::Global;

@@ -5,7 +5,8 @@ use Rattle.std.proofs.lemmas.List.Elements.{All-nil, All-cons, All-append}
 use Rattle.sgb_graph.specs.Descriptions.{IsGraphOf}
 use Rattle.sgb_graph.specs.Graphs.{GraphData, HasNoFields, arc_record}
 use Rattle.sgb_graph.specs.Events.{Event, HasArcsOf, HasEndsBelow}
-use Rattle.sgb_graph.specs.Growth.{AddsEvents, KeepsAllButArcs, after_lower, first_arc, new_graph, new_vertex, with_event, with_id}
+use Rattle.sgb_graph.specs.Growth.{AddsEvents, KeepsAllButArcs, first_arc, new_graph, new_vertex, with_event, with_id}
+use Rattle.sgb_graph.specs.inner.Growth.{after_lower}
 use Rattle.sgb_graph.specs.Made.{no_fields, plain}
 use Rattle.sgb_graph.proofs.EventLemmas.{event_keeps, event_more, new_has_none}
 

@@ -6,7 +6,8 @@ use Rattle.std.proofs.lemmas.Bool.{and_parts, and_from, lt-ltb}
 use Rattle.std.proofs.lemmas.List.{length-append}
 use Rattle.std.proofs.lemmas.List.Sums.{AllPass-from_list_all}
 use Rattle.std.proofs.lemmas.Option.{slice_get_within}
-use Rattle.sgb_graph.specs.Graphs.{GraphData, ListsEnd, chain_of, ends_of, ends_from, links_of, arc_record}
+use Rattle.sgb_graph.specs.Graphs.{GraphData, ListsEnd, chain_of, ends_of, ends_from, arc_record}
+use Rattle.sgb_graph.specs.inner.Chains.{links_of}
 use Rattle.sgb_graph.specs.Sound.{arc_kinds, chain_fits}
 use Rattle.sgb_graph.specs.inner.Walks.{lists_lead_to_vertices}
 use Rattle.sgb_graph.specs.Growth.{IsKept, HasPlainArcs, KeepsAllButArcs, first_arc, link, with_arc, with_first}

@@ -6,7 +6,8 @@ use Rattle.std.proofs.lemmas.List.{length-append}
 use Rattle.std.proofs.lemmas.List.Sums.{AllPass-from_list_all}
 use Rattle.sgb_graph.specs.Graphs.{GraphData, ListsEnd, chain_of, ends_of, arc_record}
 use Rattle.sgb_graph.specs.Sound.{chain_fits}
-use Rattle.sgb_graph.specs.Growth.{IsKept, HasPlainArcs, KeepsAllButArcs, after_lower, first_arc, link, with_edge, with_first}
+use Rattle.sgb_graph.specs.Growth.{IsKept, HasPlainArcs, KeepsAllButArcs, first_arc, link, with_edge, with_first}
+use Rattle.sgb_graph.specs.inner.Growth.{after_lower}
 use Rattle.sgb_graph.specs.declared.fields.Vertex.{Vertex}
 use Rattle.sgb_graph.specs.declared.fields.ArcRec.{ArcRec}
 use Rattle.sgb_graph.specs.declared.fields.Link.{Link}

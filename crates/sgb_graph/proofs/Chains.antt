@@ -5,7 +5,8 @@ use Rattle.std.specs.List.{list_all, flat_map}
 use Rattle.std.specs.Option.{option_map_or}
 use Rattle.std.proofs.lemmas.List.{append-nil}
 use Rattle.std.proofs.lemmas.Bool.{and_parts, and_from}
-use Rattle.sgb_graph.specs.Graphs.{numbers_from, ends_from, numbers_of, ends_of, vertex_of, link_of, links_of}
+use Rattle.sgb_graph.specs.Graphs.{numbers_from, ends_from, numbers_of, ends_of, vertex_of, link_of}
+use Rattle.sgb_graph.specs.inner.Chains.{links_of}
 use Rattle.sgb_graph.specs.Sound.{is_vertex, leads_to_vertex}
 use Rattle.sgb_graph.specs.Growth.{link}
 use Rattle.sgb_graph.specs.declared.fields.ArcRec.{ArcRec}

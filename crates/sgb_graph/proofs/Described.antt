@@ -8,7 +8,8 @@ use Rattle.std.proofs.lemmas.List.{length-map}
 use Rattle.std.proofs.lemmas.List.FromFn.{length-enumerate_from}
 use Rattle.std.proofs.lemmas.Option.{slice_get_within, get_or_from_slice_get}
 use Rattle.sgb_vec.proofs.Lists.{All-flat_map, Contains-cases, Contains-first, Contains-none, Contains-other}
-use Rattle.sgb_graph.specs.Graphs.{GraphData, HasNoFields, arc_record, ends_from, ends_of, link_of, links_of, vertex_of}
+use Rattle.sgb_graph.specs.Graphs.{GraphData, HasNoFields, arc_record, ends_from, ends_of, link_of, vertex_of}
+use Rattle.sgb_graph.specs.inner.Chains.{links_of}
 use Rattle.sgb_graph.specs.Events.{Event, HasEndsBelow, Record, all_records, list_of, records_of}
 use Rattle.sgb_graph.specs.Descriptions.{Description, IsGraphOf}
 use Rattle.sgb_graph.specs.Made.{first_number, graph_described, number_after}

@@ -6,7 +6,8 @@ use Rattle.std.proofs.Math.Nat.{add-suc}
 use Rattle.std.proofs.lemmas.Bool.{cases_lt}
 use Rattle.std.proofs.lemmas.Bool.Decides.{Decides-eqb, Decides-ltb}
 use Rattle.std.proofs.lemmas.List.{get_or-map}
-use Rattle.sgb_graph.specs.Draws.{difference, first_x, back_to_first, x_number, y_number}
+use Rattle.sgb_graph.specs.Draws.{difference, back_to_first, x_number, y_number}
+use Rattle.sgb_graph.specs.inner.Flips.{first_x}
 use Rattle.sgb_graph.proofs.TestLemmas.{at_each_below, both_first, both_second, where_passes}
 
 -- the number that stands j places back in a longer list is the first of the shorter one

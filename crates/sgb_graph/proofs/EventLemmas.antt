@@ -8,7 +8,8 @@ use Rattle.std.proofs.lemmas.List.{append-nil, append_assoc, map-append, length-
 use Rattle.std.proofs.lemmas.List.Elements.{All-nil, All-cons, All-append, All-map, All-tail}
 use Rattle.std.proofs.lemmas.List.Concat.{flat_map-append}
 use Rattle.std.proofs.lemmas.Option.{slice_get-map}
-use Rattle.sgb_graph.specs.Graphs.{GraphData, ListsEnd, chain_of, ends_of, links_of}
+use Rattle.sgb_graph.specs.Graphs.{GraphData, ListsEnd, chain_of, ends_of}
+use Rattle.sgb_graph.specs.inner.Chains.{links_of}
 use Rattle.sgb_graph.specs.Events.{Event, Record, HasArcsOf, HasEndsBelow, all_records, links_at, list_from, records_of}
 use Rattle.sgb_graph.specs.Growth.{KeepsAllButArcs, link, new_graph, new_vertex, with_event, with_events}
 use Rattle.sgb_graph.specs.declared.fields.Ref.TheVariants.{At}

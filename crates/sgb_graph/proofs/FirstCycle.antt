@@ -8,8 +8,8 @@ use Rattle.std.proofs.lemmas.List.{get_or-replicate}
 use Rattle.std.proofs.lemmas.Nat.{pow_pos, pow-add}
 use Rattle.std.proofs.Math.Arith.{mod-mul}
 use Rattle.std.proofs.Math.Nat.{div-div-eq-div-mul, pow-succ'}
-use Rattle.sgb_graph.specs.Draws.{modulus, difference, rotated, first_x, y_number}
-use Rattle.sgb_graph.specs.inner.Flips.{IsCycle, IsFirstCycle, rotated_once}
+use Rattle.sgb_graph.specs.Draws.{modulus, difference, rotated, y_number}
+use Rattle.sgb_graph.specs.inner.Flips.{IsCycle, IsFirstCycle, first_x, rotated_once}
 use Rattle.sgb_graph.proofs.TestLemmas.{at_each_below}
 use Rattle.sgb_graph.proofs.Cycles.{difference_below, cycle_with}
 

@@ -8,7 +8,8 @@ use Rattle.std.proofs.lemmas.List.{length-append}
 use Rattle.std.proofs.lemmas.List.Folds.{list_all-append}
 use Rattle.std.proofs.lemmas.List.Sums.{AllPass-from_list_all, list_all-from_AllPass}
 use Rattle.sgb_vec.specs.Limits.{most_vertices}
-use Rattle.sgb_graph.specs.Graphs.{GraphData, ListsEnd, ends_of, links_of, chain_of}
+use Rattle.sgb_graph.specs.Graphs.{GraphData, ListsEnd, ends_of, chain_of}
+use Rattle.sgb_graph.specs.inner.Chains.{links_of}
 use Rattle.sgb_graph.specs.Sound.{IsGraph, arc_kinds, vertex_kinds, graph_kinds, chain_fits, utils_fit}
 use Rattle.sgb_graph.specs.inner.Walks.{chains_end, lists_lead_to_vertices}
 use Rattle.sgb_graph.specs.Growth.{IsKept, graph_data}

@@ -4,8 +4,10 @@ use Rattle.std.proofs.lemmas.Int.{to_z-of_z}
 use mir.Syntax.{w64}
 use mir.Val.{SFits, of_z, to_z}
 use Rattle.sgb_graph.specs.inner.Columns.{util_kind}
-use Rattle.sgb_graph.specs.Graphs.{GraphData, ends_of, links_of, vertex_of, arc_record}
-use Rattle.sgb_graph.specs.Growth.{after_lower, first_arc, link, with_arc, with_edge, with_first}
+use Rattle.sgb_graph.specs.Graphs.{GraphData, ends_of, vertex_of, arc_record}
+use Rattle.sgb_graph.specs.inner.Chains.{links_of}
+use Rattle.sgb_graph.specs.Growth.{first_arc, link, with_arc, with_edge, with_first}
+use Rattle.sgb_graph.specs.inner.Growth.{after_lower}
 use Rattle.sgb_graph.specs.inner.Kept.{kept_graph}
 use Rattle.sgb_graph.specs.inner.KeptRecords.{KeptRecords}
 use Rattle.sgb_graph.specs.inner.KeptVertices.{KeptVertices}

@@ -5,7 +5,8 @@ use Rattle.std.proofs.lemmas.Bool.{and_parts, and_from}
 use Rattle.std.proofs.Math.Seq.{take-set-lt}
 use Rattle.std.proofs.lemmas.List.{drop-set-lt, length-map}
 use Rattle.std.proofs.lemmas.Option.{slice_get-map}
-use Rattle.sgb_graph.specs.Graphs.{GraphData, chain_of, links_of}
+use Rattle.sgb_graph.specs.Graphs.{GraphData, chain_of}
+use Rattle.sgb_graph.specs.inner.Chains.{links_of}
 use Rattle.sgb_graph.specs.Sound.{arc_kinds, graph_kinds, vertex_kinds, util_fits, utils_fit}
 use Rattle.sgb_graph.specs.inner.Growth.{HoldNumbers}
 use Rattle.sgb_graph.specs.Growth.{IsKept, at_place, number_or_zero, put_numbers, some_numbers, with_ints, with_number_kinds, with_numbers, with_some_numbers}

@@ -25,14 +25,10 @@ y_number seed zero = seed
 y_number seed (suc zero) = 1
 y_number seed (suc (suc k)) = difference (difference (y_number seed k) (y_number seed (suc k))) (rotated seed (k + 1))
 
--- X(i) for i from 1 to 55: X(55) is Y(0), and X(21 k mod 55) is Y(k) for k from 1 to 54. As 21 * 21 is 1
--- modulo 55, X(i) is Y(21 i mod 55)
-abbrev pub first_x : ℕ → ℕ → ℕ
-first_x seed i = y_number seed (21 * i % 55)
-
--- X(55 + k), X(54 + k), .., X(1): each after the first 55 is the 55th before it less the 24th before it
+-- X(55 + k), X(54 + k), .., X(1): X(55) is Y(0), and X(21 k mod 55) is Y(k) for k from 1 to 54, so that X(i) is Y(21 i mod 55),
+-- as 21 * 21 is 1 modulo 55; each after these is the 55th before it less the 24th before it
 unfoldable pub back_to_first : ℕ → ℕ → List ℕ
-back_to_first seed zero = map (λ i. first_x seed i) (reverse (range_with_len 1 55))
+back_to_first seed zero = map (λ i. y_number seed (21 * i % 55)) (reverse (range_with_len 1 55))
 back_to_first seed (suc k) = let xs = back_to_first seed k in difference (slice_index xs 54) (slice_index xs 23) ∷ xs
 
 -- X(n) for n from 1 on
@@ -74,8 +70,7 @@ plain_draws seed k (suc count) = draw seed k ∷ plain_draws seed (k + 1) count
 -- so many uniform draws below m, from draw k on
 unfoldable pub uniform_draws : ℕ → ℕ → ℕ → ℕ → List ℕ
 uniform_draws seed m k zero = []
-uniform_draws seed m k (suc count) =
-    draw seed (used_draw seed m k) % m ∷ uniform_draws seed m (used_draw seed m k + 1) count
+uniform_draws seed m k (suc count) = draw seed (used_draw seed m k) % m ∷ uniform_draws seed m (used_draw seed m k + 1) count
 
 -- a generator that was started from this value stands at draw k: it holds a whole cycle of numbers,
 -- X(55 c + 1) to X(55 c + 55) where c is 5 + k / 55, and so many of them are still to come

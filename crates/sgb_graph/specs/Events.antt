@@ -34,8 +34,7 @@ links_at v k [] = []
 links_at v k (r ∷ records) =
     (if r.start == v then record { number = k; tip = r.tip; len = r.len } ∷ [] else []) ++ links_at v (k + 1) records
 
--- the list of v where the events' first record has number k: those of later events come first, and the
--- two of a loop stand in the order of their numbers
+-- the list of v where the first record has number k: those of later events come first, the two of a loop by their numbers
 unfoldable pub list_from : Bool → ℕ → List Event → ℕ → List Link
 list_from directed k [] v = []
 list_from directed k (e ∷ events) v =

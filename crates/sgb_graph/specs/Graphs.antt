@@ -55,16 +55,11 @@ vertex_of _ = 0
 
 -- the arc of the record of this number
 abbrev pub link_of : List ArcRec → ℕ → List Link
-link_of records k =
-    option_map_or (λ r. record { number = k; tip = vertex_of r.tip; len = r.len } ∷ []) (slice_get records k) []
-
--- the arcs from a first record on
-abbrev pub links_of : List ArcRec → Option ℕ → List Link
-links_of records first = flat_map (link_of records) (numbers_of records first)
+link_of records k = option_map_or (λ r. record { number = k; tip = vertex_of r.tip; len = r.len } ∷ []) (slice_get records k) []
 
 -- the list of arcs of vertex v
 abbrev pub chain_of : GraphData → ℕ → List Link
-chain_of g v = option_map_or (λ x. links_of g.records x.arcs) (slice_get g.vertices v) []
+chain_of g v = option_map_or (λ x. flat_map (link_of g.records) (numbers_of g.records x.arcs)) (slice_get g.vertices v) []
 
 -- the list of each vertex comes to an end
 abbrev pub ListsEnd : GraphData → Type 0

@@ -68,10 +68,6 @@ abbrev pub with_arc : GraphData → ℕ → ℕ → ℤ → GraphData
 with_arc g u v len =
     record g { m = g.m + 1; vertices = with_first (length g.records) u g.vertices; records = g.records ++ arc_record v (first_arc g.vertices u) len ∷ [] }
 
--- what follows the lower record, number k, of a new edge: where it is a loop, the higher one
-abbrev pub after_lower : ℕ → List Vertex → ℕ → ℕ → Option ℕ
-after_lower k vertices u v = if u == v then Some (k + 1) else first_arc vertices (min u v)
-
 -- the graph with one edge more, between u and v: it is the last two records. The lower one is the first on the
 -- list of the smaller end, the higher one on that of the other; on the list of a loop it follows the lower
 abbrev pub with_edge : GraphData → ℕ → ℕ → ℤ → GraphData
@@ -79,7 +75,8 @@ with_edge g u v len = let k = length g.records in record g {
   m = g.m + 2;
   vertices = with_first k (min u v) (with_first (k + 1) (max u v) g.vertices);
   records = g.records
-      ++ arc_record (max u v) (after_lower k g.vertices u v) len ∷ arc_record (min u v) (first_arc g.vertices (max u v)) len ∷ [];
+      ++ arc_record (max u v) (if u == v then Some (k + 1) else first_arc g.vertices (min u v)) len
+      ∷ arc_record (min u v) (first_arc g.vertices (max u v)) len ∷ [];
 }
 
 -- the graph with one event more: an arc where directed, else an edge

@@ -17,14 +17,12 @@ cut_id k id = take k id ++ codes "...)"
 
 -- an operand's id between two texts; cut where it does not fit
 unfoldable pub compound_id : List ℕ → List ℕ → List ℕ → List ℕ
-compound_id s1 id s2 =
-    let available = most_id_bytes + 1 - length (s1 ++ s2) in
+compound_id s1 id s2 = let available = most_id_bytes + 1 - length (s1 ++ s2) in
     s1 ++ (if nat_lt (length id) available then id else cut_id (available - 5) id) ++ s2
 
 -- two operands' ids between three texts; both cut where they do not fit together
 unfoldable pub double_compound_id : List ℕ → List ℕ → List ℕ → List ℕ → List ℕ → List ℕ
-double_compound_id s1 id1 s2 id2 s3 =
-    let available = most_id_bytes + 1 - length (s1 ++ s2 ++ s3) in
+double_compound_id s1 id1 s2 id2 s3 = let available = most_id_bytes + 1 - length (s1 ++ s2 ++ s3) in
     if nat_lt (length id1 + length id2) available
     then s1 ++ id1 ++ s2 ++ id2 ++ s3
     else s1 ++ cut_id (available / 2 - 5) id1 ++ s2 ++ cut_id ((available - 9) / 2) id2 ++ s3

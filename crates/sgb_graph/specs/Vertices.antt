@@ -1,7 +1,6 @@
 -- The vertices of a graph and their names [GB_GRAPH].
-use Rattle.std.specs.Prelude.{ℕ, List, [], length, map, slice_get}
-use Rattle.std.specs.List.{range_with_len}
-use Rattle.std.specs.Option.{option_map_or}
+use Rattle.std.specs.Prelude.{ℕ, List, [], length, map}
+use Rattle.std.specs.List.{range_with_len, slice_index_or}
 use Rattle.sgb_graph.specs.Graphs.{GraphData}
 
 -- how many vertices the graph has
@@ -18,4 +17,4 @@ names_of g = map (λ x. x.name) g.vertices
 
 -- the name of vertex v
 abbrev pub name_at : GraphData → ℕ → List ℕ
-name_at g v = option_map_or (λ x. x.name) (slice_get g.vertices v) []
+name_at g v = slice_index_or (names_of g) v []

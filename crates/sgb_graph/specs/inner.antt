@@ -1,4 +1,6 @@
 -- What only the private contracts and the proofs of sgb_graph speak of.
+-- the arcs from a record on
+pub mod Chains
 -- the columns of one utility field, by its kind
 pub mod Columns
 -- a uniform draw within so many draws

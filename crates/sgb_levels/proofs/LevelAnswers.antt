@@ -16,7 +16,8 @@ use Rattle.sgb.specs.Writing.{Effect, IsEnded, IsWritten}
 use Rattle.sgb.proofs.Endings.{change_of, effect_of, memory_at_once, refused_at_once}
 use Rattle.sgb_vec.proofs.Lists.{range-first, range-none}
 use Rattle.sgb_levels.specs.Distances.{AreDistances, IsDistanceIfAny}
-use Rattle.sgb_levels.specs.Lines.{IsLevelsAnswer, level_line, level_lines}
+use Rattle.sgb_levels.specs.Lines.{IsLevelsAnswer, level_lines}
+use Rattle.sgb_levels.specs.inner.Lines.{level_line}
 use Rattle.sgb_levels.proofs.Searching.{distances_found}
 
 -- the line of a vertex stands before those after it

@@ -10,16 +10,16 @@ use Rattle.std.proofs.lemmas.List.{get_or-replicate, get_or_past, length-replica
 use Rattle.std.proofs.lemmas.List.Elements.{All-contains, All-contains_itself, All-filter, All-map, Contains-get_or, filter_passes}
 use Rattle.std.proofs.lemmas.Option.{slice_get_past}
 use Rattle.sgb_vec.proofs.Lists.{All-flat_map, Contains-first, Contains-flat_map, Contains-none, Contains-passing}
-use Rattle.sgb_graph.specs.Graphs.{GraphData, chain_of, links_of}
+use Rattle.sgb_graph.specs.Graphs.{GraphData, chain_of, link_of, numbers_of}
 use Rattle.sgb_graph.specs.Growth.{IsKept, first_arc}
 use Rattle.sgb_graph.specs.declared.fields.Link.{Link}
 use Rattle.sgb_graph.specs.declared.fields.Vertex.{Vertex}
 use Rattle.sgb_graph.proofs.AddingArcs.{chain_of_vertex}
 use Rattle.sgb_graph.proofs.Growing.{lists_end, parts_of}
 use Rattle.sgb_graph.proofs.Tips.{tips_below}
-use Rattle.sgb_levels.specs.Distances.{AreDistances, HasArc, IsDistanceIfAny, IsPath, IsWalk, end_of, tips_from}
+use Rattle.sgb_levels.specs.Distances.{AreDistances, HasArc, IsDistanceIfAny, IsPath, IsWalk, end_of}
 use Rattle.sgb_levels.specs.inner.Marks.{all_marked, marked, marks}
-use Rattle.sgb_levels.specs.inner.Searches.{IsFoundAt, IsSearched, unmarked}
+use Rattle.sgb_levels.specs.inner.Searches.{IsFoundAt, IsSearched, tips_from, unmarked}
 use Rattle.sgb_levels.proofs.Marking.{Marking, marking-all}
 
 -- a path, and an arc from its end
@@ -143,7 +143,7 @@ searched-none g found empty none = searched_begun g found found [] [] none (λ s
 -- no arc leads from what is no vertex
 no_arc : (g : GraphData) (u v : ℕ) → length g.vertices ≤ u → HasArc g u v → ⊥
 no_arc g u v past arc =
-    let none : tips_from g u ≡ [] = ap (λ (x : Option Vertex). map (λ l. l.tip) (option_map_or (λ y. links_of g.records y.arcs) x [])) (slice_get_past g.vertices u past) in
+    let none : tips_from g u ≡ [] = ap (λ (x : Option Vertex). map (λ l. l.tip) (option_map_or (λ y. flat_map (link_of g.records) (numbers_of g.records y.arcs)) x [])) (slice_get_past g.vertices u past) in
     Contains-none v (subst (λ ts. Contains ts v) none arc)
 
 -- so a walk to a vertex begins at one

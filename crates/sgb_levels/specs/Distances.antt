@@ -3,13 +3,9 @@ use Rattle.std.specs.Prelude.{◌≡◌, ◌≤◌, ◌<◌, ℕ, List, [], ◌�
 use Rattle.std.specs.List.{Contains, slice_index_or}
 use Rattle.sgb_graph.specs.Graphs.{GraphData, chain_of}
 
--- where the arcs of vertex v lead
-abbrev pub tips_from : GraphData → ℕ → List ℕ
-tips_from g v = map (λ l. l.tip) (chain_of g v)
-
 -- an arc leads from u to v
 abbrev pub HasArc : GraphData → ℕ → ℕ → Type 0
-HasArc g u v = Contains (tips_from g u) v
+HasArc g u v = Contains (map (λ l. l.tip) (chain_of g u)) v
 
 -- after u come these vertices, and from each of them an arc leads to the next
 abbrev pub IsWalk : GraphData → ℕ → List ℕ → Type 0

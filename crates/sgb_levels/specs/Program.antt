@@ -23,13 +23,9 @@ AskFor words read = read ≡ Err fault.Usage
 abbrev pub AskForNoStdin : List (List ℕ) → Type 0
 AskForNoStdin words = (e : Expr) → AskFor words (Ok e) → has_stdin (expression_of e) ≡ false
 
--- the usage line
-unfoldable pub levels_usage_line : List ℕ
-levels_usage_line = codes "usage: sgb_levels EXPR\n"
-
 -- the line of a refusal: of its own for an invalid command line, else that of `sgb`
-abbrev pub refusal_line : Fault → List ℕ
-refusal_line fault.Usage = levels_usage_line
+unfoldable pub refusal_line : Fault → List ℕ
+refusal_line fault.Usage = codes "usage: sgb_levels EXPR\n"
 refusal_line f = fault_line f
 
 -- only this refusal of the words was reported
@@ -43,12 +39,10 @@ AreLevelsOn input e answer = (value : Result GraphData Panic) × IsValueOn input
 -- The distances in this expression's graph were written: standard input holds a text, the one that it tells, there is an answer
 -- on it, and it was given, or the run was stopped, as runs of `sgb` are.
 abbrev pub AreLevelsWritten : {S : Type 0} → Expression → Input → Left S → Type 0
-AreLevelsWritten e source l =
-    (held : List ℕ) × IfSome source.bytes (λ bytes. held ≡ bytes)
+AreLevelsWritten e source l = (held : List ℕ) × IfSome source.bytes (λ bytes. held ≡ bytes)
     × (a : Result (List ℕ) Fault) × AreLevelsOn held e a × IsRunFrom (has_stdin e && source.failed) a l
 
 -- what these words ask for was done, or their refusal was reported
 abbrev pub IsLevelsRun : {S : Type 0} → List (List ℕ) → Input → Left S → Type 0
-IsLevelsRun words source l =
-    ((e : Expr) × AskFor words (Ok e) × AreLevelsWritten (expression_of e) source l)
+IsLevelsRun words source l = ((e : Expr) × AskFor words (Ok e) × AreLevelsWritten (expression_of e) source l)
     ⊎ ((f : Fault) × AskFor words (Err f) × IsRefused f l)

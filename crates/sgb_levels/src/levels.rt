@@ -2,9 +2,9 @@
 //! arc leads from it, then those to which one leads from these, each vertex once.
 ghost use Rattle.std.specs.Prelude.{◌≡◌, ◌<◌, ◌+◌, [], length, None, replicate, IfOk, IsOkUnless};
 ghost use Rattle.std.specs.List.{All, flat_map};
-ghost use Rattle.sgb_levels.specs.Distances.{AreDistances, tips_from};
+ghost use Rattle.sgb_levels.specs.Distances.{AreDistances};
 ghost use Rattle.sgb_levels.specs.inner.Marks.{all_marked, marked, marks};
-ghost use Rattle.sgb_levels.specs.inner.Searches.{IsSearched, unmarked};
+ghost use Rattle.sgb_levels.specs.inner.Searches.{IsSearched, tips_from, unmarked};
 
 use sgb_graph::Graph;
 use sgb_vec::Panic;

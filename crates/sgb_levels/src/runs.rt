@@ -11,8 +11,9 @@ ghost use Rattle.sgb.specs.Inputs.{LosesAtMost};
 ghost use Rattle.sgb.specs.Program.{unread_fault};
 ghost use Rattle.sgb_values.specs.Values.{most_input};
 ghost use Rattle.sgb.specs.Writing.{IsWritten, effect};
-ghost use Rattle.sgb_levels.specs.Lines.{distance_text, level_line, level_lines, line_of_level};
-ghost use Rattle.sgb_levels.specs.Program.{AreLevelsOn, AskFor, AskForNoStdin, IsLevelsRun, IsRefused, refusal_line, levels_usage_line};
+ghost use Rattle.sgb_levels.specs.Lines.{level_lines, line_of_level};
+ghost use Rattle.sgb_levels.specs.inner.Lines.{distance_text, level_line};
+ghost use Rattle.sgb_levels.specs.Program.{AreLevelsOn, AskFor, AskForNoStdin, IsLevelsRun, IsRefused, refusal_line};
 // For the search alone.
 ghost use Rattle.std.specs.Prelude.{None};
 ghost use Rattle.std.specs.List.{slice_index_or};
@@ -69,6 +70,7 @@ pub fn run_levels<R: Source, W: Sink, E: Sink>(
 }
 
 // Reports why the words are refused, and returns the exit status.
+#[tactic(auto, unfolding(crate::specs::Program::refusal_line))]
 fn report_refusal<E: Sink>(fault: &Fault, errors: &mut E) -> u8
     ensures line { AppendsUnlessFailed (change E.written E.has_failed errors.old errors.new)
         (refusal_line fault.now) }
@@ -81,10 +83,10 @@ fn report_refusal<E: Sink>(fault: &Fault, errors: &mut E) -> u8
 }
 
 // Writes the usage line, and returns its exit status.
-#[tactic(auto, unfolding(crate::specs::Program::levels_usage_line))]
+#[tactic(auto, unfolding(crate::specs::Program::refusal_line))]
 fn report_usage<E: Sink>(errors: &mut E) -> u8
     ensures line { AppendsUnlessFailed (change E.written E.has_failed errors.old errors.new)
-        levels_usage_line }
+        (refusal_line Fault.Usage) }
     ensures status { result ≡ 2 }
 {
     let _written = put_all(errors, b"usage: sgb_levels EXPR\n");

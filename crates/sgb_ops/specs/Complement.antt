@@ -22,6 +22,5 @@ complement_events g copy self directed = flat_map (λ u.
 
 -- complement(g, copy, self, directed): it is never refused
 abbrev pub complement_of : GraphData → Bool → Bool → Bool → Result Description Panic
-complement_of g copy self directed =
-    Ok (plain directed (complement_events g copy self directed) (names_of g)
+complement_of g copy self directed = Ok (plain directed (complement_events g copy self directed) (names_of g)
     (compound_id (codes "complement(") g.id (closing (flag_text copy ∷ flag_text self ∷ flag_text directed ∷ []))))

@@ -21,6 +21,5 @@ union_events g h directed = flat_map (λ v.
 
 -- gunion(g, h, multi, directed): it is never refused
 abbrev pub gunion_of : GraphData → GraphData → Bool → Bool → Result Description Panic
-gunion_of g h multi directed =
-    Ok (plain directed (merged_unless multi directed (union_events g h directed)) (names_of g)
+gunion_of g h multi directed = Ok (plain directed (merged_unless multi directed (union_events g h directed)) (names_of g)
     (double_compound_id (codes "gunion(") g.id (codes ",") h.id (closing (flag_text multi ∷ flag_text directed ∷ []))))

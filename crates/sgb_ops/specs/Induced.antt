@@ -25,8 +25,7 @@ events_between g entries directed = flat_map (λ v. flat_map (λ u. flat_map (λ
 
 -- the events inside the entries and then those between copies: loops, and parallel ones apart, only where they are wanted
 abbrev pub induced_events : GraphData → List Entry → Bool → Bool → Bool → List Event
-induced_events g entries self multi directed =
-    merged_unless multi directed
+induced_events g entries self multi directed = merged_unless multi directed
     (filter (λ e. self || not (e.from == e.to)) (events_within entries directed ++ events_between g entries directed))
 
 -- induced(g, entries, self, multi, directed): the description in the id is empty

@@ -23,8 +23,7 @@ count_to u links = count_by (λ l. l.tip == u) links
 abbrev pub least_to : ℕ → List Link → ℤ
 least_to u links = least_of (map (λ l. l.len) (filter (λ l. l.tip == u) links))
 
--- how many arcs to u the result has, where the operands have gs and hs: as many as the one that has fewer;
--- but at most one, unless parallel ones are wanted
+-- how many arcs to u the result has of gs and hs: as many as the one that has fewer; one at most unless parallel ones are wanted
 abbrev pub common_count : Bool → ℕ → List Link → List Link → ℕ
 common_count true u gs hs = min (count_to u gs) (count_to u hs)
 common_count false u gs hs = min 1 (min (count_to u gs) (count_to u hs))
@@ -49,6 +48,5 @@ intersection_events g h multi directed =
 
 -- intersection(g, h, multi, directed): it is never refused
 abbrev pub intersection_of : GraphData → GraphData → Bool → Bool → Result Description Panic
-intersection_of g h multi directed =
-    Ok (plain directed (intersection_events g h multi directed) (names_of g)
+intersection_of g h multi directed = Ok (plain directed (intersection_events g h multi directed) (names_of g)
     (double_compound_id (codes "intersection(") g.id (codes ",") h.id (closing (flag_text multi ∷ flag_text directed ∷ []))))

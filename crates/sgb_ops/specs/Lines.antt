@@ -34,8 +34,7 @@ is_of_edges g lines = list_all (has_way_back g) lines && (length lines == g.m / 
 
 -- the lines, or why they are refused: no graph of edges where one is wanted; then more lines than a graph can have vertices
 abbrev pub accepted_lines : GraphData → Bool → List Line → Result (List Line) Panic
-accepted_lines g directed lines =
-    if not directed && not (is_of_edges g lines) then Err Invalid
+accepted_lines g directed lines = if not directed && not (is_of_edges g lines) then Err Invalid
     else (if nat_lt most_vertices (length lines) then Err VeryBad else Ok lines)
 
 -- directed, the other line begins where this one ends; undirected, they share a vertex

@@ -6,8 +6,7 @@ use Rattle.sgb_ops.specs.Lengths.{least_of}
 
 -- the two events have the same ends; those of edges in either order
 abbrev pub has_ends_of : Bool → Event → Event → Bool
-has_ends_of directed e f =
-    ((f.from == e.from) && (f.to == e.to)) || (not directed && (f.from == e.to) && (f.to == e.from))
+has_ends_of directed e f = ((f.from == e.from) && (f.to == e.to)) || (not directed && (f.from == e.to) && (f.to == e.from))
 
 -- of the events with the same ends the first stays in its place, with the least length of them all
 unfoldable pub merged : Bool → List Event → List Event

@@ -18,8 +18,7 @@ use Rattle.sgb_ops.specs.declared.products.ProductType.TheVariants.{Cartesian, D
 
 -- 0 is the cartesian product, an odd number the direct one, any other even number the strong one
 abbrev pub product_type : ℤ → ProductType
-product_type kind =
-    if unsigned_abs kind == 0 then Cartesian else (if unsigned_abs kind % 2 == 1 then Direct else Strong)
+product_type kind = if unsigned_abs kind == 0 then Cartesian else (if unsigned_abs kind % 2 == 1 then Direct else Strong)
 
 -- the number of a product in its id
 abbrev pub type_number : ProductType → ℕ
@@ -43,8 +42,7 @@ both_steps g h directed = flat_map (λ x. flat_map (λ y. flat_map (λ a.
     map (λ b. step h (x, y) (a.tip, b.tip) (int_min a.len b.len)) (chain_of h y))
     (taken directed g x)) (places_of h)) (places_of g)
 
--- the cartesian product steps in one coordinate, the direct one in both; the strong one has the events of
--- the cartesian one and then those of the direct one
+-- the cartesian product steps in one coordinate, the direct one in both; the strong one has the former's and then the latter's
 abbrev pub product_events : ProductType → GraphData → GraphData → Bool → List Event
 product_events Cartesian g h directed = single_steps g h directed
 product_events Direct g h directed = both_steps g h directed
@@ -52,8 +50,7 @@ product_events Strong g h directed = single_steps g h directed ++ both_steps g h
 
 -- product(g, h, kind, directed): refused where there are more pairs than a graph can have vertices
 abbrev pub product_graph_of : GraphData → GraphData → ℤ → Bool → Result Description Panic
-product_graph_of g h kind directed =
-    if nat_lt most_vertices (order_of g * order_of h) then Err VeryBad
+product_graph_of g h kind directed = if nat_lt most_vertices (order_of g * order_of h) then Err VeryBad
     else Ok (plain directed (product_events (product_type kind) g h directed)
     (flat_map (λ a. map (λ b. joined_name a (codes ",") b) (names_of h)) (names_of g))
     (double_compound_id (codes "product(") g.id (codes ",") h.id

@@ -11,8 +11,7 @@ use Rattle.sgb_graph.specs.declared.fields.Link.{Link}
 unfoldable pub each_edge_once : ℕ → List Link → List Link
 each_edge_once v [] = []
 each_edge_once v (l ∷ []) = if nat_lt l.tip v then [] else l ∷ []
-each_edge_once v (l ∷ k ∷ links) =
-    if nat_lt l.tip v then each_edge_once v (k ∷ links)
+each_edge_once v (l ∷ k ∷ links) = if nat_lt l.tip v then each_edge_once v (k ∷ links)
     else l ∷ (if (l.tip == v) && (k.number == l.number + 1) then each_edge_once v links else each_edge_once v (k ∷ links))
 
 -- the arcs taken of vertex v: the whole list for a directed result

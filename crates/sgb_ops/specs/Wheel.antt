@@ -29,8 +29,7 @@ accepted_rim n n1 directed = and_then (accepted_middle n1) (λ middle. board (li
 -- place of the other, which is a circle of n vertices, and where n is not positive the board of 8 by 8; that board's
 -- refusals come before those of the whole
 abbrev pub wheel_of : ℤ → ℤ → Bool → Result Description Panic
-wheel_of n n1 directed =
-    and_then (accepted_middle n1) (λ middle.
+wheel_of n n1 directed = and_then (accepted_middle n1) (λ middle.
     and_then (board (line n (pos 1) (pos 1) directed)) (λ rim.
     and_then (board (pair_of_vertices directed)) (λ pair.
     and_then (induced_of (graph_described pair) (middle ∷ entry.Graph (graph_described rim) ∷ []) false false directed) (λ d.

@@ -18,8 +18,7 @@ command_shape name options = record (new_shape name) { rules = expression_rule �
 
 -- `sgb` and its commands
 abbrev pub command_line : App
-command_line =
-    fold with_subcommand (new_app (codes "sgb"))
+command_line = fold with_subcommand (new_app (codes "sgb"))
     (command_shape (codes "names") (codes "after" ∷ codes "skip" ∷ []) ∷ command_shape (codes "list") (codes "after" ∷ codes "skip" ∷ [])
     ∷ command_shape (codes "save") [] ∷ new_shape (codes "queen") ∷ command_shape (codes "flip") [] ∷ [])
 

@@ -23,15 +23,13 @@ IsResumeOf _ _ _ = ⊥
 
 -- an invalid command line: clap refuses the words, there is no command, both options stand, or K is no number of 1 to 18 digits
 abbrev pub IsInvalidCommandLine : List Text → Type 0
-IsInvalidCommandLine words =
-    ((fault_of command_line words ≢ []) ⊎ (subcommand_of command_line words ≡ None))
+IsInvalidCommandLine words = ((fault_of command_line words ≢ []) ⊎ (subcommand_of command_line words ≡ None))
     ⊎ ((command : Text) × (rows : List Row) × (text : Text) × Asks words command rows text
     × ((resume : Resume) → IsResumeOf (first_of (codes "after") rows) (first_of (codes "skip") rows) resume → ⊥))
 
 -- the words ask this command for the answer, from here on, to an expression that is read as this or refused so
 abbrev pub IsAskedOf : List Text → Text → Resume → Result Expr Fault → Type 0
-IsAskedOf words command resume read =
-    (rows : List Row) × (text : Text) × Asks words command rows text
+IsAskedOf words command resume read = (rows : List Row) × (text : Text) × Asks words command rows text
     × IsResumeOf (first_of (codes "after") rows) (first_of (codes "skip") rows) resume × IsReadAs text read
 
 -- the words make this request

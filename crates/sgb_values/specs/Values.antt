@@ -55,8 +55,7 @@ of_graphs (Intersection multi directed) g h = intersection_of g h multi directed
 of_graphs (Product kind directed) g h = product_graph_of g h kind directed
 
 abbrev mutual
-  -- the graph of an expression where `stdin` has this value, or the first refusal: the operands' from left to right, then
-  -- the operation's
+  -- the graph of an expression where `stdin` has this value, or the first refusal: of its operands in order, then its own
   pub value_of : Result GraphData Panic → Expression → Result GraphData Panic
   value_of stdin (Generated f) = made (generator_value f)
   value_of stdin (OfNumbers operation) = made (of_numbers operation)

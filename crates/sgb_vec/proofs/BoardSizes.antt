@@ -6,7 +6,7 @@ use Rattle.std.proofs.lemmas.Bool.Decides.{nat_tests}
 use Rattle.std.proofs.lemmas.List.FromFn.{map-range_with_len_more, get_or-map-range_with_len, length-map-range_with_len}
 use Rattle.std.proofs.lemmas.List.Folds.{list_any_at, list_any-append}
 use Rattle.sgb_vec.specs.Limits.{most_dimensions, most_entry}
-use Rattle.sgb_vec.specs.Sizes.{chessboard, zero_after_stop, repeated, count_by_stop, board_by_stop}
+use Rattle.sgb_vec.specs.Sizes.{zero_after_stop, repeated, count_by_stop, board_by_stop}
 use Rattle.sgb_vec.specs.inner.Sizes.{has_great_size}
 use Rattle.sgb_vec.specs.declared.panics.Panic.TheVariants.{VeryBad}
 
@@ -41,6 +41,6 @@ pub board_by_stop-fits : (entries : List ℤ) (s : List ℕ) (e : ℤ) → 0 < l
 board_by_stop-fits entries s e some few small = grind arith
 
 -- 8 and 8 with zeros after them are the chessboard
-pub chessboard_by_stop : board_by_stop (pos 8 ∷ pos 8 ∷ pos 0 ∷ pos 0 ∷ []) (8 ∷ 8 ∷ []) (pos 0) ≡ Ok chessboard
+pub chessboard_by_stop : board_by_stop (pos 8 ∷ pos 8 ∷ pos 0 ∷ pos 0 ∷ []) (8 ∷ 8 ∷ []) (pos 0) ≡ Ok (record { params = pos 8 ∷ pos 8 ∷ pos 0 ∷ pos 0 ∷ []; sizes = 8 ∷ 8 ∷ [] })
 unfolding repeated
 chessboard_by_stop = refl

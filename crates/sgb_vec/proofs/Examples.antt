@@ -5,7 +5,8 @@ use Rattle.sgb_vec.specs.Sizes.{Normalized, repeated, board_of}
 use Rattle.sgb_vec.specs.Boxes.{box, box_of}
 use Rattle.sgb_vec.specs.Results.{and_then}
 use Rattle.sgb_vec.specs.Bounds.{simplex_of}
-use Rattle.sgb_vec.specs.Sums.{bounded_sums, count_of_sum, has_great_count, sum_of}
+use Rattle.sgb_vec.specs.Sums.{bounded_sums, has_great_count, sum_of}
+use Rattle.sgb_vec.specs.inner.SumRows.{count_of_sum}
 use Rattle.sgb_vec.specs.Names.{name_of_vector}
 use Rattle.sgb_vec.specs.NamedVectors.{is_vector, vector_of}
 use Rattle.sgb_vec.specs.declared.panics.Panic.{Panic}

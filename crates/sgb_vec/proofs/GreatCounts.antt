@@ -7,8 +7,8 @@ use Rattle.std.proofs.lemmas.List.{get_or_default, take_all}
 use Rattle.std.proofs.lemmas.List.Folds.{list_any_at, Any-from_list_any}
 use Rattle.std.proofs.lemmas.List.FromFn.{length-range_with_len, get_or-range_with_len}
 use Rattle.sgb_vec.specs.Limits.{most_vertices}
-use Rattle.sgb_vec.specs.Sums.{count_of_sum, has_great_count}
-use Rattle.sgb_vec.specs.inner.SumRows.{CountsSums, HasGreatSum, great_bound, has_great_three}
+use Rattle.sgb_vec.specs.Sums.{has_great_count}
+use Rattle.sgb_vec.specs.inner.SumRows.{CountsSums, HasGreatSum, count_of_sum, great_bound, has_great_three}
 use Rattle.sgb_vec.proofs.SumCounts.{count_of_sum-nil, count_of_sum-cons, count_of_sum-remove, count_of_sum-take_le, counts_rise}
 use Rattle.sgb_vec.proofs.Hills.{hill_top}
 use Rattle.sgb_vec.proofs.Windows.{window, window_le, window_prefix, up_to, up_to_ones, up_to_le, up_to-suc, one_at_zero, window-one_at_zero_prefix, window-last_le}

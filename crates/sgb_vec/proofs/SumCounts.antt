@@ -7,7 +7,8 @@ use Rattle.std.proofs.lemmas.List.{length-map}
 use Rattle.std.proofs.lemmas.List.Elements.{filter-append}
 use Rattle.std.proofs.lemmas.List.Sums.{sum_by-cons}
 use Rattle.sgb_vec.specs.Boxes.{box}
-use Rattle.sgb_vec.specs.Sums.{bounded_sums, count_of_sum}
+use Rattle.sgb_vec.specs.Sums.{bounded_sums}
+use Rattle.sgb_vec.specs.inner.SumRows.{count_of_sum}
 use Rattle.sgb_vec.proofs.Lists.{filter-none}
 use Rattle.sgb_vec.proofs.Convolutions.{products_from, products_same_factors, windows-products}
 use Rattle.sgb_vec.proofs.Hills.{IsHill, IsHill-window}

@@ -9,7 +9,8 @@ use Rattle.std.proofs.lemmas.Option.{get_or_from_slice_get, slice_get-get_or, sl
 use Rattle.sgb_vec.specs.Boxes.{box}
 use Rattle.sgb_vec.specs.Lexicographic.{IsWithin}
 use Rattle.sgb_vec.specs.Order.{IsLast, IsNext}
-use Rattle.sgb_vec.specs.Sums.{bounded_sums, count_of_sum}
+use Rattle.sgb_vec.specs.Sums.{bounded_sums}
+use Rattle.sgb_vec.specs.inner.SumRows.{count_of_sum}
 use Rattle.sgb_vec.specs.inner.SumPlaces.{count_below}
 use Rattle.sgb_vec.proofs.Lists.{slice_get-left}
 use Rattle.sgb_vec.proofs.SumCounts.{filter-map, tally, count_of_sum-nil, count_of_sum-cons}

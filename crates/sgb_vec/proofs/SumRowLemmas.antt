@@ -6,8 +6,7 @@ use Rattle.std.proofs.lemmas.List.{get_or_append_left, get_or-append_right, get_
 use Rattle.std.proofs.lemmas.List.Elements.{All-nil, All-cons}
 use Rattle.std.proofs.lemmas.List.Sums.{sum_by-cons, sum_by_more, sum_by-le}
 use Rattle.sgb_vec.specs.Limits.{most_vertices}
-use Rattle.sgb_vec.specs.Sums.{count_of_sum}
-use Rattle.sgb_vec.specs.inner.SumRows.{CountsSums}
+use Rattle.sgb_vec.specs.inner.SumRows.{CountsSums, count_of_sum}
 use Rattle.sgb_vec.proofs.Windows.{up_to, window_prefix, window_after}
 use Rattle.sgb_vec.proofs.SumCounts.{count_of_sum-nil, count_of_sum-snoc, count_of_sum-far, count_of_sum-pairs}
 use Rattle.sgb_vec.proofs.Convolutions.{products_from, products_same, products_none}

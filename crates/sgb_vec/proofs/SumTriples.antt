@@ -2,8 +2,7 @@
 use Rattle.std.proofs.Common.{rules, ◌≡◌, ℕ, suc, zero, ◌+◌, ◌-◌, ◌*◌, ◌≤◌, List, [], ◌∷◌, get_or, refl, sym, ap, ◌∙◌, inl, inr, add-one, arith}
 use Rattle.std.proofs.lemmas.Bool.{cases_lt}
 use Rattle.std.proofs.Math.Nat.{mul-add, mul-zero}
-use Rattle.sgb_vec.specs.Sums.{count_of_sum}
-use Rattle.sgb_vec.specs.inner.SumRows.{CountsSums}
+use Rattle.sgb_vec.specs.inner.SumRows.{CountsSums, count_of_sum}
 use Rattle.sgb_vec.proofs.Convolutions.{products_from, products_same, products_same_factors}
 use Rattle.sgb_vec.proofs.SumCounts.{count_of_sum-cons, count_of_sum-pairs, count_of_sum-two}
 use Rattle.sgb_vec.proofs.Windows.{shifted, window, window_same, window_prefix, window_after, up_to, up_to-window_one, one_at_zero}

@@ -10,8 +10,7 @@ use Rattle.sgb_vec.specs.declared.panics.Panic.TheVariants.{Bad, VeryBad}
 -- n0 as the official name has it: -2 in the place of 0
 abbrev pub first_parameter : ℤ → ℤ
 first_parameter (pos zero) = negsuc 1
-first_parameter (pos (suc b)) = pos (suc b)
-first_parameter (negsuc d) = negsuc d
+first_parameter n = n
 
 -- the bounds that are repeated: those before the stop, or n alone where none stands there
 abbrev pub bounds_to_repeat : ℕ → List ℕ → List ℕ
@@ -25,8 +24,7 @@ clamped_parameter n (negsuc d) = negsuc d
 
 -- the parameters and bounds, where s is to be repeated before the stop e of the entries: to d + 1 bounds where e is -d
 abbrev pub simplex_by_stop : ℕ → List ℤ → List ℕ → ℤ → Result Normalized Panic
-simplex_by_stop n entries s e =
-    if nat_lt (most_dimensions + 1) (count_by_stop 1 s e) then Err Bad
+simplex_by_stop n entries s e = if nat_lt (most_dimensions + 1) (count_by_stop 1 s e) then Err Bad
     else (if nat_lt most_vertices n then Err VeryBad
     else Ok (record {
       params = pos n ∷ map (clamped_parameter n) (zero_after_stop entries);
@@ -37,6 +35,5 @@ simplex_by_stop n entries s e =
 -- negative n first, then too many dimensions, then n above 1,000,000,000
 abbrev pub simplex_of : ℤ → ℤ → ℤ → ℤ → ℤ → ℤ → Result Normalized Panic
 simplex_of (negsuc n) n0 n1 n2 n3 n4 = Err Bad
-simplex_of (pos n) n0 n1 n2 n3 n4 =
-    let entries = first_parameter n0 ∷ n1 ∷ n2 ∷ n3 ∷ n4 ∷ [] in
+simplex_of (pos n) n0 n1 n2 n3 n4 = let entries = first_parameter n0 ∷ n1 ∷ n2 ∷ n3 ∷ n4 ∷ [] in
     simplex_by_stop n entries (bounds_to_repeat n (before_stop entries)) (stop_of entries)

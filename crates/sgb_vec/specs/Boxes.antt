@@ -15,9 +15,7 @@ abbrev pub product_of : List ℕ → ℕ
 product_of [] = 1
 product_of (s ∷ sizes) = s * product_of sizes
 
--- the sizes of a box that a graph can have as its vertices, or why it cannot: too many dimensions
--- first, then too many vectors, by the exact product
+-- the sizes of a box that can be a graph's vertices, or why not: too many dimensions; then too many vectors, by the exact product
 abbrev pub box_of : List ℕ → Result (List ℕ) Panic
-box_of sizes =
-    if nat_lt most_dimensions (length sizes) then Err Bad
+box_of sizes = if nat_lt most_dimensions (length sizes) then Err Bad
     else (if nat_lt most_vertices (product_of sizes) then Err VeryBad else Ok sizes)

@@ -20,13 +20,10 @@ abbrev pub numbers_between_dots : List ℕ → List ℕ
 numbers_between_dots [] = []
 numbers_between_dots (b ∷ text) = map (λ part. digits_value 10 part) (slice_split (λ c. c == 46) (b ∷ text))
 
--- x, if the text is its name
-abbrev pub if_named : List ℕ → List ℕ → Option (List ℕ)
-if_named text x = if is_vector x && pointwise nat_eq (name_of_vector x) text then Some x else None
-
 -- the vector whose name is the text, if there is one
 unfoldable pub vector_of : List ℕ → Option (List ℕ)
-vector_of text = if_named text (numbers_between_dots text)
+vector_of text = let x = numbers_between_dots text in
+    if is_vector x && pointwise nat_eq (name_of_vector x) text then Some x else None
 
 -- a text stands for x exactly where it is the name of x, a vector that a name may stand for
 pub record NamesReadBack : Type 0 where

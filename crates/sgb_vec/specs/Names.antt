@@ -3,8 +3,7 @@ use Rattle.std.specs.Prelude.{ℕ, ◌≤◌, ◌==◌, ◌&&◌, Bool, not, nat
 use Rattle.std.specs.List.{join_with_byte}
 use Rattle.sgb_vec.specs.Limits.{most_bytes}
 
--- the name of a vector [GB_BASIC, board]: its entries in decimal with no leading zeros, joined by
--- dots (46 is the dot); of the empty vector, the empty text
+-- the name of a vector [GB_BASIC, board]: its entries in decimal, with no leading zeros, and dots (46) between them
 unfoldable pub name_of_vector : List ℕ → List ℕ
 name_of_vector entries = join_with_byte 46 (map decimal entries)
 

@@ -15,21 +15,14 @@ pub record BoundedSum : Type 0 where
 unfoldable pub bounded_sums : ℕ → List ℕ → List (List ℕ)
 bounded_sums n bounds = filter (λ v. sum v == n) (box (map (λ b. b + 1) bounds))
 
--- how many vectors within the bounds add to k
-abbrev pub count_of_sum : ℕ → List ℕ → ℕ
-count_of_sum k bounds = length (bounded_sums k bounds)
-
--- for some j from 1 to d and some k up to n, more vectors (x0, .., xj) within the bounds add to k than a graph
--- can have vertices
+-- for some j from 1 to d and k up to n, more vectors (x0, .., xj) within the bounds add to k than a graph can have vertices
 unfoldable pub has_great_count : ℕ → List ℕ → Bool
 has_great_count n bounds =
-    list_any (λ j. list_any (λ k. nat_lt most_vertices (count_of_sum k (take (j + 1) bounds))) (range_with_len 0 (n + 1)))
+    list_any (λ j. list_any (λ k. nat_lt most_vertices (length (bounded_sums k (take (j + 1) bounds)))) (range_with_len 0 (n + 1)))
     (range_with_len 1 (length bounds - 1))
 
--- a bounded sum whose vectors a graph can have as its vertices, or why it cannot: a negative sum first, then one
--- above 1,000,000,000, then too many vectors
+-- a sum whose vectors can be a graph's vertices, or why not: it is negative; then above 1,000,000,000; then too many vectors
 abbrev pub sum_of : ℤ → List ℕ → Result BoundedSum Panic
 sum_of (negsuc n) bounds = Err Bad
-sum_of (pos n) bounds =
-    if nat_lt most_vertices n then Err VeryBad
+sum_of (pos n) bounds = if nat_lt most_vertices n then Err VeryBad
     else (if has_great_count n bounds then Err VeryBad else Ok (record { total = n; bounds = bounds }))

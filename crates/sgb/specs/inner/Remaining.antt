@@ -5,7 +5,8 @@ use Rattle.std.specs.Option.{MatchOption}
 use Rattle.sgb_vec.specs.Names.{name_of_vector}
 use Rattle.sgb_gen.specs.VectorGraphs.{vertex_among}
 use Rattle.sgb.specs.Locals.{left_out_after}
-use Rattle.sgb.specs.Outcomes.{left_out, vertex_named}
+use Rattle.sgb.specs.Outcomes.{left_out}
+use Rattle.sgb.specs.inner.Named.{vertex_named}
 use Rattle.sgb_requests.specs.declared.requests.Resume.{Resume}
 
 -- an answer begins after this member, or with the first one: what is left of the members is what is not left out

@@ -2,7 +2,8 @@
 ghost use Rattle.std.specs.Prelude.{◌≡◌, ◌≢◌, ◌≤◌, ◌∷◌, ℕ, ℤ, suc, false, IfErr};
 ghost use Rattle.sgb_file.specs.Devices.{change};
 ghost use Rattle.sgb_graph.specs.Draws.{IsAtDraw, modulus, seed_of};
-ghost use Rattle.sgb.specs.FlipAnswers.{accepted_draws, drawn, drawn_from, flip_answer, number_lines, number_within};
+ghost use Rattle.sgb.specs.FlipAnswers.{accepted_draws, drawn_from, flip_answer, number_lines, number_within};
+ghost use Rattle.sgb.specs.inner.FlipAnswers.{drawn};
 ghost use Rattle.sgb.specs.inner.Texts.{number_line};
 ghost use Rattle.sgb.specs.Writing.{IsEnded, IsWritten, effect};
 ghost use Rattle.sgb.specs.inner.Pages.{IsPaged};

@@ -1,7 +1,12 @@
 -- How long some lists of a graph are.
-use Rattle.std.specs.Prelude.{◌≡◌, ℕ, ◌+◌, ◌<◌, List, length, Some, slice_index}
-use Rattle.sgb_graph.specs.Graphs.{GraphData, chain_of, links_of}
+use Rattle.std.specs.Prelude.{◌≡◌, ℕ, ◌+◌, ◌<◌, List, flat_map, length, Option, Some, slice_index}
+use Rattle.sgb_graph.specs.Graphs.{GraphData, chain_of, link_of, numbers_of}
 use Rattle.sgb_graph.specs.declared.fields.ArcRec.{ArcRec}
+use Rattle.sgb_graph.specs.declared.fields.Link.{Link}
+
+-- the arcs from a first record on
+abbrev pub links_of : List ArcRec → Option ℕ → List Link
+links_of records first = flat_map (link_of records) (numbers_of records first)
 
 -- sizes of the lists of vertex v and the seven after it, where there are so many
 pub record AreSizesFrom (g : GraphData) (v : ℕ) (sizes : List ℕ) : Type 0 where

@@ -1,7 +1,11 @@
 -- Counts that are kept, by which the place of a vector of a bounded sum is found [GB_BASIC, simplex].
 use Rattle.std.specs.Prelude.{◌≡◌, ◌<◌, ◌≤◌, ◌+◌, ◌-◌, ℕ, List, [], ◌∷◌, length, drop, slice_index}
 use Rattle.std.specs.List.{slice_index_or}
-use Rattle.sgb_vec.specs.Sums.{count_of_sum}
+use Rattle.sgb_vec.specs.Sums.{bounded_sums}
+
+-- how many vectors within the bounds add to n
+abbrev pub count_of_sum : ℕ → List ℕ → ℕ
+count_of_sum n bounds = length (bounded_sums n bounds)
 
 -- how many vectors within the bounds add to at most n: an entry in front of each makes up for the rest
 abbrev pub count_up_to : ℕ → List ℕ → ℕ

@@ -1,6 +1,6 @@
 -- How a generator of random numbers goes on from cycle to cycle [GB_FLIP, gb_next_rand and gb_flip_cycle].
 use Rattle.std.specs.Prelude.{◌≡◌, ℕ, ◌+◌, ◌-◌, ◌*◌, ◌/◌, ◌%◌, ◌^◌, ◌<◌, ◌≤◌, List, length, slice_index}
-use Rattle.sgb_graph.specs.Draws.{modulus, difference, first_x}
+use Rattle.sgb_graph.specs.Draws.{modulus, difference, y_number}
 use Rattle.sgb_graph.specs.Flips.{FlipData}
 
 -- the generator of these parts
@@ -23,6 +23,10 @@ pub record IsNextCycle (old new : List ℕ) : Type 0 where
   pub cycle : IsCycle new
   pub early : (i : ℕ) → i < 24 → slice_index new i ≡ difference (slice_index old i) (slice_index old (i + 31))
   pub late : (i : ℕ) → 24 ≤ i → i < 55 → slice_index new i ≡ difference (slice_index old i) (slice_index new (i - 24))
+
+-- X(i) for i from 1 to 55
+abbrev pub first_x : ℕ → ℕ → ℕ
+first_x seed i = y_number seed (21 * i % 55)
 
 -- the first cycle, X(1) to X(55)
 pub record IsFirstCycle (seed : ℕ) (numbers : List ℕ) : Type 0 where

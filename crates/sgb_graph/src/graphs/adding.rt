@@ -1,7 +1,8 @@
 //! New arcs and edges (GB_GRAPH, gb_new_arc and gb_new_edge).
 ghost use Rattle.std.specs.Prelude.{◌≡◌, ◌<◌, ◌+◌, ◌++◌, [], ◌∷◌, length, min, max, ◌^◌, IfSome, OnOk, OnErr, IsOkUnless};
 ghost use Rattle.sgb_graph.specs.Graphs.{ListsEnd, arc_record};
-ghost use Rattle.sgb_graph.specs.Growth.{HasPlainArcs, KeepsAllButArcs, after_lower, first_arc, with_arc, with_edge, with_first};
+ghost use Rattle.sgb_graph.specs.Growth.{HasPlainArcs, KeepsAllButArcs, first_arc, with_arc, with_edge, with_first};
+ghost use Rattle.sgb_graph.specs.inner.Growth.{after_lower};
 ghost use Rattle.sgb_graph.specs.declared.fields.Kind.TheVariants.{Z};
 // For the search alone.
 ghost use Rattle.std.specs.Prelude.{Some};

@@ -1,7 +1,8 @@
 //! The list of arcs of a vertex.
 ghost use Rattle.std.specs.Prelude.{◌≡◌, ◌<◌, ◌≤◌, ◌∷◌, length, All, Some, IsTrue};
 ghost use Rattle.std.specs.Iterator.{YieldsFirst, item_count};
-ghost use Rattle.sgb_graph.specs.Graphs.{chain_of, ends_of, links_of, vertex_of};
+ghost use Rattle.sgb_graph.specs.Graphs.{chain_of, ends_of, vertex_of};
+ghost use Rattle.sgb_graph.specs.inner.Chains.{links_of};
 
 use super::Graph;
 use crate::fields::{Link, Ref};
@@ -18,7 +19,8 @@ pub struct Arcs<'a> {
 
 impl<'a> Model for Arcs<'a> {
     ghost use Rattle.std.specs.Prelude.{List, IsTrue};
-    ghost use Rattle.sgb_graph.specs.Graphs.{ends_of, links_of};
+    ghost use Rattle.sgb_graph.specs.Graphs.{ends_of};
+    ghost use Rattle.sgb_graph.specs.inner.Chains.{links_of};
     ghost use Rattle.sgb_graph.specs.declared.fields.Link.{Link};
 
     ghost Value = { List Link };

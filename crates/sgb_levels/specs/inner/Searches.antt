@@ -1,8 +1,12 @@
 -- A search by levels: which vertices are found, and what is known of them.
-use Rattle.std.specs.Prelude.{◌≡◌, ◌⊎◌, ◌≤◌, ◌<◌, ◌+◌, ℕ, suc, List, [], ◌∷◌, length, Option, Some, None}
+use Rattle.std.specs.Prelude.{◌≡◌, ◌⊎◌, ◌≤◌, ◌<◌, ◌+◌, ℕ, suc, List, [], ◌∷◌, length, map, Option, Some, None}
 use Rattle.std.specs.List.{Contains, slice_index_or}
-use Rattle.sgb_graph.specs.Graphs.{GraphData}
+use Rattle.sgb_graph.specs.Graphs.{GraphData, chain_of}
 use Rattle.sgb_levels.specs.Distances.{HasArc, IsPath}
+
+-- where the arcs of vertex v lead
+abbrev pub tips_from : GraphData → ℕ → List ℕ
+tips_from g v = map (λ l. l.tip) (chain_of g v)
 
 -- v was found at the distance d
 abbrev pub IsFoundAt : List (Option ℕ) → ℕ → ℕ → Type 0

@@ -1,8 +1,12 @@
 -- Counts of the vectors of a bounded sum, as a row over its sums [GB_BASIC, simplex].
-use Rattle.std.specs.Prelude.{◌≡◌, ◌<◌, ◌≤◌, ℕ, Bool, ◌&&◌, nat_le, min, List, slice_index}
+use Rattle.std.specs.Prelude.{◌≡◌, ◌<◌, ◌≤◌, ℕ, Bool, ◌&&◌, nat_le, min, List, length, slice_index}
 use Rattle.std.specs.List.{list_any}
 use Rattle.sgb_vec.specs.Limits.{most_vertices}
-use Rattle.sgb_vec.specs.Sums.{count_of_sum}
+use Rattle.sgb_vec.specs.Sums.{bounded_sums}
+
+-- how many vectors within the bounds add to k
+abbrev pub count_of_sum : ℕ → List ℕ → ℕ
+count_of_sum k bounds = length (bounded_sums k bounds)
 
 -- at each place k up to n the row has how many vectors within the bounds add to k; 0 stands after its end
 pub record CountsSums (n : ℕ) (row bounds : List ℕ) : Type 0 where

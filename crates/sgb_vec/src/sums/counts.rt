@@ -7,8 +7,8 @@
 ghost use Rattle.std.specs.Prelude.{◌≡◌, ◌+◌, ◌-◌, ◌/◌, ◌<◌, ◌≤◌, ◌^◌, ◌++◌, ◌⊎◌, ℕ, List, [], ◌∷◌, All, length, take, sum, min, slice_index, nat_lt, nat_le, true, false, IfOk, IfErr, IfSome, IfNone};
 ghost use Rattle.std.specs.List.{list_any};
 ghost use Rattle.sgb_vec.specs.Limits.{most_dimensions, most_vertices};
-ghost use Rattle.sgb_vec.specs.Sums.{count_of_sum, has_great_count};
-ghost use Rattle.sgb_vec.specs.inner.SumRows.{CountsSums, HasGreatSum, great_bound, has_great_three};
+ghost use Rattle.sgb_vec.specs.Sums.{has_great_count};
+ghost use Rattle.sgb_vec.specs.inner.SumRows.{CountsSums, HasGreatSum, count_of_sum, great_bound, has_great_three};
 
 use super::total_of;
 use crate::families::Vector;

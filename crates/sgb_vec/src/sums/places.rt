@@ -4,7 +4,8 @@
 ghost use Rattle.std.specs.Prelude.{◌≡◌, ◌+◌, ◌<◌, ◌≤◌, ◌∷◌, length, Contains, IfSome, Some, slice_get};
 ghost use Rattle.std.specs.Bool.{OnTrue};
 ghost use Rattle.sgb_vec.specs.Limits.{most_dimensions, most_vertices};
-ghost use Rattle.sgb_vec.specs.Sums.{bounded_sums, count_of_sum};
+ghost use Rattle.sgb_vec.specs.Sums.{bounded_sums};
+ghost use Rattle.sgb_vec.specs.inner.SumRows.{count_of_sum};
 ghost use Rattle.sgb_vec.specs.inner.SumPlaces.{count_below};
 
 use super::rows::count_in_place;

@@ -6,8 +6,7 @@
 ghost use Rattle.std.specs.Prelude.{◌≡◌, ◌+◌, ◌≤◌, ℕ, List, ◌∷◌, All, length, sum, min, IfSome};
 ghost use Rattle.std.specs.Bool.{OnTrue};
 ghost use Rattle.sgb_vec.specs.Limits.{most_dimensions, most_vertices};
-ghost use Rattle.sgb_vec.specs.Sums.{count_of_sum};
-ghost use Rattle.sgb_vec.specs.inner.SumRows.{CountsSums};
+ghost use Rattle.sgb_vec.specs.inner.SumRows.{CountsSums, count_of_sum};
 // For the search alone.
 ghost use Rattle.std.specs.Prelude.{◌<◌};
 

@@ -1,6 +1,6 @@
 ghost use Rattle.std.specs.Prelude.{◌≡◌, ◌+◌, ◌*◌, ◌≤◌, ◌^◌, [], ◌∷◌};
 ghost use Rattle.sgb_vec.specs.Limits.{most_vertices};
-ghost use Rattle.sgb_vec.specs.Sums.{count_of_sum};
+ghost use Rattle.sgb_vec.specs.inner.SumRows.{count_of_sum};
 
 // How many triples of a number up to `a`, one up to `b` and one up to `c` add to `sum`: the pairs of the last two that
 // add to at most `sum`, without those that leave more than `a`.

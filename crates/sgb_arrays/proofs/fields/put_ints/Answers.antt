@@ -1,6 +1,7 @@
 use Rattle.std.proofs.Common.{w64, to_z, of_z, ◌≡◌, ◌≤◌, ◌<◌, ◌∙◌, drop, length, refl, take, arith, rules}
 use Rattle.std.proofs.lemmas.Int.{to_z-of_z}
-use Rattle.sgb_arrays.specs.Fields.{int_at, ints_of}
+use Rattle.sgb_arrays.specs.Fields.{ints_of}
+use Rattle.sgb_arrays.specs.inner.Fields.{int_at}
 use Rattle.sgb_arrays.proofs.FieldValues.{length-run, run_at, value_put, values_begun, values_put}
 use Rattle.sgb_arrays.proofs.fields.put_ints.Goals as goal
 

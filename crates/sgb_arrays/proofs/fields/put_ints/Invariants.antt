@@ -1,5 +1,5 @@
 use Rattle.std.proofs.Common.{◌≡◌, drop, length, map, take}
-use Rattle.sgb_arrays.specs.Fields.{int_at}
+use Rattle.sgb_arrays.specs.inner.Fields.{int_at}
 use Rattle.sgb_arrays.specs.inner.Puts.{put_from}
 use Rattle.sgb_arrays.proofs.fields.put_ints.Given as goal
 

@@ -1,7 +1,6 @@
 use Rattle.std.proofs.Common.{◌≤◌, ◌<◌, ◌+◌, ◌∙◌, [], Some, length, ap, sym, arith}
 use Rattle.std.proofs.lemmas.Option.{get_or_from_slice_get}
-use Rattle.sgb_graph.specs.Vertices.{names_of}
-use Rattle.sgb_arrays.specs.Runs.{name_at}
+use Rattle.sgb_graph.specs.Vertices.{name_at, names_of}
 use Rattle.sgb_arrays.proofs.PartsLeft.{parts_left-first, parts_left-none, parts_left-whole}
 use Rattle.sgb_arrays.proofs.PutValues.{part_counted}
 use Rattle.sgb_arrays.proofs.RunPlaces.{parts_by_place}

@@ -1,5 +1,6 @@
 use Rattle.std.proofs.Common.{◌≡◌, ◌≤◌, ◌+◌, ◌*◌, length}
-use Rattle.sgb_arrays.specs.Runs.{name_at, parts_of}
+use Rattle.sgb_arrays.specs.Runs.{parts_of}
+use Rattle.sgb_graph.specs.Vertices.{name_at}
 use Rattle.sgb_arrays.specs.inner.PartsLeft.{parts_left}
 use Rattle.sgb_arrays.proofs.graph_names.count_bytes.Given as goal
 

@@ -1,8 +1,8 @@
 use Rattle.std.proofs.Common.{◌≡◌, ◌<◌, ◌≤◌, ◌+◌, ◌∙◌, [], Some, length, ap, refl, sym, arith, rules}
 use Rattle.std.proofs.lemmas.List.{length-append}
 use Rattle.std.proofs.lemmas.Option.{get_or_from_slice_get}
-use Rattle.sgb_graph.specs.Vertices.{names_of}
-use Rattle.sgb_arrays.specs.Runs.{name_at, part_starts, parts_of}
+use Rattle.sgb_graph.specs.Vertices.{name_at, names_of}
+use Rattle.sgb_arrays.specs.Runs.{part_starts, parts_of}
 use Rattle.sgb_arrays.specs.inner.PartsLeft.{parts_left, starts_left}
 use Rattle.sgb_arrays.specs.inner.Puts.{put_from}
 use Rattle.sgb_arrays.proofs.PartsLeft.{parts_left-first, parts_left-none, parts_left-whole, starts_left-first, starts_left-none, starts_left-whole}

@@ -1,5 +1,6 @@
 use Rattle.std.proofs.Common.{◌≡◌, ◌+◌, length}
-use Rattle.sgb_arrays.specs.Runs.{name_at, part_starts, parts_of}
+use Rattle.sgb_arrays.specs.Runs.{part_starts, parts_of}
+use Rattle.sgb_graph.specs.Vertices.{name_at}
 use Rattle.sgb_arrays.specs.inner.PartsLeft.{parts_left, starts_left}
 use Rattle.sgb_arrays.specs.inner.Puts.{put_from}
 use Rattle.sgb_arrays.proofs.graph_names.put_names.Given as goal

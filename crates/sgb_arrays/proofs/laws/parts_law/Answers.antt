@@ -7,7 +7,8 @@ use lib.Seq.{take-append_seam, drop-append_seam}
 use Rattle.sgb_graph.specs.Graphs.{chain_of}
 use Rattle.sgb_graph.specs.declared.fields.Link.{Link}
 use Rattle.sgb_arrays.specs.Lists.{part_by_starts, starts_from}
-use Rattle.sgb_arrays.specs.Runs.{name_at, part_starts, parts_of}
+use Rattle.sgb_arrays.specs.Runs.{part_starts, parts_of}
+use Rattle.sgb_graph.specs.Vertices.{name_at}
 use Rattle.sgb_arrays.proofs.laws.parts_law.Goals as goal
 
 -- the first start

@@ -1,5 +1,5 @@
 use Rattle.sgb_graph.specs.Graphs.{chain_of}
-use Rattle.sgb_arrays.specs.Runs.{name_at}
+use Rattle.sgb_graph.specs.Vertices.{name_at}
 use Rattle.sgb_arrays.proofs.RunSteps.{parts_joined}
 use Rattle.sgb_arrays.proofs.laws.runs_join_law.Goals as goal
 

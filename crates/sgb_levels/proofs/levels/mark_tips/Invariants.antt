@@ -1,6 +1,6 @@
 use Rattle.std.proofs.Common.{◌≡◌, ◌<◌, map, length}
 use Rattle.std.specs.List.{All}
-use Rattle.sgb_levels.specs.Distances.{tips_from}
+use Rattle.sgb_levels.specs.inner.Searches.{tips_from}
 use Rattle.sgb_levels.specs.inner.Marks.{all_marked, marks}
 use Rattle.sgb_levels.proofs.levels.mark_tips.Given as goal
 

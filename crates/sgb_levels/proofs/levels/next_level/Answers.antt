@@ -1,5 +1,5 @@
 use Rattle.std.proofs.Common.{◌∙◌}
-use Rattle.sgb_levels.specs.Distances.{tips_from}
+use Rattle.sgb_levels.specs.inner.Searches.{tips_from}
 use Rattle.sgb_levels.proofs.Marking.{vertex_marked}
 use Rattle.sgb_levels.proofs.levels.next_level.Goals as goal
 

@@ -1,6 +1,6 @@
 use Rattle.std.proofs.Common.{◌≡◌, [], drop, length}
 use Rattle.std.specs.List.{flat_map}
-use Rattle.sgb_levels.specs.Distances.{tips_from}
+use Rattle.sgb_levels.specs.inner.Searches.{tips_from}
 use Rattle.sgb_levels.specs.inner.Marks.{all_marked, marks}
 use Rattle.sgb_levels.proofs.levels.next_level.Given as goal
 

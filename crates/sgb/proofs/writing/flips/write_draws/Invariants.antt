@@ -1,7 +1,8 @@
 use Rattle.std.proofs.Common.{◌≡◌, ◌-◌, ℕ, [], false}
 use Rattle.sgb_graph.specs.Draws.{IsAtDraw, seed_of}
 use Rattle.sgb.proofs.Pages.{PagedSoFar}
-use Rattle.sgb.specs.FlipAnswers.{drawn, drawn_from, number_lines}
+use Rattle.sgb.specs.FlipAnswers.{drawn_from, number_lines}
+use Rattle.sgb.specs.inner.FlipAnswers.{drawn}
 use Rattle.sgb.proofs.writing.flips.write_draws.Given as goal
 
 -- the numbers from where the generator stands are left

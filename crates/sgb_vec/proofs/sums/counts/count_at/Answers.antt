@@ -1,5 +1,5 @@
 use Rattle.std.proofs.Common.{rules, ◌≡◌, ℕ, ◌-◌, ◌*◌, [], ◌∷◌, get_or, ap, arith}
-use Rattle.sgb_vec.specs.Sums.{count_of_sum}
+use Rattle.sgb_vec.specs.inner.SumRows.{count_of_sum}
 use Rattle.sgb_vec.proofs.SumRowLemmas.{products_step, products_end, products_all}
 use Rattle.sgb_vec.proofs.sums.counts.count_at.Goals as goal
 

@@ -1,5 +1,5 @@
 use Rattle.std.proofs.Common.{rules, ℕ, [], ◌∷◌, arith}
-use Rattle.sgb_vec.specs.Sums.{count_of_sum}
+use Rattle.sgb_vec.specs.inner.SumRows.{count_of_sum}
 use Rattle.sgb_vec.proofs.SumRowLemmas.{products_step, products_end}
 use Rattle.sgb_vec.proofs.SumTriples.{triple_products_all}
 use Rattle.sgb_vec.proofs.sums.rows.count_with_row.Goals as goal
