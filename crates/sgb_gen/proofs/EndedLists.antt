@@ -1,5 +1,5 @@
 -- Lists of arcs that were put into links, or refused.
-use Rattle.std.proofs.Common.{◌≡◌, List, [], ◌++◌, Result, Ok, Err, ap, ◌∙◌, arith}
+use Rattle.std.proofs.Common.{◌≡◌, ℕ, List, [], ◌++◌, Result, Ok, Err, ap, ◌∙◌, arith}
 use Rattle.std.specs.Prelude.{OnOk, IsOkUnless}
 use Rattle.sgb_vec.specs.declared.panics.Panic.{Panic}
 use Rattle.sgb_vec.specs.declared.panics.Panic.TheVariants.{NoRoom}
@@ -17,13 +17,12 @@ pub list_ended_as : {T : Type 0} (put result : Result T Panic) (before after : L
 list_ended_as put result before after arcs same kept are = grind (arith)
 
 -- arcs that were handed out are those that the links hold, or there was no memory
-module _ {T S : Type 0} (before mid : LinksData) (o on : S) (arcs : List LocalArc) where
-  pub list_kept : (put : Result T Panic) → before.arcs ≡ []
-      → AreGiven {R = LinksData} {S = S} {F = Panic} (λ old _ given new _. new ≡ with_arcs old given) (λ _ _ _ _ _ f. f ≡ NoRoom) before o arcs mid on put → OnOk put (mid.arcs ≡ arcs)
-  list_kept (Ok x) none given = ap (λ l. l.arcs) given ∙ ap (λ l. l ++ arcs) none
-  list_kept (Err f) none given = tt
+pub list_kept : {T : Type 0} (before mid : LinksData) (arcs : List LocalArc) (put : Result T Panic) → before.arcs ≡ []
+    → AreGiven {R = LinksData} {S = ℕ} {F = Panic} (λ old _ given new _. new ≡ with_arcs old given) (λ _ _ _ _ _ f. f ≡ NoRoom) before 0 arcs mid 0 put → OnOk put (mid.arcs ≡ arcs)
+list_kept before mid arcs (Ok x) none given = ap (λ l. l.arcs) given ∙ ap (λ l. l ++ arcs) none
+list_kept before mid arcs (Err f) none given = tt
 
-  pub memory_told : (put : Result T Panic)
-      → AreGiven {R = LinksData} {S = S} {F = Panic} (λ old _ given new _. new ≡ with_arcs old given) (λ _ _ _ _ _ f. f ≡ NoRoom) before o arcs mid on put → IsOkUnless put NoRoom
-  memory_told (Ok x) given = tt
-  memory_told (Err f) given = given
+pub memory_told : {T : Type 0} (before mid : LinksData) (arcs : List LocalArc) (put : Result T Panic)
+    → AreGiven {R = LinksData} {S = ℕ} {F = Panic} (λ old _ given new _. new ≡ with_arcs old given) (λ _ _ _ _ _ f. f ≡ NoRoom) before 0 arcs mid 0 put → IsOkUnless put NoRoom
+memory_told before mid arcs (Ok x) given = tt
+memory_told before mid arcs (Err f) given = given

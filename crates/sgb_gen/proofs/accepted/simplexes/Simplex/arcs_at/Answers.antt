@@ -1,10 +1,16 @@
-use Rattle.std.proofs.Common.{rules, ap}
+use Rattle.std.proofs.Common.{ap}
+use Rattle.sgb_gen.specs.LocalLists.{list_at}
+use Rattle.sgb_gen.specs.Simplexes.{moves_of_simplex, simplex_vectors}
 use Rattle.sgb_gen.proofs.EndedLists.{list_ended_as, list_kept, memory_told}
 use Rattle.sgb_gen.proofs.accepted.simplexes.Simplex.arcs_at.Goals as goal
 
 pub returns-clause-ok : goal.returns-clause-ok
 returns-clause-ok c =
-    list_ended_as _ _ _ _ _ c.ended.ensures.result c.ended.ensures.ok (list_kept _ _ _ _ _ _ (ap (λ l. l.arcs) c.clear.ensures) c.push_all-put.ensures.given)
+    let s = c.args.self.now in
+    list_ended_as c.push_all-put.result _ _ _ _ c.ended.ensures.result c.ended.ensures.ok
+    (list_kept c.clear.new.self _ (list_at s.directed (simplex_vectors s) (moves_of_simplex s) c.args.x.now) c.push_all-put.result (ap (λ l. l.arcs) c.clear.ensures) c.push_all-put.ensures.given)
 
 pub returns-clause-memory : goal.returns-clause-memory
-returns-clause-memory c = rw c.ended.ensures.result (memory_told _ _ _ _ _ _ c.push_all-put.ensures.given)
+returns-clause-memory c =
+    let s = c.args.self.now in
+    rw c.ended.ensures.result (memory_told c.clear.new.self _ (list_at s.directed (simplex_vectors s) (moves_of_simplex s) c.args.x.now) c.push_all-put.result c.push_all-put.ensures.given)

@@ -2,6 +2,7 @@ use Rattle.std.proofs.Common.{◌≡◌, ◌+◌, ◌-◌, ◌≤◌, ℕ, List,
 use Rattle.std.proofs.lemmas.List.{drop_more, length-drop, length-set, take_rest}
 use Rattle.std.proofs.lemmas.Result.{on_ok_weaker}
 use Rattle.sgb_vec.specs.Sums.{bounded_sums}
+use Rattle.sgb_vec.proofs.SumMembers.{IsWithin-length}
 use Rattle.sgb_gen.specs.inner.Descents.{arcs_under, front_of, rows}
 use Rattle.sgb_gen.proofs.ArcsInTurn.{exit_part, given_as, given_last, so_far_all, so_far_begun, so_far_more, took_none}
 use Rattle.sgb_gen.proofs.DescentArcs.{row-under, rows-under}
@@ -9,6 +10,17 @@ use Rattle.sgb_gen.proofs.DescentSteps.{entry-unwanted, front-kept, front-placed
 use Rattle.sgb_gen.proofs.LastEntries.{none-left}
 use Rattle.sgb_gen.proofs.SubsetsCounts.{begun-on}
 use Rattle.sgb_gen.proofs.accepted.subsets.descents.+descent.Goals as goal
+
+pub push_all-loop-state-init : goal.push_all-loop-state-init
+push_all-loop-state-init g t c = (
+  omega arith,
+  omega (arith, IsWithin-length c.args.bounds.now c.args.x.now c.requires.begun.within),
+  refl,
+  c.requires.begun,
+  refl,
+  so_far_begun (g.met.K.ArcSink.laws c.args.sink.now) _ _ _ _ refl,
+  c.requires.ready,
+)
 
 pub push_all-returns-then-i-x-clause-given : goal.push_all-returns-then-i-x-clause-given
 push_all-returns-then-i-x-clause-given g t c =
