@@ -48,14 +48,7 @@ impl Simplex {
     {
         let bounds = self.sizes();
         let mut tip = copy_of(x);
-        push_both(
-            self.directed,
-            bounds,
-            tip.as_mut_slice(),
-            sink,
-            room,
-            out,
-        )
+        push_both(self.directed, bounds, tip.as_mut_slice(), sink, room, out)
     }
 }
 

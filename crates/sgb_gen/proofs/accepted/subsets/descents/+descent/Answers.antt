@@ -66,15 +66,15 @@ push_all-returns-in_err-push_greater-clause-given g t c =
     let begun = c.loop-state.invariant.3 in
     let within : entries.least ≤ s.left = omega (arith, c.wanted_entries-entries.ensures.few, c.if-entries-eq0.false) in
     let part : arcs_under s.size_bits (front_of tip (h ∷ xs)) s.common (h ∷ xs) (rows s.left bs (entries.least + 1) (entries.count - 1))
-        ≡ arcs_under s.size_bits (front_of tip (h ∷ take (length x - (i + 1)) xs)) s.common (h ∷ take (length x - (i + 1)) xs) (rows s.left (take (length bounds - (i + 1)) bs) (entries.least + 1) (entries.count - 1)) =
+    ≡ arcs_under s.size_bits (front_of tip (h ∷ take (length x - (i + 1)) xs)) s.common (h ∷ take (length x - (i + 1)) xs) (rows s.left (take (length bounds - (i + 1)) bs) (entries.least + 1) (entries.count - 1)) =
     ap₂ (λ v cs. arcs_under s.size_bits (front_of tip (h ∷ v)) s.common (h ∷ v) (rows s.left cs (entries.least + 1) (entries.count - 1))) (sym (take_rest x (i + 1))) (sym (take_rest bounds (i + 1))) in
     let first = λ (new : List ℕ) (long : length new ≡ length tip) (kept : front_of new (h ∷ xs) ≡ front_of tip (h ∷ xs)).
     least-placed s.size_bits s.common s.left b h entries.least entries.count (entries.least + 1) (entries.count - 1)
-        (length c.args.tip.now - length x + i) tip new bs xs (drop i bounds) (drop i x)
-        bounds_are x_is (omega (arith, length-drop i x)) long (omega (arith, length-drop i x)) refl (omega (arith, c.if-entries-eq0.false)) within
-        (λ front. c.wanted_entries-entries.ensures.same front bs xs (rw (← bounds_are, ← x_is) begun))
-        kept
-        ∙ ap (λ l. l ++ arcs_under s.size_bits (front_of (set new (length c.args.tip.now - length x + i) entries.least) xs) (s.common + min h entries.least) xs (reverse (bounded_sums (s.left - entries.least) bs))) part in
+    (length c.args.tip.now - length x + i) tip new bs xs (drop i bounds) (drop i x)
+    bounds_are x_is (omega (arith, length-drop i x)) long (omega (arith, length-drop i x)) refl (omega (arith, c.if-entries-eq0.false)) within
+    (λ front. c.wanted_entries-entries.ensures.same front bs xs (rw (← bounds_are, ← x_is) begun))
+    kept
+    ∙ ap (λ l. l ++ arcs_under s.size_bits (front_of (set new (length c.args.tip.now - length x + i) entries.least) xs) (s.common + min h entries.least) xs (reverse (bounded_sums (s.left - entries.least) bs))) part in
     exit_part (g.met.K.ArcSink.laws c.args.sink.now) _ _ _ _ _ _ _ _ _ _ _ _ c.from_residual.ensures.1 (first tip refl refl) c.loop-state.invariant.5 c.in_err-push_greater.ensures.given
 
 pub push_all-loop-state-preserved : goal.push_all-loop-state-preserved
@@ -95,15 +95,15 @@ push_all-loop-state-preserved g t c =
     let begun = c.loop-state.invariant.3 in
     let within : entries.least ≤ s.left = omega (arith, c.wanted_entries-entries.ensures.few, c.if-entries-eq0.false) in
     let part : arcs_under s.size_bits (front_of tip (h ∷ xs)) s.common (h ∷ xs) (rows s.left bs (entries.least + 1) (entries.count - 1))
-        ≡ arcs_under s.size_bits (front_of tip (h ∷ take (length x - (i + 1)) xs)) s.common (h ∷ take (length x - (i + 1)) xs) (rows s.left (take (length bounds - (i + 1)) bs) (entries.least + 1) (entries.count - 1)) =
+    ≡ arcs_under s.size_bits (front_of tip (h ∷ take (length x - (i + 1)) xs)) s.common (h ∷ take (length x - (i + 1)) xs) (rows s.left (take (length bounds - (i + 1)) bs) (entries.least + 1) (entries.count - 1)) =
     ap₂ (λ v cs. arcs_under s.size_bits (front_of tip (h ∷ v)) s.common (h ∷ v) (rows s.left cs (entries.least + 1) (entries.count - 1))) (sym (take_rest x (i + 1))) (sym (take_rest bounds (i + 1))) in
     let first = λ (new : List ℕ) (long : length new ≡ length tip) (kept : front_of new (h ∷ xs) ≡ front_of tip (h ∷ xs)).
     least-placed s.size_bits s.common s.left b h entries.least entries.count (entries.least + 1) (entries.count - 1)
-        (length c.args.tip.now - length x + i) tip new bs xs (drop i bounds) (drop i x)
-        bounds_are x_is (omega (arith, length-drop i x)) long (omega (arith, length-drop i x)) refl (omega (arith, c.if-entries-eq0.false)) within
-        (λ front. c.wanted_entries-entries.ensures.same front bs xs (rw (← bounds_are, ← x_is) begun))
-        kept
-        ∙ ap (λ l. l ++ arcs_under s.size_bits (front_of (set new (length c.args.tip.now - length x + i) entries.least) xs) (s.common + min h entries.least) xs (reverse (bounded_sums (s.left - entries.least) bs))) part in
+    (length c.args.tip.now - length x + i) tip new bs xs (drop i bounds) (drop i x)
+    bounds_are x_is (omega (arith, length-drop i x)) long (omega (arith, length-drop i x)) refl (omega (arith, c.if-entries-eq0.false)) within
+    (λ front. c.wanted_entries-entries.ensures.same front bs xs (rw (← bounds_are, ← x_is) begun))
+    kept
+    ∙ ap (λ l. l ++ arcs_under s.size_bits (front_of (set new (length c.args.tip.now - length x + i) entries.least) xs) (s.common + min h entries.least) xs (reverse (bounded_sums (s.left - entries.least) bs))) part in
     let new = c.push_greater.new.tip in
     let kept : front_of new (h ∷ xs) ≡ front_of tip (h ∷ xs) =
     sym (ap (λ v. front_of new (h ∷ v)) (take_rest x (i + 1))) ∙ c.in_ok-push_greater.ensures.same ∙ ap (λ v. front_of tip (h ∷ v)) (take_rest x (i + 1)) in (
