@@ -16,6 +16,7 @@ mod board_lists;
 mod counts;
 mod edges;
 mod lists;
+mod rides;
 mod runs;
 mod strides;
 

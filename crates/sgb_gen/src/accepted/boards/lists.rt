@@ -6,14 +6,17 @@
 //! comparison (`push_leaps`), those of a rider by a sort (`push_sorted`).
 //!
 //! Displacements come in order and not backwards. So a list without a table is made oldest arc first, and turned round.
-ghost use Rattle.std.specs.Prelude.{◌≡◌, ◌<◌, [], ◌++◌, ℕ, List, true, false, length, map, reverse, None, Some, Contains, OnOk, OnErr, IsOkUnless};
+ghost use Rattle.std.specs.Prelude.{◌≡◌, ◌<◌, [], ◌++◌, ◌+◌, ◌-◌, ◌≤◌, ℕ, List, true, false, length, map, reverse, None, Some, Contains, OnOk, OnErr, IsOkUnless};
 ghost use Rattle.std.specs.Bool.{OnTrue, OnFalse};
 ghost use Rattle.sgb_vec.specs.Boxes.{box};
 ghost use Rattle.sgb_vec.specs.Lexicographic.{IsBelow};
 ghost use Rattle.sgb_gen.specs.Boards.{moves_of_board};
 ghost use Rattle.sgb_gen.specs.LocalLists.{list_at};
 ghost use Rattle.sgb_gen.specs.inner.LocalBoards.{move_arc, arcs_onward, moves_by};
+ghost use Rattle.std.specs.List.{range_with_len};
+ghost use Rattle.sgb_gen.specs.MovedCoordinates.{parts_of};
 ghost use Rattle.sgb_gen.specs.Moves.{moves_from, sides_of, place, opposite};
+ghost use Rattle.sgb_gen.specs.Runs.{arc_along, arcs_along};
 ghost use Rattle.sgb_gen.specs.inner.Moves.{destination, leads_onward, longest_move};
 // For the search alone.
 ghost use Rattle.std.specs.Prelude.{◌==◌};
@@ -122,7 +125,7 @@ impl Board {
         if self.longest_move() == 1 {
             return self.push_leaps(x, t, back, there, links);
         }
-        self.push_sorted(x, t, back, there, links)
+        self.push_rides(x, t, back, there, links)
     }
 
     // Puts the arcs by the moves from `x` by `t` behind the others, the longest move first.
@@ -250,13 +253,8 @@ impl Board {
             }) }
         ensures memory { IsOkUnless result Panic.NoRoom }
     {
-        let sizes = self.sizes();
-        let parts = t.parts();
         let farthest = self.farthest(x, t, false);
-        for shorter in 0..farthest {
-            links.push_placed(sizes, self.wrap, x, parts, shorter + 1)?;
-        }
-        Ok(())
+        self.push_lengths(x, t, 0, farthest, links)
     }
 
     // As `push_straight`, but the longest move first.
@@ -275,10 +273,60 @@ impl Board {
             }) }
         ensures memory { IsOkUnless result Panic.NoRoom }
     {
+        let farthest = self.farthest(x, t, false);
+        self.push_lengths_down(x, t, farthest, links)
+    }
+
+    // Puts the arcs from `x` by `t` of the lengths above `from` up to `to` behind the others.
+    pub(super) fn push_lengths(
+        &self,
+        x: &[u32],
+        t: &Step,
+        from: u32,
+        to: u32,
+        links: &mut Links,
+    ) -> Result<(), Panic>
+        requires below { IsBelow x.now self.now.sizes }
+        requires dimensions { length t.now ≡ length self.now.sizes }
+        requires lengths { from ≤ to }
+        requires width { length x.now ≡ links.old.width }
+        ensures ok { OnOk result (links.new
+            ≡ record links.old {
+              arcs = links.old.arcs
+                  ++ map (arc_along self.now.sizes self.now.wrap x.now (parts_of t.now))
+                  (range_with_len (from + 1) (to - from));
+            }) }
+        ensures memory { IsOkUnless result Panic.NoRoom }
+    {
         let sizes = self.sizes();
         let parts = t.parts();
-        let farthest = self.farthest(x, t, false);
-        for shorter in (0..farthest).rev() {
+        for shorter in from..to {
+            links.push_placed(sizes, self.wrap, x, parts, shorter + 1)?;
+        }
+        Ok(())
+    }
+
+    // Puts the arcs from `x` by `t` of the lengths from `to` down to 1 behind the others.
+    pub(super) fn push_lengths_down(
+        &self,
+        x: &[u32],
+        t: &Step,
+        to: u32,
+        links: &mut Links,
+    ) -> Result<(), Panic>
+        requires below { IsBelow x.now self.now.sizes }
+        requires dimensions { length t.now ≡ length self.now.sizes }
+        requires width { length x.now ≡ links.old.width }
+        ensures ok { OnOk result (links.new
+            ≡ record links.old {
+              arcs = links.old.arcs
+                  ++ reverse (arcs_along self.now.sizes self.now.wrap x.now (parts_of t.now) to);
+            }) }
+        ensures memory { IsOkUnless result Panic.NoRoom }
+    {
+        let sizes = self.sizes();
+        let parts = t.parts();
+        for shorter in (0..to).rev() {
             links.push_placed(sizes, self.wrap, x, parts, shorter + 1)?;
         }
         Ok(())
