@@ -173,6 +173,7 @@ impl Links {
 
     // Puts an arc of length `l` behind the others, to the place that far from `x` by a displacement that moves these
     // coordinates: they are changed where they are kept. An error means out of memory.
+    #[inline(always)]
     pub(crate) fn push_placed(
         &mut self,
         sizes: &[u32],

@@ -16,7 +16,7 @@ mod board_lists;
 mod counts;
 mod edges;
 mod lists;
-mod rides;
+mod turns;
 mod runs;
 mod strides;
 

@@ -2,8 +2,8 @@
 //!
 //! Of the moves by one displacement some start at the vector, and others lead to it; these are found by the opposite
 //! displacement. Where the first side on which it moves does not wrap around they come in order by themselves, the
-//! farthest start first (`push_in_order`). Else they are put into the order of their starts: two of a leaper by one
-//! comparison (`push_leaps`), those of a rider by a sort (`push_sorted`).
+//! farthest start first (`push_in_order`). Else they are put into the order of their starts: with no sort where they go
+//! around that side once at most (`push_around`), and by one where they go on (`push_sorted`).
 //!
 //! Displacements come in order and not backwards. So a list without a table is made oldest arc first, and turned round.
 ghost use Rattle.std.specs.Prelude.{◌≡◌, ◌<◌, [], ◌++◌, ◌+◌, ◌-◌, ◌≤◌, ℕ, List, true, false, length, map, reverse, None, Some, Contains, OnOk, OnErr, IsOkUnless};
@@ -17,7 +17,7 @@ ghost use Rattle.std.specs.List.{range_with_len};
 ghost use Rattle.sgb_gen.specs.MovedCoordinates.{parts_of};
 ghost use Rattle.sgb_gen.specs.Moves.{moves_from, sides_of, place, opposite};
 ghost use Rattle.sgb_gen.specs.Runs.{arc_along, arcs_along};
-ghost use Rattle.sgb_gen.specs.inner.Moves.{destination, leads_onward, longest_move};
+ghost use Rattle.sgb_gen.specs.inner.Moves.{destination, leads_onward};
 // For the search alone.
 ghost use Rattle.std.specs.Prelude.{◌==◌};
 
@@ -122,10 +122,7 @@ impl Board {
         if leads_onward(self.wrap, t) {
             return self.push_in_order(x, t, back, links);
         }
-        if self.longest_move() == 1 {
-            return self.push_leaps(x, t, back, there, links);
-        }
-        self.push_rides(x, t, back, there, links)
+        self.push_turned(x, t, back, there, links)
     }
 
     // Puts the arcs by the moves from `x` by `t` behind the others, the longest move first.
@@ -178,45 +175,6 @@ impl Board {
     {
         self.push_straight_down(x, t, links)?;
         self.push_straight(x, back, links)
-    }
-
-    // Puts the arcs of `x` by the edges of the displacement `t` behind the others, where no move is longer than 1: of the
-    // edge that starts at `x` and the one that comes to it the later first.
-    fn push_leaps(
-        &self,
-        x: &[u32],
-        t: &Step,
-        back: &Step,
-        there: &mut Vector,
-        links: &mut Links,
-    ) -> Result<(), Panic>
-        requires below { IsBelow x.now self.now.sizes }
-        requires dimensions { length t.now ≡ length self.now.sizes }
-        requires back { back.now ≡ opposite t.now }
-        requires width { length x.now ≡ links.old.width }
-        requires short { longest_move (sides_of self.now.sizes self.now.wrap) self.now.piece ≡ 1 }
-        ensures ok { OnOk result (links.new
-            ≡ record links.old {
-              arcs = links.old.arcs
-                  ++ reverse (arcs_onward false x.now
-                  (moves_by (sides_of self.now.sizes self.now.wrap) self.now.piece
-                  (box self.now.sizes) t.now));
-            }) }
-        ensures memory { IsOkUnless result Panic.NoRoom }
-    {
-        let u = self.vertex_of(x);
-        let Some(v) = self.vertex_at(x, back, 1, there) else {
-            return self.push_edge(x, t, 1, there, links);
-        };
-        if v > u {
-            self.push_edge(x, back, 1, there, links)?;
-            return self.push_edge(x, t, 1, there, links);
-        }
-        self.push_edge(x, t, 1, there, links)?;
-        if v < u {
-            return self.push_edge(x, back, 1, there, links);
-        }
-        Ok(())
     }
 
     // Whether no move by the displacement `t`, whose opposite is `back`, comes home. `false` where it may.

@@ -24,8 +24,8 @@ returns-then-first_stop-entries c =
     λ k h. subst₂ (λ w es. stops_at w es k ≡ false) wrap same (c.first_stop.ensures.free k (omega arith) (omega (arith, h, c.if-first_stop-entries.true, ap length same))) in
     around_lengths b c.args.x.now t c.requires.below c.requires.dimensions free c.lengths_around.result c.lengths_around.ensures.within (rw same at c.lengths_around.ensures.away) (rw same at c.lengths_around.ensures.end)
 
-pub farthest-requires-clause-away : goal.farthest-requires-clause-away
-farthest-requires-clause-away c l some =
+pub farthest-requires-2-clause-away : goal.farthest-requires-2-clause-away
+farthest-requires-2-clause-away c l some =
     let b = c.args.self.now in
     let t = c.args.t.now in
     let same = c.entries-entries.ensures in

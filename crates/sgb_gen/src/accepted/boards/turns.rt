@@ -1,7 +1,8 @@
-//! The arcs of a board's vector by the edges of one displacement by which a rider may go around a side.
+//! The arcs of a board's vector by the edges of one displacement whose first side wraps around.
 //!
-//! Where it does so once at most, the vectors behind fall as the lengths rise, but where it goes around: those before the
-//! vector itself come first, and then those after it. So the starts are in order with no sort, and no move is made twice.
+//! Where the moves go around that side once at most, the vectors behind fall as the lengths rise, but where they go around:
+//! first come those before the vector itself, and then those after it. So the starts are in order with no sort, and no move
+//! is made twice.
 ghost use Rattle.std.specs.Prelude.{◌≡◌, ◌++◌, ◌<◌, false, get_or, length, pos, reverse, OnOk, IsOkUnless};
 ghost use Rattle.std.specs.Bool.{OnTrue};
 ghost use Rattle.sgb_vec.specs.Boxes.{box};
@@ -21,7 +22,7 @@ use sgb_vec::{Panic, Vector};
 
 impl Board {
     // Puts the arcs of `x` by the edges of the displacement `t` behind the others, the last of their starts first.
-    pub(super) fn push_rides(
+    pub(super) fn push_turned(
         &self,
         x: &[u32],
         t: &Step,
@@ -107,6 +108,9 @@ impl Board {
         ensures { arcs_from self.now x.now t.now ≡ arcs_along self.now.sizes self.now.wrap x.now
             (parts_of t.now) result }
     {
+        if self.piece > 0 {
+            return self.farthest(x, t, false);
+        }
         let entries = t.entries();
         if first_stop(self.wrap, entries, 0) == entries.len() {
             return self.lengths_around(entries);
