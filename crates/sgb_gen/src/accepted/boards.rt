@@ -16,9 +16,9 @@ mod board_lists;
 mod counts;
 mod edges;
 mod lists;
-mod turns;
 mod runs;
 mod strides;
+mod turns;
 
 use crate::displacements::Displacements;
 use crate::moves::entry_bounds;
