@@ -9,7 +9,7 @@ use Rattle.std.proofs.lemmas.Grind.{flat_map-append}
 use Rattle.std.proofs.lemmas.List.{reverse-append}
 use Rattle.std.proofs.lemmas.List.Elements.{All-cons, All-nil}
 use Rattle.std.proofs.lemmas.List.Kept.{AllPairs-cons}
-use Rattle.std.proofs.lemmas.List.Sorted.{IsPermutation-append_comm, IsPermutation-refl}
+use Rattle.std.proofs.lemmas.List.Sorted.{IsPermutation-append_comm}
 use Rattle.sgb_vec.specs.Boxes.{box}
 use Rattle.sgb_vec.proofs.Lists.{AllPairs-none}
 use Rattle.sgb_gen.specs.Boards.{BoardData}
@@ -17,7 +17,7 @@ use Rattle.sgb_gen.specs.LocalLists.{LocalArc}
 use Rattle.sgb_gen.specs.Moves.{opposite, sides_of}
 use Rattle.sgb_gen.specs.VectorGraphs.{Move, vertex_among}
 use Rattle.sgb_gen.specs.inner.LocalBoards.{arcs_of_starts, arcs_onward, edge_arcs, moves_by, other_starts, own_starts}
-use Rattle.sgb_gen.proofs.BoardWalks.{leads, led_nowhere, led_to, left-all, left-next, left-none, left-out, longest, moves_of, not_one, one_that}
+use Rattle.sgb_gen.proofs.BoardWalks.{leads, led_to, left-all, left-next, left-none, left-out, longest, moves_of, one_that}
 use Rattle.sgb_gen.proofs.Reaches.{move}
 use Rattle.sgb_gen.proofs.SortedStarts.{rising_starts}
 use Rattle.sgb_gen.proofs.TouchingMoves.{IsEarlier, first_less, onward_by_touching}
@@ -75,12 +75,6 @@ module _ (b : BoardData) (t : List ℤ) (x : List ℕ) (there : Contains (box b.
   others-one : (y : List ℕ) (v : ℕ) → leads b x (opposite t) 1 ≡ Some y → vertex_among (box b.sizes) y ≡ v → (v ≡ own_vertex → ⊥) → others ≡ (v, 1) ∷ []
   others-one y v e is apart = grind (arith, move, ne_eqb, one_that, moves_of, one_move)
 
-  others-own : (y : List ℕ) (v : ℕ) → leads b x (opposite t) 1 ≡ Some y → vertex_among (box b.sizes) y ≡ v → v ≡ own_vertex → others ≡ []
-  others-own y v e is same = grind (arith, move, eq-eqb, not_one, moves_of, one_move)
-
-  others-none : leads b x (opposite t) 1 ≡ None → others ≡ []
-  others-none e = ap (other_starts (box b.sizes) own_vertex) (no_move (opposite t) e)
-
   -- what holds of no start and of one at x holds of those at x
   own-shape : (P : List (ℕ × ℕ) → Type 0) → P [] → P ((own_vertex, 1) ∷ []) → P own
   own-shape P none one = grind (arith, leads, own, own-none, own-one)
@@ -100,21 +94,6 @@ module _ (b : BoardData) (t : List ℤ) (x : List ℕ) (there : Contains (box b.
   made_both : (xs ys : List (ℕ × ℕ)) → made (xs ++ ys) ≡ made xs ++ made ys
   made_both xs ys = flat_map-append _ xs ys
 
-  -- no edge comes to x from another vertex
-  pub leaps_alone : others ≡ [] → reverse all_arcs ≡ own_arcs
-  leaps_alone none = grind (arith, own, others, append-nil, reverse, of_list, IsPermutation-refl, own-shape, IsEarlier, AllPairs-none, single, own_vertex, own_made, edge_turned, leads)
-
-  -- one comes from a later vertex
-  pub leaps_later : (v : ℕ) → others ≡ (v, 1) ∷ [] → own_vertex < v → reverse all_arcs ≡ other_arcs ++ own_arcs
-  leaps_later v one less =
-      let ss = own ++ (v, 1) ∷ [] in
-      let changed : IsPermutation (own ++ others) ss = subst (λ os. IsPermutation (own ++ os) ss) (sym one) (IsPermutation-refl ss) in
-      let rise : AllPairs IsEarlier ss = own-shape (λ l. AllPairs IsEarlier (l ++ (v, 1) ∷ [])) (single (v, 1)) (two (own_vertex, 1) (v, 1) less) in
-      let apart : v ≡ own_vertex → ⊥ = λ e. omega (arith, less, e) in
-      ap reverse (of_list ss changed rise ∙ made_both own ((v, 1) ∷ []) ∙ ap₂ (λ p q. p ++ q) own_made (made_other v apart))
-      ∙ reverse-append own_arcs other_arcs
-      ∙ ap₂ (λ p q. p ++ q) (edge_turned x 1 (leads b x (opposite t) 1)) (edge_turned x 1 (leads b x t 1))
-
   -- one comes from an earlier vertex
   pub leaps_earlier : (v : ℕ) → others ≡ (v, 1) ∷ [] → v < own_vertex → reverse all_arcs ≡ own_arcs ++ other_arcs
   leaps_earlier v one less =
@@ -129,9 +108,3 @@ module _ (b : BoardData) (t : List ℤ) (x : List ℕ) (there : Contains (box b.
   -- by the vertex from which one comes
   pub comes_from : (v : ℕ) → option_map (vertex_among (box b.sizes)) (leads b x (opposite t) 1) ≡ Some v → (v ≡ own_vertex → ⊥) → others ≡ (v, 1) ∷ []
   comes_from v e apart = grind (arith, led_to, leads, others-one)
-
-  pub comes_home : (v : ℕ) → option_map (vertex_among (box b.sizes)) (leads b x (opposite t) 1) ≡ Some v → v ≡ own_vertex → others ≡ []
-  comes_home v e same = grind (arith, led_to, leads, others-own)
-
-  pub comes_nowhere : option_map (vertex_among (box b.sizes)) (leads b x (opposite t) 1) ≡ None → others ≡ []
-  comes_nowhere e = others-none (led_nowhere (vertex_among (box b.sizes)) (leads b x (opposite t) 1) e)

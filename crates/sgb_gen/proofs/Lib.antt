@@ -98,12 +98,17 @@ pub mod SortedStarts
 pub mod OnwardMoves
 -- whether displacements lead onward, by the coordinates that they move
 mod OnwardParts
--- where those start that touch a vector, with no sorting
+-- where those start that touch a vector, with no sorting: where those behind it fall but for one rise, and where they fall
+mod AroundStarts
+-- where they go around a side once at most
+mod FallingPlaces
 pub mod OnwardStarts
 -- moves from a vector, length by length
 pub mod BoardWalks
 -- moves that never come home, at one look
 pub mod StraightMoves
+-- moves that no side stops
+mod AroundMoves
 -- the list of a vertex, run by run
 pub mod RunsOfLists
 -- arcs that are handed out one by one

@@ -3,7 +3,7 @@
 //! The vectors stand one after another, and each is handed out as a slice: a vector for each arc would be a thousand
 //! bytes. What all lists of a board have in common stands elsewhere (`BoardLists`): links serve for list after list,
 //! also of another board.
-ghost use Rattle.std.specs.Prelude.{◌≡◌, ◌<◌, pos, [], ◌∷◌, ◌++◌, ◌*◌, ◌-◌, ◌≤◌, length, take, drop, reverse, slice_get, Some, All, OnOk, OnErr, IsOkUnless};
+ghost use Rattle.std.specs.Prelude.{◌≡◌, ◌<◌, pos, [], ◌∷◌, ◌++◌, ◌+◌, ◌*◌, ◌-◌, ◌≤◌, length, vec_capacity, vec_len, take, drop, reverse, slice_get, Some, All, OnOk, OnErr, IsOkUnless};
 ghost use Rattle.sgb_gen.specs.ArcSinks.{AreGiven};
 ghost use Rattle.sgb_gen.specs.LocalLists.{LinksData, LocalArc};
 ghost use Rattle.sgb_gen.specs.inner.LocalArcs.{rows_turned};
@@ -161,6 +161,7 @@ impl Links {
 
     // Puts an arc of length `l` behind the others, to the place that far from `x` by a displacement that moves these
     // coordinates: they are changed where they are kept. An error means out of memory.
+    #[inline(always)]
     pub(crate) fn push_placed(
         &mut self,
         sizes: &[u32],
@@ -184,7 +185,7 @@ impl Links {
     {
         let start = self.tips.len();
         self.lens.reserve(1)?;
-        self.tips.extend_from_slice(x)?;
+        push_entries(&mut self.tips, x)?;
         put_parts(
             sizes,
             wrap,
@@ -232,6 +233,36 @@ impl Links {
     {
         self.starts = starts;
     }
+}
+
+// Puts the entries of a vector behind the others: few of them one by one, which takes less than a copy of so few bytes. An
+// error means out of memory: they stay as they were.
+#[inline(always)]
+fn push_entries(entries: &mut Vec<u32>, x: &[u32]) -> Result<(), Panic>
+    ensures ok { OnOk result (entries.new.items ≡ entries.old.items ++ x.now) }
+    ensures err { OnErr result (entries.new.items ≡ entries.old.items) }
+    ensures memory { IsOkUnless result Panic.NoRoom }
+{
+    if x.len() > 8 {
+        entries.extend_from_slice(x)?;
+        return Ok(());
+    }
+    entries.reserve(x.len())?;
+    for entry in x {
+        put(entries, *entry);
+    }
+    Ok(())
+}
+
+// Puts an entry behind the others, where there is room for it.
+#[inline(always)]
+fn put(entries: &mut Vec<u32>, entry: u32)
+    requires { vec_len entries.old < vec_capacity entries.old }
+    ensures items { entries.new.items ≡ entries.old.items ++ entry ∷ [] }
+    ensures len { vec_len entries.new ≡ vec_len entries.old + 1 }
+    ensures room { vec_capacity entries.old ≤ vec_capacity entries.new }
+{
+    let _pushed = entries.push(entry);
 }
 
 // Turns the arcs from this one on round, whose vectors have this width and begin there.

@@ -1,7 +1,8 @@
 //! Where a piece moves from a place of a board.
 //!
 //! A coordinate within its side is taken as it is, and divided by the side's size only where it leaves it.
-ghost use Rattle.std.specs.Prelude.{◌≡◌, ℕ, ◌+◌, pos, ◌+ℤ◌, ◌*ℤ◌, ◌<◌, ◌≤◌, ◌/◌, min, length, true, false, is_some, All, None, Some};
+ghost use Rattle.std.specs.Prelude.{◌≡◌, ℕ, ◌+◌, pos, ◌+ℤ◌, ◌*ℤ◌, ◌<◌, ◌≤◌, ◌/◌, min, length, nat_abs, true, false, is_some, All, None, Some};
+ghost use Rattle.std.specs.Int.{int_rem_euclid};
 ghost use Rattle.std.specs.Bool.{OnTrue, OnFalse};
 ghost use Rattle.sgb_vec.specs.Limits.{most_dimensions};
 ghost use Rattle.sgb_vec.specs.Lexicographic.{IsBelow};
@@ -32,9 +33,24 @@ fn coordinate_on(size: u32, wraps: bool, y: i64) -> Option<u32>
         return Some(y as u32);
     }
     if wraps {
-        return Some(y.rem_euclid(i64::from(size)) as u32);
+        return Some(around(size, y));
     }
     None
+}
+
+// The coordinate at `y` on a side that wraps around, where `y` is not on it: mostly one turn away, which takes no division.
+fn around(size: u32, y: i64) -> u32
+    requires { 0 < size }
+    ensures { result ≡ nat_abs (int_rem_euclid y (pos size)) }
+{
+    let size = i64::from(size);
+    if y < 0 && y + size >= 0 {
+        return (y + size) as u32;
+    }
+    if y >= size && y - size < size {
+        return (y - size) as u32;
+    }
+    y.rem_euclid(size) as u32
 }
 
 // The coordinate at length `l` from `x` by `t` for each unit of length, which may lie outside of a board.
@@ -64,8 +80,8 @@ fn steps_on(size: u32, wraps: bool, x: u32, t: i32, most: u32) -> u32
     times_within(x, t.unsigned_abs(), most)
 }
 
-// How many times `step` fits into `room`, of `most` at most. One time is told with no division.
-fn times_within(room: u32, step: u32, most: u32) -> u32
+/// How many times `step` fits into `room`, of `most` at most. One time is told with no division.
+pub(crate) fn times_within(room: u32, step: u32, most: u32) -> u32
     requires { 0 < step }
     ensures { result ≡ min most (room / step) }
 {

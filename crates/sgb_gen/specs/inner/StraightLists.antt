@@ -1,5 +1,5 @@
 -- The list of a board's vertex, of which the arcs by the last displacements are taken.
-use Rattle.std.specs.Prelude.{◌≡◌, ◌<◌, ◌++◌, ℕ, ℤ, pos, nat_abs, true, List, [], reverse, map, if◌then◌else◌}
+use Rattle.std.specs.Prelude.{◌≡◌, ◌<◌, ◌++◌, ◌*◌, get_or, ℕ, ℤ, pos, nat_abs, true, List, [], reverse, map, if◌then◌else◌}
 use Rattle.std.specs.List.{All, flat_map}
 use Rattle.sgb_vec.specs.Boxes.{box}
 use Rattle.sgb_gen.specs.Boards.{BoardData}
@@ -37,3 +37,7 @@ pub record IsRun (b : BoardData) (x : List ℕ) (t : List ℤ) : Type 0 where
 -- the piece is a leaper
 abbrev pub IsLeaper : BoardData → Type 0
 IsLeaper b = b.piece ≡ pos (nat_abs b.piece)
+
+-- so many steps by a displacement that moves this coordinate first lead ahead on its side, and around it once at most
+abbrev pub GoesAroundOnce : List ℕ → ℕ × ℤ → ℕ → Type 0
+GoesAroundOnce sizes p n = (p.1 ≡ pos (nat_abs p.1)) × (0 < nat_abs p.1) × (n * nat_abs p.1 < get_or sizes p.0 0)

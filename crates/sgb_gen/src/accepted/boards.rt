@@ -18,6 +18,7 @@ mod edges;
 mod lists;
 mod runs;
 mod strides;
+mod turns;
 
 use crate::displacements::Displacements;
 use crate::moves::entry_bounds;

@@ -102,7 +102,7 @@ impl Board {
     }
 
     // How many lengths a piece moves by such a displacement: a rider those before it is home.
-    fn lengths_around(&self, t: &[i32]) -> u32
+    pub(super) fn lengths_around(&self, t: &[i32]) -> u32
         requires dimensions { length t.now ≡ length self.now.sizes }
         requires some { 0 < product_of self.now.sizes }
         requires free { (k : ℕ) → k < length t.now → stops_at self.now.wrap t.now k ≡ false }
@@ -187,7 +187,7 @@ fn stops(wraps: bool, t: i32) -> bool
 
 // The number of the first side, from number `from` on, that can stop a piece that moves by the displacement `t`; where
 // there is none, how many sides there are.
-fn first_stop(wrap: i64, t: &[i32], from: usize) -> usize
+pub(super) fn first_stop(wrap: i64, t: &[i32], from: usize) -> usize
     requires from { from ≤ length t.now }
     ensures within { result ≤ length t.now }
     ensures after { from ≤ result }

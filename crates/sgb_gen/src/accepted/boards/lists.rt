@@ -2,19 +2,22 @@
 //!
 //! Of the moves by one displacement some start at the vector, and others lead to it; these are found by the opposite
 //! displacement. Where the first side on which it moves does not wrap around they come in order by themselves, the
-//! farthest start first (`push_in_order`). Else they are put into the order of their starts: two of a leaper by one
-//! comparison (`push_leaps`), those of a rider by a sort (`push_sorted`).
+//! farthest start first (`push_in_order`). Else they are put into the order of their starts: with no sort where they go
+//! around that side once at most (`push_around`), and by one where they go on (`push_sorted`).
 //!
 //! Displacements come in order and not backwards. So a list without a table is made oldest arc first, and turned round.
-ghost use Rattle.std.specs.Prelude.{◌≡◌, ◌<◌, [], ◌++◌, ℕ, List, true, false, length, map, reverse, None, Some, Contains, OnOk, OnErr, IsOkUnless};
+ghost use Rattle.std.specs.Prelude.{◌≡◌, ◌<◌, [], ◌++◌, ◌+◌, ◌-◌, ◌≤◌, ℕ, List, true, false, length, map, reverse, None, Some, Contains, OnOk, OnErr, IsOkUnless};
 ghost use Rattle.std.specs.Bool.{OnTrue, OnFalse};
 ghost use Rattle.sgb_vec.specs.Boxes.{box};
 ghost use Rattle.sgb_vec.specs.Lexicographic.{IsBelow};
 ghost use Rattle.sgb_gen.specs.Boards.{moves_of_board};
 ghost use Rattle.sgb_gen.specs.LocalLists.{list_at};
 ghost use Rattle.sgb_gen.specs.inner.LocalBoards.{move_arc, arcs_onward, moves_by};
+ghost use Rattle.std.specs.List.{range_with_len};
+ghost use Rattle.sgb_gen.specs.MovedCoordinates.{parts_of};
 ghost use Rattle.sgb_gen.specs.Moves.{moves_from, sides_of, place, opposite};
-ghost use Rattle.sgb_gen.specs.inner.Moves.{destination, leads_onward, longest_move};
+ghost use Rattle.sgb_gen.specs.Runs.{arc_along, arcs_along};
+ghost use Rattle.sgb_gen.specs.inner.Moves.{destination, leads_onward};
 // For the search alone.
 ghost use Rattle.std.specs.Prelude.{◌==◌};
 
@@ -119,10 +122,7 @@ impl Board {
         if leads_onward(self.wrap, t) {
             return self.push_in_order(x, t, back, links);
         }
-        if self.longest_move() == 1 {
-            return self.push_leaps(x, t, back, there, links);
-        }
-        self.push_sorted(x, t, back, there, links)
+        self.push_turned(x, t, back, there, links)
     }
 
     // Puts the arcs by the moves from `x` by `t` behind the others, the longest move first.
@@ -177,45 +177,6 @@ impl Board {
         self.push_straight(x, back, links)
     }
 
-    // Puts the arcs of `x` by the edges of the displacement `t` behind the others, where no move is longer than 1: of the
-    // edge that starts at `x` and the one that comes to it the later first.
-    fn push_leaps(
-        &self,
-        x: &[u32],
-        t: &Step,
-        back: &Step,
-        there: &mut Vector,
-        links: &mut Links,
-    ) -> Result<(), Panic>
-        requires below { IsBelow x.now self.now.sizes }
-        requires dimensions { length t.now ≡ length self.now.sizes }
-        requires back { back.now ≡ opposite t.now }
-        requires width { length x.now ≡ links.old.width }
-        requires short { longest_move (sides_of self.now.sizes self.now.wrap) self.now.piece ≡ 1 }
-        ensures ok { OnOk result (links.new
-            ≡ record links.old {
-              arcs = links.old.arcs
-                  ++ reverse (arcs_onward false x.now
-                  (moves_by (sides_of self.now.sizes self.now.wrap) self.now.piece
-                  (box self.now.sizes) t.now));
-            }) }
-        ensures memory { IsOkUnless result Panic.NoRoom }
-    {
-        let u = self.vertex_of(x);
-        let Some(v) = self.vertex_at(x, back, 1, there) else {
-            return self.push_edge(x, t, 1, there, links);
-        };
-        if v > u {
-            self.push_edge(x, back, 1, there, links)?;
-            return self.push_edge(x, t, 1, there, links);
-        }
-        self.push_edge(x, t, 1, there, links)?;
-        if v < u {
-            return self.push_edge(x, back, 1, there, links);
-        }
-        Ok(())
-    }
-
     // Whether no move by the displacement `t`, whose opposite is `back`, comes home. `false` where it may.
     fn is_straight(&self, t: &Step, back: &Step) -> bool
         requires dimensions { length t.now ≡ length self.now.sizes }
@@ -250,13 +211,8 @@ impl Board {
             }) }
         ensures memory { IsOkUnless result Panic.NoRoom }
     {
-        let sizes = self.sizes();
-        let parts = t.parts();
         let farthest = self.farthest(x, t, false);
-        for shorter in 0..farthest {
-            links.push_placed(sizes, self.wrap, x, parts, shorter + 1)?;
-        }
-        Ok(())
+        self.push_lengths(x, t, 0, farthest, links)
     }
 
     // As `push_straight`, but the longest move first.
@@ -275,10 +231,60 @@ impl Board {
             }) }
         ensures memory { IsOkUnless result Panic.NoRoom }
     {
+        let farthest = self.farthest(x, t, false);
+        self.push_lengths_down(x, t, farthest, links)
+    }
+
+    // Puts the arcs from `x` by `t` of the lengths above `from` up to `to` behind the others.
+    pub(super) fn push_lengths(
+        &self,
+        x: &[u32],
+        t: &Step,
+        from: u32,
+        to: u32,
+        links: &mut Links,
+    ) -> Result<(), Panic>
+        requires below { IsBelow x.now self.now.sizes }
+        requires dimensions { length t.now ≡ length self.now.sizes }
+        requires lengths { from ≤ to }
+        requires width { length x.now ≡ links.old.width }
+        ensures ok { OnOk result (links.new
+            ≡ record links.old {
+              arcs = links.old.arcs
+                  ++ map (arc_along self.now.sizes self.now.wrap x.now (parts_of t.now))
+                  (range_with_len (from + 1) (to - from));
+            }) }
+        ensures memory { IsOkUnless result Panic.NoRoom }
+    {
         let sizes = self.sizes();
         let parts = t.parts();
-        let farthest = self.farthest(x, t, false);
-        for shorter in (0..farthest).rev() {
+        for shorter in from..to {
+            links.push_placed(sizes, self.wrap, x, parts, shorter + 1)?;
+        }
+        Ok(())
+    }
+
+    // Puts the arcs from `x` by `t` of the lengths from `to` down to 1 behind the others.
+    pub(super) fn push_lengths_down(
+        &self,
+        x: &[u32],
+        t: &Step,
+        to: u32,
+        links: &mut Links,
+    ) -> Result<(), Panic>
+        requires below { IsBelow x.now self.now.sizes }
+        requires dimensions { length t.now ≡ length self.now.sizes }
+        requires width { length x.now ≡ links.old.width }
+        ensures ok { OnOk result (links.new
+            ≡ record links.old {
+              arcs = links.old.arcs
+                  ++ reverse (arcs_along self.now.sizes self.now.wrap x.now (parts_of t.now) to);
+            }) }
+        ensures memory { IsOkUnless result Panic.NoRoom }
+    {
+        let sizes = self.sizes();
+        let parts = t.parts();
+        for shorter in (0..to).rev() {
             links.push_placed(sizes, self.wrap, x, parts, shorter + 1)?;
         }
         Ok(())

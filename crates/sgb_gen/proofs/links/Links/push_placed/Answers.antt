@@ -15,17 +15,17 @@ pub invariant_of-self-2 : goal.invariant_of-self-2
 invariant_of-self-2 c =
     let l = c.self.inside in
     let kept : vec_len l.tips ≡ length l.tips.items = search rules in
-    let count : vec_len c.extend_from_slice.new.self ≡ length c.extend_from_slice.new.self.items = search rules in
-    (arc-moved (parts_put c.args.sizes.now (to_z w64 (of_z w64 c.args.wrap)) c.args.x.now c.args.l c.args.parts.now) c.extend_from_slice.new.self l.width c.args.l c.args.self.now l.tips.items l.lens.items c.args.x.now _ _ _ _ (length-put c.args.sizes.now (to_z w64 (of_z w64 c.args.wrap)) c.args.x.now c.args.l c.args.parts.now)
-    c.self.view_is c.self.invariant c.requires.width c.in_ok-extend_from_slice.ensures.items c.as_mut_slice.ensures.value count (c.len-start.ensures ∙ kept) c.put_parts.ensures
+    let count : vec_len c.push_entries.new.entries ≡ length c.push_entries.new.entries.items = search rules in
+    (arc-moved (parts_put c.args.sizes.now (to_z w64 (of_z w64 c.args.wrap)) c.args.x.now c.args.l c.args.parts.now) c.push_entries.new.entries l.width c.args.l c.args.self.now l.tips.items l.lens.items c.args.x.now _ _ _ _ (length-put c.args.sizes.now (to_z w64 (of_z w64 c.args.wrap)) c.args.x.now c.args.l c.args.parts.now)
+    c.self.view_is c.self.invariant c.requires.width c.in_ok-push_entries.ensures.ok c.as_mut_slice.ensures.value count (c.len-start.ensures ∙ kept) c.put_parts.ensures
     (c.in_ok-push.ensures.items ∙ ap (λ ns. ns ++ c.args.l ∷ []) c.in_ok-reserve.ensures.items)).0
 
 pub returns-clause-ok : goal.returns-clause-ok
 returns-clause-ok c =
     let l = c.self.inside in
     let kept : vec_len l.tips ≡ length l.tips.items = search rules in
-    let count : vec_len c.extend_from_slice.new.self ≡ length c.extend_from_slice.new.self.items = search rules in
-    (arc-moved (parts_put c.args.sizes.now (to_z w64 (of_z w64 c.args.wrap)) c.args.x.now c.args.l c.args.parts.now) c.extend_from_slice.new.self l.width c.args.l c.args.self.now l.tips.items l.lens.items c.args.x.now _ _ _ _ (length-put c.args.sizes.now (to_z w64 (of_z w64 c.args.wrap)) c.args.x.now c.args.l c.args.parts.now)
-    c.self.view_is c.self.invariant c.requires.width c.in_ok-extend_from_slice.ensures.items c.as_mut_slice.ensures.value count (c.len-start.ensures ∙ kept) c.put_parts.ensures
+    let count : vec_len c.push_entries.new.entries ≡ length c.push_entries.new.entries.items = search rules in
+    (arc-moved (parts_put c.args.sizes.now (to_z w64 (of_z w64 c.args.wrap)) c.args.x.now c.args.l c.args.parts.now) c.push_entries.new.entries l.width c.args.l c.args.self.now l.tips.items l.lens.items c.args.x.now _ _ _ _ (length-put c.args.sizes.now (to_z w64 (of_z w64 c.args.wrap)) c.args.x.now c.args.l c.args.parts.now)
+    c.self.view_is c.self.invariant c.requires.width c.in_ok-push_entries.ensures.ok c.as_mut_slice.ensures.value count (c.len-start.ensures ∙ kept) c.put_parts.ensures
     (c.in_ok-push.ensures.items ∙ ap (λ ns. ns ++ c.args.l ∷ []) c.in_ok-reserve.ensures.items)).1
     ∙ ap (λ w. with_arcs c.args.self.now (record { tip = parts_put c.args.sizes.now w c.args.x.now c.args.l c.args.parts.now c.args.x.now; len = pos c.args.l } ∷ [])) (to_z-of_z w64 c.args.wrap c.ranges.wrap)
