@@ -1,5 +1,5 @@
 -- The three generators: their graphs, and what is known of an accepted one without its graph [GB_BASIC].
-use Rattle.std.specs.Prelude.{◌≡◌, ◌⊎◌, ℕ, List, Result, Ok, Err}
+use Rattle.std.specs.Prelude.{◌≡◌, ◌<◌, ◌⊎◌, ℕ, List, length, Result, Ok, Err, IfOk}
 use Rattle.sgb_vec.specs.Bounds.{simplex_of}
 use Rattle.sgb_vec.specs.Results.{and_then}
 use Rattle.sgb_vec.specs.declared.panics.Panic.{Panic}
@@ -31,6 +31,12 @@ abbrev pub IsGeneratorRefused : Generator → Panic → Type 0
 IsGeneratorRefused (generator.Board p) code = board p ≡ Err code
 IsGeneratorRefused (generator.Simplex p) code = simplex_of p.n p.n0 p.n1 p.n2 p.n3 p.n4 ≡ Err code
 IsGeneratorRefused (generator.Subsets p) code = simplex_of p.n p.n0 p.n1 p.n2 p.n3 p.n4 ≡ Err code
+
+-- accepting a generator takes no memory: a board, and a sum of one bound
+abbrev pub IsAcceptedAtOnce : Generator → Type 0
+IsAcceptedAtOnce (generator.Board p) = Unit {0}
+IsAcceptedAtOnce (generator.Simplex p) = IfOk (simplex_of p.n p.n0 p.n1 p.n2 p.n3 p.n4) (λ shape. length shape.sizes < 2)
+IsAcceptedAtOnce (generator.Subsets p) = IfOk (simplex_of p.n p.n0 p.n1 p.n2 p.n3 p.n4) (λ shape. length shape.sizes < 2)
 
 -- the graph of accepted parameters, as one of vectors
 abbrev pub vector_graph_of : Local → VectorGraph
