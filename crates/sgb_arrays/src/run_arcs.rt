@@ -39,9 +39,9 @@ struct ArcsOfRun {
 impl Visitor<Links> for ArcsOfRun {
     type Answer = Result<u128, Wrong>;
 
-    ghost needs = { λ _ _ _. ⊤ };
+    ghost needs = { λ _ _ _ _. ⊤ };
 
-    ghost gives = { λ v g _ _ result.
+    ghost gives = { λ v g _ _ _ result.
         IfOk result (λ m. IsThere (graph_described (described_by g)) v.first v.count
         × (m ≡ length (parts_of (chain_of (graph_described (described_by g))) v.first v.count)))
         × IfErr result (IsRunRefusal (graph_described (described_by g)) v.first v.count) };

@@ -45,9 +45,9 @@ struct NamesOfRun {
 impl Visitor<()> for NamesOfRun {
     type Answer = Result<Names, Wrong>;
 
-    ghost needs = { λ _ _ _. ⊤ };
+    ghost needs = { λ _ _ _ _. ⊤ };
 
-    ghost gives = { λ v g _ _ result.
+    ghost gives = { λ v g _ _ _ result.
         IfOk result (λ names. IsThere (graph_described (described_by g)) v.first v.count
         × AreNames (graph_described (described_by g)) v.first v.count names.starts.items
         names.bytes.items)

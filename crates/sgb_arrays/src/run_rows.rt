@@ -50,9 +50,9 @@ struct RowsOfRun {
 impl Visitor<Links> for RowsOfRun {
     type Answer = Result<Rows, Wrong>;
 
-    ghost needs = { λ _ _ _. ⊤ };
+    ghost needs = { λ _ _ _ _. ⊤ };
 
-    ghost gives = { λ v g _ _ result.
+    ghost gives = { λ v g _ _ _ result.
         IfOk result (λ rows. IsThere (graph_described (described_by g)) v.first v.count
         × AreRows (graph_described (described_by g)) v.first v.count rows.starts.items
         rows.tips.items rows.lengths.items)

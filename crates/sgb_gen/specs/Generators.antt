@@ -10,6 +10,7 @@ use Rattle.sgb_graph.specs.Made.{graph_described}
 use Rattle.sgb_gen.specs.Boards.{board, board_vector_graph}
 use Rattle.sgb_gen.specs.Simplexes.{simplex, simplex_vector_graph}
 use Rattle.sgb_gen.specs.Subsets.{subsets, subsets_vector_graph}
+use Rattle.sgb_gen.specs.Sorts.{Sort, of_board, of_simplex, of_subsets}
 use Rattle.sgb_gen.specs.VectorGraphs.{VectorGraph, described_by}
 use Rattle.sgb_gen.specs.declared.params.Generator.{Generator}
 use Rattle.sgb_gen.specs.declared.params.Generator.TheVariants as generator
@@ -43,6 +44,12 @@ abbrev pub vector_graph_of : Local → VectorGraph
 vector_graph_of (local.Board b) = board_vector_graph b
 vector_graph_of (local.Simplex s) = simplex_vector_graph s
 vector_graph_of (local.Subsets s) = subsets_vector_graph s
+
+-- which generator accepted parameters are of
+abbrev pub sort_of : Local → Sort
+sort_of (local.Board b) = of_board
+sort_of (local.Simplex s) = of_simplex
+sort_of (local.Subsets s) = of_subsets
 
 -- the graph of accepted parameters
 abbrev pub described : Local → Description

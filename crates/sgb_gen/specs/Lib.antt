@@ -14,10 +14,14 @@ pub mod Boards
 pub mod Simplexes
 -- subsets: parameters, ids, graphs
 pub mod Subsets
+-- which generator a graph is from
+pub mod Sorts
 -- the three generators by one name
 pub mod Generators
 -- the list of arcs of one vertex
 pub mod LocalLists
+-- arcs that are handed out one by one
+pub mod ArcSinks
 -- displacements by the coordinates that they move
 pub mod MovedCoordinates
 -- the list of a board's vertex, run by run

@@ -3,12 +3,16 @@
 
 // Accepted parameters: their vertices, ids, graphs and lists.
 mod accepted;
+// Arcs that are handed out one by one.
+mod arc_sinks;
 // Displacements that are kept.
 mod displacement_tables;
 // A walk over the displacements of a piece.
 mod displacements;
 // The generators.
 mod generators;
+// Such arcs that are kept in links.
+mod kept_arcs;
 // Laws of displacements, moves and shifts.
 mod laws;
 // The arcs of one vertex, with the vectors where they lead.
@@ -37,6 +41,7 @@ mod vector_tables;
 mod visits;
 
 pub use accepted::{Board, BoardLists, Run, Runs, Simplex, Stride, Strides, Subsets, common};
+pub use arc_sinks::ArcSink;
 pub use counted_places::CountedPlaces;
 pub use generators::{board, simplex, subsets};
 pub use laws::{

@@ -3,15 +3,15 @@
 //! The vectors stand one after another, and each is handed out as a slice: a vector for each arc would be a thousand
 //! bytes. What all lists of a board have in common stands elsewhere (`BoardLists`): links serve for list after list,
 //! also of another board.
-ghost use Rattle.std.specs.Prelude.{◌≡◌, ◌≢◌, ◌<◌, pos, true, [], ◌∷◌, ◌++◌, ◌*◌, ◌-◌, ◌≤◌, length, take, drop, reverse, slice_get, Some, All, OnOk, OnErr, IsOkUnless};
+ghost use Rattle.std.specs.Prelude.{◌≡◌, ◌<◌, pos, [], ◌∷◌, ◌++◌, ◌*◌, ◌-◌, ◌≤◌, length, take, drop, reverse, slice_get, Some, All, OnOk, OnErr, IsOkUnless};
+ghost use Rattle.sgb_gen.specs.ArcSinks.{AreGiven};
 ghost use Rattle.sgb_gen.specs.LocalLists.{LinksData, LocalArc};
 ghost use Rattle.sgb_gen.specs.inner.LocalArcs.{rows_turned};
 ghost use Rattle.sgb_gen.specs.MovedCoordinates.{parts_put};
 ghost use Rattle.sgb_vec.specs.Lexicographic.{IsBelow};
-ghost use Rattle.sgb_gen.specs.Simplexes.{can_move_unit, unit_moved};
 
+use crate::arc_sinks::ArcSink;
 use crate::moves::put_parts;
-use crate::shifts::move_unit;
 use crate::steps::Part;
 use crate::vector_tables::row;
 use sgb_vec::Panic;
@@ -47,13 +47,12 @@ pub struct Links {
     lens: Vec<u32>,
     // Room that is used again for the starts of moves: no part of the arcs.
     starts: Vec<(u32, u32)>,
-    // Room that is used again for the first entries of a vector: no part of the arcs.
-    entries: Vec<u32>,
 }
 
 impl Model for Links {
     ghost use Rattle.std.specs.Prelude.{◌≡◌, ◌*◌, length};
     ghost use Rattle.sgb_gen.specs.inner.LocalArcs.{arcs_in};
+    ghost use Rattle.sgb_gen.specs.ArcSinks.{AreGiven};
     ghost use Rattle.sgb_gen.specs.LocalLists.{LinksData};
 
     ghost Value = { LinksData };
@@ -76,7 +75,6 @@ impl Links {
             width: 0,
             lens: Vec::new(alloc),
             starts: Vec::new(alloc),
-            entries: Vec::new(alloc),
         }
     }
 
@@ -96,6 +94,26 @@ impl Links {
             tip: row(self.tips.as_slice(), self.width, i),
             len: self.lens[i],
         }
+    }
+
+    // Hands the arcs to a sink, one by one.
+    pub(crate) fn give<K: ArcSink<R, S>, R, S>(
+        &self,
+        sink: &K,
+        room: &mut R,
+        out: &mut S,
+    ) -> Result<(), K::Fault>
+        requires widths { All (λ a. length a.tip ≡ K.width sink.now) self.now.arcs }
+        requires ready { K.ready sink.now room.old out.old }
+        ensures given { AreGiven (K.took sink.now) (K.cut sink.now) room.old out.old self.now.arcs
+            room.new out.new result }
+        ensures ready { OnOk result (K.ready sink.now room.new out.new) }
+    {
+        for i in 0..self.len() {
+            let arc = self.get(i);
+            sink.put_arc(arc.tip, arc.len, room, out)?;
+        }
+        Ok(())
     }
 
     // Where the memory of the arcs comes from.
@@ -138,36 +156,6 @@ impl Links {
         self.lens.reserve(1)?;
         self.tips.extend_from_slice(tip)?;
         self.lens.push(len)?;
-        Ok(())
-    }
-
-    // Puts an arc of length 1 behind the others, to the vector that `x` becomes when a unit goes from one place to another:
-    // two of its entries are changed where they are kept. An error means out of memory.
-    pub(crate) fn push_moved(
-        &mut self,
-        bounds: &[u32],
-        x: &[u32],
-        from: usize,
-        to: usize,
-    ) -> Result<(), Panic>
-        requires width { length x.now ≡ self.old.width }
-        requires apart { from ≢ to }
-        requires from { from < length x.now }
-        requires to { to < length x.now }
-        requires bounds { length x.now ≡ length bounds.now }
-        requires can { can_move_unit bounds.now x.now from to ≡ true }
-        ensures ok { OnOk result (self.new
-            ≡ record self.old {
-              arcs = self.old.arcs
-                  ++ record { tip = unit_moved x.now from to; len = pos 1 } ∷ [];
-            }) }
-        ensures memory { IsOkUnless result Panic.NoRoom }
-    {
-        let start = self.tips.len();
-        self.lens.reserve(1)?;
-        self.tips.extend_from_slice(x)?;
-        move_unit(bounds, &mut self.tips.as_mut_slice()[start..], from, to);
-        self.lens.push(1)?;
         Ok(())
     }
 
@@ -243,24 +231,6 @@ impl Links {
         ensures { self.new ≡ self.old }
     {
         self.starts = starts;
-    }
-
-    // Hands out room for the entries of a vector, which is empty; its memory comes from where that of the links does.
-    pub(crate) fn take_entries(&mut self) -> Vec<u32>
-        ensures empty { result.items ≡ [] }
-        ensures same { self.new ≡ self.old }
-    {
-        let none = Vec::new(*self.lens.allocator());
-        let mut entries = replace(&mut self.entries, none);
-        entries.clear();
-        entries
-    }
-
-    // Takes that room back.
-    pub(crate) fn keep_entries(&mut self, entries: Vec<u32>)
-        ensures { self.new ≡ self.old }
-    {
-        self.entries = entries;
     }
 }
 

@@ -4,16 +4,19 @@
 //! `BoardLists`, which makes a table only in `prepare`: names, sizes and where a listing begins take no memory. That
 //! moves have their ends among the vectors is a clause of `family` and no law: its proof would have to stand with the
 //! definitions.
-ghost use Rattle.std.specs.Prelude.{◌≡◌, length, map, slice_get, All, Contains, IfOk, IfSome, OnOk, IsOkUnless, Some};
+ghost use Rattle.std.specs.Prelude.{◌≡◌, ◌≤◌, ◌^◌, length, map, slice_get, All, Contains, IfErr, IfOk, IfSome, IsOk, OnOk, IsOkUnless, Some};
 ghost use Rattle.sgb_graph.specs.Graphs.{chain_of};
 ghost use Rattle.sgb_graph.specs.Made.{graph_described};
+ghost use Rattle.sgb_gen.specs.ArcSinks.{AreGiven};
 ghost use Rattle.sgb_gen.specs.Boards.{board_vector_graph};
 ghost use Rattle.sgb_gen.specs.LocalLists.{list_in};
 ghost use Rattle.sgb_gen.specs.Simplexes.{simplex_vector_graph};
+ghost use Rattle.sgb_gen.specs.Sorts.{Sort, of_board, of_simplex, of_subsets};
 ghost use Rattle.sgb_gen.specs.Subsets.{subsets_vector_graph};
 ghost use Rattle.sgb_gen.specs.VectorGraphs.{HasEnds, VectorGraph, described_by, vertex_among};
 
 use crate::accepted::{BoardLists, Runs, Simplex, Strides, Subsets};
+use crate::arc_sinks::ArcSink;
 use crate::counted_places::CountedPlaces;
 use crate::links::Links;
 use sgb_graph::Id;
@@ -27,6 +30,9 @@ pub trait Listed<'a> {
     // The graph.
     ghost graph: { Self → VectorGraph };
 
+    // Which generator it is from.
+    ghost sort: { Self → Sort };
+
     /// The vectors that are the vertices.
     fn family(&self) -> &'a Self::Members
         ensures members { Self.Members.members result.now ≡ (graph self.now).vectors }
@@ -38,15 +44,20 @@ pub trait Listed<'a> {
 
     /// How many arcs the graph has, where an edge counts as two. They are counted without the lists.
     ///
-    /// `NoRoom` when out of memory, and nothing else. The memory is from where that of the links comes.
+    /// `NoRoom` when out of memory, and nothing else: of a board where 128 bits do not hold the number, and of subsets never.
+    /// The memory is from where that of the links comes.
     fn arcs_count(&self, links: &Links) -> Result<u128, Panic>
         ensures count { IfOk result (λ m. m ≡ (graph_described (described_by (graph self.now))).m) }
-        ensures memory { IsOkUnless result Panic.NoRoom };
+        ensures memory { IsOkUnless result Panic.NoRoom }
+        ensures board { sort self.now ≡ of_board → IfErr result (λ e.
+            2 ^ 128 ≤ (graph_described (described_by (graph self.now))).m) }
+        ensures subsets { sort self.now ≡ of_subsets → IsOk result };
 
     /// Makes what all lists have in common, where there is memory for it: they are then made faster. A listing calls it once,
     /// before its first list. The memory is from where that of the links comes.
     fn prepare(&mut self, links: &Links)
-        ensures { graph self.new ≡ graph self.old };
+        ensures same { graph self.new ≡ graph self.old }
+        ensures sort { sort self.new ≡ sort self.old };
 
     /// Puts the arcs of the vertex of `x` into `links`, in the order of its list in the graph.
     ///
@@ -58,7 +69,33 @@ pub trait Listed<'a> {
             links.new.arcs) }
         ensures widths { OnOk result (All (λ a. length a.tip ≡ length x.now) links.new.arcs) }
         ensures memory { IsOkUnless result Panic.NoRoom }
-        ensures same { graph self.new ≡ graph self.old };
+        ensures same { graph self.new ≡ graph self.old }
+        ensures sort { sort self.new ≡ sort self.old };
+
+    /// Hands the arcs of the vertex of `x` to a sink, one by one, in the order of its list in the graph. Of a simplex and of
+    /// subsets no list is kept, and no memory is taken but by the sink; a board's list is made in `links` first.
+    ///
+    /// The sink's fault, inside; or `NoRoom` when out of memory for a board's list, and nothing else: the sink was then handed
+    /// nothing.
+    fn give_arcs<K: ArcSink<R, S>, R, S>(
+        &mut self,
+        x: &[u32],
+        links: &mut Links,
+        sink: &K,
+        room: &mut R,
+        out: &mut S,
+    ) -> Result<Result<(), K::Fault>, Panic>
+        requires member { Contains (graph self.old).vectors x.now }
+        requires width { K.width sink.now ≡ length x.now }
+        requires ready { K.ready sink.now room.old out.old }
+        ensures given { IfOk result (AreGiven (K.took sink.now) (K.cut sink.now) room.old out.old
+            (list_in (graph self.old) x.now) room.new out.new) }
+        ensures ready { IfOk result (λ r. OnOk r (K.ready sink.now room.new out.new)) }
+        ensures memory { IsOkUnless result Panic.NoRoom }
+        ensures board { IfErr result (λ p. sort self.old ≡ of_board) }
+        ensures unput { IfErr result (λ p. (room.new ≡ room.old) × (out.new ≡ out.old)) }
+        ensures same { graph self.new ≡ graph self.old }
+        ensures sort { sort self.new ≡ sort self.old };
 
     /// The list of the vertex of `x` run by run, where it can be had so: no list is then made. No memory is taken.
     fn runs<'b>(&'b self, x: &'b [u32]) -> Option<Runs<'b>>
@@ -93,6 +130,8 @@ impl<'a> Listed<'a> for BoardLists<'a> {
 
     ghost graph = { board_vector_graph };
 
+    ghost sort = { λ _. of_board };
+
     fn family(&self) -> &'a BoxFamily {
         self.board.family()
     }
@@ -111,6 +150,18 @@ impl<'a> Listed<'a> for BoardLists<'a> {
 
     fn arcs_at(&mut self, x: &[u32], links: &mut Links) -> Result<(), Panic> {
         BoardLists::arcs_at(self, x, links)
+    }
+
+    fn give_arcs<K: ArcSink<R, S>, R, S>(
+        &mut self,
+        x: &[u32],
+        links: &mut Links,
+        sink: &K,
+        room: &mut R,
+        out: &mut S,
+    ) -> Result<Result<(), K::Fault>, Panic> {
+        BoardLists::arcs_at(self, x, links)?;
+        Ok(links.give(sink, room, out))
     }
 
     fn runs<'b>(&'b self, x: &'b [u32]) -> Option<Runs<'b>> {
@@ -135,6 +186,8 @@ impl<'a> Listed<'a> for &'a Simplex {
 
     ghost graph = { λ s. simplex_vector_graph s.now };
 
+    ghost sort = { λ _. of_simplex };
+
     fn family(&self) -> &'a SumFamily {
         (**self).family()
     }
@@ -151,6 +204,17 @@ impl<'a> Listed<'a> for &'a Simplex {
 
     fn arcs_at(&mut self, x: &[u32], links: &mut Links) -> Result<(), Panic> {
         (**self).arcs_at(x, links)
+    }
+
+    fn give_arcs<K: ArcSink<R, S>, R, S>(
+        &mut self,
+        x: &[u32],
+        _links: &mut Links,
+        sink: &K,
+        room: &mut R,
+        out: &mut S,
+    ) -> Result<Result<(), K::Fault>, Panic> {
+        Ok((**self).push_all(x, sink, room, out))
     }
 
     fn runs<'b>(&'b self, _x: &'b [u32]) -> Option<Runs<'b>> {
@@ -175,6 +239,8 @@ impl<'a> Listed<'a> for &'a Subsets {
 
     ghost graph = { λ s. subsets_vector_graph s.now };
 
+    ghost sort = { λ _. of_subsets };
+
     fn family(&self) -> &'a SumFamily {
         (**self).family()
     }
@@ -191,6 +257,17 @@ impl<'a> Listed<'a> for &'a Subsets {
 
     fn arcs_at(&mut self, x: &[u32], links: &mut Links) -> Result<(), Panic> {
         (**self).arcs_at(x, links)
+    }
+
+    fn give_arcs<K: ArcSink<R, S>, R, S>(
+        &mut self,
+        x: &[u32],
+        _links: &mut Links,
+        sink: &K,
+        room: &mut R,
+        out: &mut S,
+    ) -> Result<Result<(), K::Fault>, Panic> {
+        Ok((**self).push_all(x, sink, room, out))
     }
 
     fn runs<'b>(&'b self, _x: &'b [u32]) -> Option<Runs<'b>> {

@@ -4,7 +4,8 @@
 //! contract speaks of, as a sink, is its state. `Visit` has the graph's type as a parameter, and not its method: the
 //! checker states no method whose own bound names its lifetime.
 ghost use Rattle.sgb_gen.specs.VectorGraphs.{VectorGraph};
-ghost use Rattle.sgb_gen.specs.Generators.{vector_graph_of};
+ghost use Rattle.sgb_gen.specs.Generators.{sort_of, vector_graph_of};
+ghost use Rattle.sgb_gen.specs.Sorts.{Sort};
 
 use crate::accepted::{BoardLists, Simplex, Subsets};
 use crate::listed::Listed;
@@ -15,19 +16,20 @@ pub trait Visitor<S> {
     /// What comes of it.
     type Answer;
 
-    // What is needed before, of the graph and of the state.
-    ghost needs: { Self → VectorGraph → S → Type 0 };
+    // What is needed before, of the graph, of which generator it is from, and of the state.
+    ghost needs: { Self → VectorGraph → Sort → S → Type 0 };
 
-    // What comes of it: of the graph, of the state before and after, and of the answer.
-    ghost gives: { Self → VectorGraph → S → S → Self.Answer → Type 0 };
+    // What comes of it: of the graph and its generator, of the state before and after, and of the answer.
+    ghost gives: { Self → VectorGraph → Sort → S → S → Self.Answer → Type 0 };
 }
 
 /// A visitor that does it with a graph by what a listing asks of it.
 pub trait Visit<'a, L: Listed<'a>, S>: Visitor<S> {
     /// Does it. What the lists have in common is not made yet: where lists are made, `prepare` comes first.
     fn visit(self, listed: &mut L, state: &mut S) -> Self::Answer
-        requires { Self.needs self (L.graph listed.old) state.old }
-        ensures { Self.gives self (L.graph listed.old) state.old state.new result };
+        requires { Self.needs self (L.graph listed.old) (L.sort listed.old) state.old }
+        ensures { Self.gives self (L.graph listed.old) (L.sort listed.old) state.old state.new
+            result };
 }
 
 impl Local {
@@ -39,8 +41,9 @@ impl Local {
             + Visit<'a, BoardLists<'a>, S>
             + Visit<'a, &'a Simplex, S>
             + Visit<'a, &'a Subsets, S>,
-        requires { V.needs visitor (vector_graph_of self.now) state.old }
-        ensures { V.gives visitor (vector_graph_of self.now) state.old state.new result }
+        requires { V.needs visitor (vector_graph_of self.now) (sort_of self.now) state.old }
+        ensures { V.gives visitor (vector_graph_of self.now) (sort_of self.now) state.old state.new
+            result }
     {
         match self {
             Local::Board(board) => {

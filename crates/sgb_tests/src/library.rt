@@ -156,9 +156,9 @@ struct Size;
 impl Visitor<()> for Size {
     type Answer = u32;
 
-    ghost needs = { λ _ _ _. ⊤ };
+    ghost needs = { λ _ _ _ _. ⊤ };
 
-    ghost gives = { λ _ _ _ _ _. ⊤ };
+    ghost gives = { λ _ _ _ _ _ _. ⊤ };
 }
 
 impl<'a, L: Listed<'a>> Visit<'a, L, ()> for Size {

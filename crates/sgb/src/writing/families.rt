@@ -82,10 +82,10 @@ struct FamilyListing<'l> {
 impl<'l, W: Sink> Visitor<W> for FamilyListing<'l> {
     type Answer = Result<(), Fault>;
 
-    ghost needs = { λ v g old. IfSome v.after (λ x. Contains g.vectors x.now)
+    ghost needs = { λ v g _ old. IfSome v.after (λ x. Contains g.vectors x.now)
         × (W.has_failed old ≡ false) };
 
-    ghost gives = { λ v g old new result. IsWritten (family_text (graph_described (described_by g))
+    ghost gives = { λ v g _ old new result. IsWritten (family_text (graph_described (described_by g))
         v.head (left_out_after g.vectors (option_map (λ x. x.now) v.after)))
         (change W.written W.has_failed old new) result
         × IfErr result (λ f. f ≢ fault.Write → IsLeftOrBegun
@@ -114,9 +114,9 @@ pub(crate) struct ListAnswer<'l> {
 impl<'l, W: Sink> Visitor<W> for ListAnswer<'l> {
     type Answer = Result<(), Fault>;
 
-    ghost needs = { λ _ _ old. W.has_failed old ≡ false };
+    ghost needs = { λ _ _ _ old. W.has_failed old ≡ false };
 
-    ghost gives = { λ v g old new result.
+    ghost gives = { λ v g _ old new result.
         IsEnded (list_answer (graph_described (described_by g)) v.resume.now)
         (effect W.written W.has_failed old new) result
         × (IsPast (names_of (graph_described (described_by g))) v.resume.now

@@ -40,9 +40,9 @@ pub(crate) struct NamesAnswer<'r> {
 impl<'r, W: Sink> Visitor<W> for NamesAnswer<'r> {
     type Answer = Result<(), Fault>;
 
-    ghost needs = { λ _ _ old. W.has_failed old ≡ false };
+    ghost needs = { λ _ _ _ old. W.has_failed old ≡ false };
 
-    ghost gives = { λ v g old new result.
+    ghost gives = { λ v g _ old new result.
         IsEnded (names_answer (map name_of_vector g.vectors) v.resume.now)
         (effect W.written W.has_failed old new) result
         × IfErr result (λ f. f ≢ fault.Panic NoRoom) };

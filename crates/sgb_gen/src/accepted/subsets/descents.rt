@@ -2,19 +2,18 @@
 //! and a beginning is left as soon as no vector that has it can have a wanted size in common.
 //!
 //! So its time grows with the arcs and the bounds, and not with the vertices.
-ghost use Rattle.std.specs.Prelude.{◌≡◌, ◌+◌, ◌-◌, ◌^◌, ◌≤◌, ◌<◌, min, ℕ, List, false, ◌∷◌, length, reverse, sum, OnOk, IsOkUnless};
+ghost use Rattle.std.specs.Prelude.{◌≡◌, ◌+◌, ◌-◌, ◌^◌, ◌≤◌, ◌<◌, min, ℕ, List, false, ◌∷◌, length, reverse, sum, OnOk};
 ghost use Rattle.std.specs.Bool.{OnFalse};
 ghost use Rattle.sgb_vec.specs.Limits.{most_dimensions, most_vertices};
 ghost use Rattle.sgb_vec.specs.Sums.{bounded_sums};
+ghost use Rattle.sgb_gen.specs.ArcSinks.{AreGiven};
 ghost use Rattle.sgb_gen.specs.Subsets.{is_wanted_size};
 ghost use Rattle.sgb_gen.specs.inner.Descents.{AreBetween, IsBegun, arcs_under, down_from, down_to, front_of, row, rows};
-ghost use Rattle.sgb_gen.specs.inner.LocalSimplexes.{with_arcs};
 
 use super::Subsets;
 use super::last_entries::{push_last, push_zeros};
 use super::sizes::{WantedSizes, may_be_among, wanted_entries};
-use crate::links::Links;
-use sgb_vec::Panic;
+use crate::arc_sinks::ArcSink;
 
 // What is known where some entries of a vector are placed: which sizes are wanted, what the bounds of the other entries
 // add to and what the other entries of `x` do, what is left to be placed, and how many elements are in common so far.
@@ -56,36 +55,41 @@ impl Subsets {
     }
 }
 
-// Puts the arcs to the vectors down to `x`, or to what is left of them, behind the others. They begin as `tip` does.
-pub(super) fn push_to(
+// Hands out the arcs to the vectors down to `x`, or to what is left of them. They begin as `tip` does.
+pub(super) fn push_to<K: ArcSink<R, S>, R, S>(
     sizes: &WantedSizes,
     begun: Begun,
     bounds: &[u32],
     x: &[u32],
     tip: &mut [u32],
-    links: &mut Links,
-) -> Result<(), Panic>
+    sink: &K,
+    room: &mut R,
+    out: &mut S,
+) -> Result<(), K::Fault>
     requires begun { IsBegun bounds.now x.now begun.room begun.shared begun.left begun.common }
     requires all { begun.left ≡ sum x.now }
     requires sizes { AreBetween begun.size_bits sizes.now.first sizes.now.last }
-    requires width { length tip.old ≡ links.old.width }
+    requires width { length tip.old ≡ K.width sink.now }
+    requires ready { K.ready sink.now room.old out.old }
     requires place { length x.now ≤ length tip.old }
     ensures same { OnOk result (front_of tip.new x.now ≡ front_of tip.old x.now) }
-    ensures ok { OnOk result (links.new
-        ≡ with_arcs links.old (arcs_under begun.size_bits (front_of tip.old x.now) begun.common
-        x.now (down_to bounds.now x.now))) }
-    ensures memory { IsOkUnless result Panic.NoRoom }
+    ensures given { AreGiven (K.took sink.now) (K.cut sink.now) room.old out.old
+        (arcs_under begun.size_bits (front_of tip.old x.now) begun.common
+        x.now (down_to bounds.now x.now)) room.new out.new result }
+    ensures ready { OnOk result (K.ready sink.now room.new out.new) }
 {
     if !may_be_among(sizes, begun) {
         return Ok(());
     }
     let place = tip.len() - x.len();
     let (Some((bound, bounds)), Some((own, x))) = (bounds.split_first(), x.split_first()) else {
-        return push_zeros(begun, bounds, x, tip, links);
+        return push_zeros(begun, bounds, x, tip, sink, room, out);
     };
     let end = begun.left.min(*bound) + 1;
     let entries = with_room(begun.left, begun.room - u64::from(*bound), *own + 1, end);
-    push_rows(sizes, begun, *bound, *own, bounds, x, entries, tip, links)?;
+    push_rows(
+        sizes, begun, *bound, *own, bounds, x, entries, tip, sink, room, out,
+    )?;
     tip[place] = *own;
     push_to(
         sizes,
@@ -93,36 +97,41 @@ pub(super) fn push_to(
         bounds,
         x,
         tip,
-        links,
+        sink,
+        room,
+        out,
     )
 }
 
-// Puts the arcs to the vectors from `x` on down, or to what is left of them, behind the others. They begin as `tip` does.
-pub(super) fn push_from(
+// Hands out the arcs to the vectors from `x` on down, or to what is left of them. They begin as `tip` does.
+pub(super) fn push_from<K: ArcSink<R, S>, R, S>(
     sizes: &WantedSizes,
     begun: Begun,
     bounds: &[u32],
     x: &[u32],
     tip: &mut [u32],
-    links: &mut Links,
-) -> Result<(), Panic>
+    sink: &K,
+    room: &mut R,
+    out: &mut S,
+) -> Result<(), K::Fault>
     requires begun { IsBegun bounds.now x.now begun.room begun.shared begun.left begun.common }
     requires all { begun.left ≡ sum x.now }
     requires sizes { AreBetween begun.size_bits sizes.now.first sizes.now.last }
-    requires width { length tip.old ≡ links.old.width }
+    requires width { length tip.old ≡ K.width sink.now }
+    requires ready { K.ready sink.now room.old out.old }
     requires place { length x.now ≤ length tip.old }
     ensures same { OnOk result (front_of tip.new x.now ≡ front_of tip.old x.now) }
-    ensures ok { OnOk result (links.new
-        ≡ with_arcs links.old (arcs_under begun.size_bits (front_of tip.old x.now) begun.common
-        x.now (down_from bounds.now x.now))) }
-    ensures memory { IsOkUnless result Panic.NoRoom }
+    ensures given { AreGiven (K.took sink.now) (K.cut sink.now) room.old out.old
+        (arcs_under begun.size_bits (front_of tip.old x.now) begun.common
+        x.now (down_from bounds.now x.now)) room.new out.new result }
+    ensures ready { OnOk result (K.ready sink.now room.new out.new) }
 {
     if !may_be_among(sizes, begun) {
         return Ok(());
     }
     let place = tip.len() - x.len();
     let (Some((bound, bounds)), Some((own, x))) = (bounds.split_first(), x.split_first()) else {
-        return push_zeros(begun, bounds, x, tip, links);
+        return push_zeros(begun, bounds, x, tip, sink, room, out);
     };
     tip[place] = *own;
     push_from(
@@ -131,32 +140,39 @@ pub(super) fn push_from(
         bounds,
         x,
         tip,
-        links,
+        sink,
+        room,
+        out,
     )?;
     let entries = with_room(begun.left, begun.room - u64::from(*bound), 0, *own);
-    push_rows(sizes, begun, *bound, *own, bounds, x, entries, tip, links)
+    push_rows(
+        sizes, begun, *bound, *own, bounds, x, entries, tip, sink, room, out,
+    )
 }
 
-// Puts the arcs to all vectors that begin as `tip` does behind the others. Of the entries with which a vector may go on, the
+// Hands out the arcs to all vectors that begin as `tip` does. Of the entries with which a vector may go on, the
 // least comes last: with that one the loop goes on, and into each greater one it descends.
 #[cycle(descent)]
-fn push_all(
+fn push_all<K: ArcSink<R, S>, R, S>(
     sizes: &WantedSizes,
     begun: Begun,
     bounds: &[u32],
     x: &[u32],
     tip: &mut [u32],
-    links: &mut Links,
-) -> Result<(), Panic>
+    sink: &K,
+    room: &mut R,
+    out: &mut S,
+) -> Result<(), K::Fault>
     requires begun { IsBegun bounds.now x.now begun.room begun.shared begun.left begun.common }
     requires sizes { AreBetween begun.size_bits sizes.now.first sizes.now.last }
-    requires width { length tip.old ≡ links.old.width }
+    requires width { length tip.old ≡ K.width sink.now }
+    requires ready { K.ready sink.now room.old out.old }
     requires place { length x.now ≤ length tip.old }
     ensures same { OnOk result (front_of tip.new x.now ≡ front_of tip.old x.now) }
-    ensures ok { OnOk result (links.new
-        ≡ with_arcs links.old (arcs_under begun.size_bits (front_of tip.old x.now) begun.common
-        x.now (reverse (bounded_sums begun.left bounds.now)))) }
-    ensures memory { IsOkUnless result Panic.NoRoom }
+    ensures given { AreGiven (K.took sink.now) (K.cut sink.now) room.old out.old
+        (arcs_under begun.size_bits (front_of tip.old x.now) begun.common
+        x.now (reverse (bounded_sums begun.left bounds.now))) room.new out.new result }
+    ensures ready { OnOk result (K.ready sink.now room.new out.new) }
 {
     let start = tip.len() - x.len();
     let mut state = begun;
@@ -178,18 +194,20 @@ fn push_all(
             &x[i + 1..],
             entries,
             tip,
-            links,
+            sink,
+            room,
+            out,
         )?;
         tip[start + i] = entries.least;
         state = placed(state, bounds[i], x[i], entries.least);
         i += 1;
     }
-    push_last(state, &bounds[i..], &x[i..], tip, links)
+    push_last(state, &bounds[i..], &x[i..], tip, sink, room, out)
 }
 
-// Puts the arcs to the vectors that go on with one of these entries, but not with the least, behind the others.
+// Hands out the arcs to the vectors that go on with one of these entries, but not with the least.
 #[cycle(descent)]
-fn push_greater(
+fn push_greater<K: ArcSink<R, S>, R, S>(
     sizes: &WantedSizes,
     begun: Begun,
     bound: u32,
@@ -198,20 +216,23 @@ fn push_greater(
     x: &[u32],
     entries: EntryRange,
     tip: &mut [u32],
-    links: &mut Links,
-) -> Result<(), Panic>
+    sink: &K,
+    room: &mut R,
+    out: &mut S,
+) -> Result<(), K::Fault>
     requires begun { IsBegun (bound ∷ bounds.now) (own ∷ x.now) begun.room begun.shared begun.left
         begun.common }
     requires entries { entries.least + entries.count ≤ begun.left + 1 }
     requires sizes { AreBetween begun.size_bits sizes.now.first sizes.now.last }
-    requires width { length tip.old ≡ links.old.width }
+    requires width { length tip.old ≡ K.width sink.now }
+    requires ready { K.ready sink.now room.old out.old }
     requires place { length x.now < length tip.old }
     ensures same { OnOk result (front_of tip.new (own ∷ x.now) ≡ front_of tip.old (own ∷ x.now)) }
-    ensures ok { OnOk result (links.new
-        ≡ with_arcs links.old (arcs_under begun.size_bits (front_of tip.old (own ∷ x.now))
+    ensures given { AreGiven (K.took sink.now) (K.cut sink.now) room.old out.old
+        (arcs_under begun.size_bits (front_of tip.old (own ∷ x.now))
         begun.common (own ∷ x.now)
-        (rows begun.left bounds.now (entries.least + 1) (entries.count - 1)))) }
-    ensures memory { IsOkUnless result Panic.NoRoom }
+        (rows begun.left bounds.now (entries.least + 1) (entries.count - 1))) room.new out.new result }
+    ensures ready { OnOk result (K.ready sink.now room.new out.new) }
 {
     if entries.count < 2 {
         return Ok(());
@@ -220,12 +241,14 @@ fn push_greater(
         least: entries.least + 1,
         count: entries.count - 1,
     };
-    push_rows(sizes, begun, bound, own, bounds, x, greater, tip, links)
+    push_rows(
+        sizes, begun, bound, own, bounds, x, greater, tip, sink, room, out,
+    )
 }
 
-// Puts the arcs to the vectors that go on with one of these entries behind the others.
+// Hands out the arcs to the vectors that go on with one of these entries.
 #[cycle(descent)]
-fn push_rows(
+fn push_rows<K: ArcSink<R, S>, R, S>(
     sizes: &WantedSizes,
     begun: Begun,
     bound: u32,
@@ -234,19 +257,22 @@ fn push_rows(
     x: &[u32],
     entries: EntryRange,
     tip: &mut [u32],
-    links: &mut Links,
-) -> Result<(), Panic>
+    sink: &K,
+    room: &mut R,
+    out: &mut S,
+) -> Result<(), K::Fault>
     requires begun { IsBegun (bound ∷ bounds.now) (own ∷ x.now) begun.room begun.shared begun.left
         begun.common }
     requires entries { entries.least + entries.count ≤ begun.left + 1 }
     requires sizes { AreBetween begun.size_bits sizes.now.first sizes.now.last }
-    requires width { length tip.old ≡ links.old.width }
+    requires width { length tip.old ≡ K.width sink.now }
+    requires ready { K.ready sink.now room.old out.old }
     requires place { length x.now < length tip.old }
     ensures same { OnOk result (front_of tip.new (own ∷ x.now) ≡ front_of tip.old (own ∷ x.now)) }
-    ensures ok { OnOk result (links.new
-        ≡ with_arcs links.old (arcs_under begun.size_bits (front_of tip.old (own ∷ x.now))
-        begun.common (own ∷ x.now) (rows begun.left bounds.now entries.least entries.count))) }
-    ensures memory { IsOkUnless result Panic.NoRoom }
+    ensures given { AreGiven (K.took sink.now) (K.cut sink.now) room.old out.old
+        (arcs_under begun.size_bits (front_of tip.old (own ∷ x.now))
+        begun.common (own ∷ x.now) (rows begun.left bounds.now entries.least entries.count)) room.new out.new result }
+    ensures ready { OnOk result (K.ready sink.now room.new out.new) }
 {
     for k in (0..entries.count).rev() {
         push_row(
@@ -258,15 +284,17 @@ fn push_rows(
             x,
             entries.least + k,
             tip,
-            links,
+            sink,
+            room,
+            out,
         )?;
     }
     Ok(())
 }
 
-// Puts the arcs to the vectors that go on with this entry behind the others.
+// Hands out the arcs to the vectors that go on with this entry.
 #[cycle(descent)]
-fn push_row(
+fn push_row<K: ArcSink<R, S>, R, S>(
     sizes: &WantedSizes,
     begun: Begun,
     bound: u32,
@@ -275,19 +303,22 @@ fn push_row(
     x: &[u32],
     entry: u32,
     tip: &mut [u32],
-    links: &mut Links,
-) -> Result<(), Panic>
+    sink: &K,
+    room: &mut R,
+    out: &mut S,
+) -> Result<(), K::Fault>
     requires begun { IsBegun (bound ∷ bounds.now) (own ∷ x.now) begun.room begun.shared begun.left
         begun.common }
     requires entry { entry ≤ begun.left }
     requires sizes { AreBetween begun.size_bits sizes.now.first sizes.now.last }
-    requires width { length tip.old ≡ links.old.width }
+    requires width { length tip.old ≡ K.width sink.now }
+    requires ready { K.ready sink.now room.old out.old }
     requires place { length x.now < length tip.old }
     ensures same { OnOk result (front_of tip.new (own ∷ x.now) ≡ front_of tip.old (own ∷ x.now)) }
-    ensures ok { OnOk result (links.new
-        ≡ with_arcs links.old (arcs_under begun.size_bits (front_of tip.old (own ∷ x.now))
-        begun.common (own ∷ x.now) (row begun.left bounds.now entry))) }
-    ensures memory { IsOkUnless result Panic.NoRoom }
+    ensures given { AreGiven (K.took sink.now) (K.cut sink.now) room.old out.old
+        (arcs_under begun.size_bits (front_of tip.old (own ∷ x.now))
+        begun.common (own ∷ x.now) (row begun.left bounds.now entry)) room.new out.new result }
+    ensures ready { OnOk result (K.ready sink.now room.new out.new) }
 {
     let further = placed(begun, bound, own, entry);
     if !may_be_among(sizes, further) {
@@ -295,7 +326,7 @@ fn push_row(
     }
     let place = tip.len() - x.len() - 1;
     tip[place] = entry;
-    push_all(sizes, further, bounds, x, tip, links)
+    push_all(sizes, further, bounds, x, tip, sink, room, out)
 }
 
 // What is known with one more entry, whose bound and whose own entry of `x` these are.

@@ -1,15 +1,17 @@
 //! The list of one vector of the subsets.
-ghost use Rattle.std.specs.Prelude.{◌≡◌, [], ◌++◌, length, sum, Contains, OnOk, OnErr, IsOkUnless};
+ghost use Rattle.std.specs.Prelude.{◌≡◌, [], length, sum, Contains, OnOk, OnErr, IsOkUnless};
 ghost use Rattle.sgb_vec.specs.Sums.{bounded_sums};
+ghost use Rattle.sgb_gen.specs.ArcSinks.{AreGiven};
 ghost use Rattle.sgb_gen.specs.LocalLists.{list_at};
 ghost use Rattle.sgb_gen.specs.inner.Descents.{IsBegun};
-ghost use Rattle.sgb_gen.specs.inner.LocalSimplexes.{with_arcs};
 ghost use Rattle.sgb_gen.specs.inner.LocalSubsets.{arcs_by_walk};
 ghost use Rattle.sgb_gen.specs.Subsets.{subsets_vectors, moves_of_subsets};
 
 use super::Subsets;
 use super::descents::{Begun, push_from, push_to};
 use super::sizes::WantedSizes;
+use crate::arc_sinks::ArcSink;
+use crate::kept_arcs::{KeptArcs, copy_of};
 use crate::links::Links;
 use sgb_vec::Panic;
 
@@ -28,60 +30,66 @@ impl Subsets {
         ensures memory { IsOkUnless result Panic.NoRoom }
     {
         links.clear(x.len());
-        let put = self.push_all(x, links);
+        let put = self.push_all(x, &KeptArcs::of(x.len()), links, &mut ());
         links.ended(put)
     }
 
-    // Puts the arcs of `x` behind the others.
-    fn push_all(&self, x: &[u32], links: &mut Links) -> Result<(), Panic>
+    // Hands the arcs of `x` to a sink.
+    pub(crate) fn push_all<K: ArcSink<R, S>, R, S>(
+        &self,
+        x: &[u32],
+        sink: &K,
+        room: &mut R,
+        out: &mut S,
+    ) -> Result<(), K::Fault>
         requires member { Contains (subsets_vectors self.now) x.now }
-        requires width { length x.now ≡ links.old.width }
-        ensures ok { OnOk result (links.new
-            ≡ record links.old {
-              arcs = links.old.arcs
-                  ++ arcs_by_walk self.now.directed self.now.size_bits
-                  (subsets_vectors self.now) x.now;
-            }) }
-        ensures memory { IsOkUnless result Panic.NoRoom }
+        requires width { K.width sink.now ≡ length x.now }
+        requires ready { K.ready sink.now room.old out.old }
+        ensures given { AreGiven (K.took sink.now) (K.cut sink.now) room.old out.old
+            (list_at self.now.directed (subsets_vectors self.now) (moves_of_subsets self.now) x.now)
+            room.new out.new result }
+        ensures ready { OnOk result (K.ready sink.now room.new out.new) }
     {
-        let mut tip = links.take_entries();
-        tip.resize(x.len(), 0)?;
+        let mut tip = copy_of(x);
         push_both(
             self.directed,
             self.begun(),
             self.sizes(),
             x,
             tip.as_mut_slice(),
-            links,
-        )?;
-        links.keep_entries(tip);
-        Ok(())
+            sink,
+            room,
+            out,
+        )
     }
 }
 
-// Puts the arcs to the vectors down to `x`, and where undirected then those from `x` on down, behind the others.
-fn push_both(
+// Hands out the arcs to the vectors down to `x`, and where undirected then those from `x` on down.
+fn push_both<K: ArcSink<R, S>, R, S>(
     directed: bool,
     begun: Begun,
     bounds: &[u32],
     x: &[u32],
     tip: &mut [u32],
-    links: &mut Links,
-) -> Result<(), Panic>
+    sink: &K,
+    room: &mut R,
+    out: &mut S,
+) -> Result<(), K::Fault>
     requires begun { IsBegun bounds.now x.now begun.room begun.shared begun.left begun.common }
     requires none { begun.common ≡ 0 }
     requires all { begun.left ≡ sum x.now }
     requires place { length tip.old ≡ length x.now }
-    requires width { length x.now ≡ links.old.width }
-    ensures ok { OnOk result (links.new
-        ≡ with_arcs links.old (arcs_by_walk directed begun.size_bits
-        (bounded_sums begun.left bounds.now) x.now)) }
-    ensures memory { IsOkUnless result Panic.NoRoom }
+    requires width { length tip.old ≡ K.width sink.now }
+    requires ready { K.ready sink.now room.old out.old }
+    ensures given { AreGiven (K.took sink.now) (K.cut sink.now) room.old out.old
+        (arcs_by_walk directed begun.size_bits (bounded_sums begun.left bounds.now) x.now) room.new
+        out.new result }
+    ensures ready { OnOk result (K.ready sink.now room.new out.new) }
 {
     let sizes = WantedSizes::of(begun.size_bits);
-    push_to(&sizes, begun, bounds, x, tip, links)?;
+    push_to(&sizes, begun, bounds, x, tip, sink, room, out)?;
     if directed {
         return Ok(());
     }
-    push_from(&sizes, begun, bounds, x, tip, links)
+    push_from(&sizes, begun, bounds, x, tip, sink, room, out)
 }

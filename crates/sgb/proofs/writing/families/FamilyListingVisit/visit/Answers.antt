@@ -2,7 +2,7 @@ use Rattle.std.proofs.Common.{refl, sym}
 use Rattle.sgb.proofs.writing.families.FamilyListingVisit.visit.Goals as goal
 
 pub list_vectors-requires : goal.list_vectors-requires
-list_vectors-requires g c = rw c.prepare.ensures (λ k. ((refl, tt), (c.requires.0, c.requires.1)))
+list_vectors-requires g c = rw c.prepare.ensures.same (λ k. ((refl, tt), (c.requires.0, c.requires.1)))
 
 pub returns : goal.returns
-returns g c = rw (sym c.prepare.ensures) (c.list_vectors.ensures.written, c.list_vectors.ensures.head)
+returns g c = rw (sym c.prepare.ensures.same) (c.list_vectors.ensures.written, c.list_vectors.ensures.head)

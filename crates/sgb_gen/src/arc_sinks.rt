@@ -1,0 +1,33 @@
+//! Arcs that are handed out one by one, so that no list of them is kept.
+ghost use Rattle.std.specs.Prelude.{◌≡◌, ℕ, List, [], ◌∷◌, pos, length, OnOk};
+ghost use Rattle.sgb_gen.specs.ArcSinks.{AreGiven, AreTakenInTurn};
+ghost use Rattle.sgb_gen.specs.LocalLists.{LocalArc};
+
+/// Takes the arcs of a list, one after another: `R` is the room that it keeps, `S` where it puts them.
+pub trait ArcSink<R, S> {
+    /// Why an arc was not taken.
+    type Fault;
+
+    // How many entries the vectors have where the arcs lead.
+    ghost width: { Self → ℕ };
+
+    // What is needed before an arc is put.
+    ghost ready: { Self → R → S → Type 0 };
+
+    // All of these arcs were taken: what it keeps and where it puts them, before; the arcs; and both after.
+    ghost took: { Self → R → S → List LocalArc → R → S → Type 0 };
+
+    // A fault came before all of these arcs were taken.
+    ghost cut: { Self → R → S → List LocalArc → R → S → Self.Fault → Type 0 };
+
+    /// Takes an arc of this length to this vector.
+    fn put_arc(&self, tip: &[u32], len: u32, room: &mut R, out: &mut S) -> Result<(), Self::Fault>
+        requires width { length tip.now ≡ width self.now }
+        requires ready { ready self.now room.old out.old }
+        ensures given { AreGiven (took self.now) (cut self.now) room.old out.old
+            (record { tip = tip.now; len = pos len } ∷ []) room.new out.new result }
+        ensures ready { OnOk result (ready self.now room.new out.new) };
+
+    // Arcs are taken in turn.
+    ghost laws: { (s : Self) → AreTakenInTurn (took s) (cut s) };
+}
