@@ -51,6 +51,12 @@ sort_of (local.Board b) = of_board
 sort_of (local.Simplex s) = of_simplex
 sort_of (local.Subsets s) = of_subsets
 
+-- which generator parameters are of
+abbrev pub sort_made : Generator → Sort
+sort_made (generator.Board p) = of_board
+sort_made (generator.Simplex p) = of_simplex
+sort_made (generator.Subsets p) = of_subsets
+
 -- the graph of accepted parameters
 abbrev pub described : Local → Description
 described l = described_by (vector_graph_of l)
