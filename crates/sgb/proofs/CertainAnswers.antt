@@ -1,5 +1,5 @@
 -- What needs no memory is never out of memory.
-use Rattle.std.proofs.Common.{arith, rules, ◌≡◌, ◌≢◌, ◌⊎◌, ◌&&◌, ◌∙◌, ℕ, List, [], Bool, false, Option, Result, Ok, Err, IfErr, inl, inr, ap}
+use Rattle.std.proofs.Common.{arith, rules, ◌≡◌, ◌≢◌, ◌⊎◌, ◌&&◌, ◌∙◌, ℕ, List, [], Bool, true, false, true≢false, Option, Result, Ok, Err, IfErr, inl, inr, refl, sym, subst, ap}
 use Rattle.std.specs.Result.{IsErrAnd}
 use Rattle.std.proofs.lemmas.Result.{err_from_is_err_and}
 use Rattle.sgb_vec.specs.declared.panics.Panic.{Panic}
@@ -18,10 +18,13 @@ use Rattle.sgb_requests.specs.Faults.{fault_line, status_of}
 use Rattle.sgb_requests.specs.declared.faults.Fault.{Fault}
 use Rattle.sgb_requests.specs.declared.faults.Fault.TheVariants as fault
 use Rattle.sgb_requests.specs.declared.requests.Request.{Request}
+use Rattle.sgb_requests.specs.declared.requests.Request.TheVariants as request
 use Rattle.sgb_requests.specs.declared.requests.Resume.{Resume}
-use Rattle.sgb_gen.specs.Generators.{IsGeneratorRefused}
+use Rattle.sgb_requests.specs.declared.requests.Resume.TheVariants as resumes
+use Rattle.sgb_gen.specs.Generators.{IsAcceptedAtOnce, IsGeneratorRefused, sort_made, sort_of}
+use Rattle.sgb_gen.specs.Sorts.{of_board, of_simplex, of_subsets}
 use Rattle.sgb_values.specs.FirstRefusals.{IsRefusedFirst}
-use Rattle.sgb.specs.Certain.{BeginsNowhere, IsBoard, IsCertain, IsPast, IsRefusedAtOnce, NeedsNoMemory}
+use Rattle.sgb.specs.Certain.{IsCertain, IsListedAtOnce, IsPast, IsRefusedAtOnce, ListsNoBoard, NeedsNoMemory}
 use Rattle.sgb.specs.Outcomes.{answer_of, left_out, outcome_of, reads_input}
 use Rattle.sgb.specs.Runs.{IsGiven, Left}
 use Rattle.sgb_gen.specs.Generators.{IsLocalOf}
@@ -64,42 +67,109 @@ not_nowhere from k is nowhere = absurd cc
 
 -- a generator that is not accepted, where its names need no memory
 pub names_refused : (f : Generator) (p : Panic) → ((code : Panic) → IsGeneratorRefused f code → ◌≡◌ {A = Result Local Panic} (Err p) (Err code))
-    → ((params : BoardParams) → f ≡ generator.Board params → p ≢ NoRoom) → HasNamesAtOnce f → p ≢ NoRoom
-names_refused f p refused board h = grind (arith, generator_other)
+    → (IsAcceptedAtOnce f → p ≢ NoRoom) → HasNamesAtOnce f → p ≢ NoRoom
+names_refused f p refused accepted h = grind (arith, generator_other)
+
+-- what is listed without memory is accepted without
+listed_accepted : (f : Generator) (resume : Resume) → IsListedAtOnce f resume → IsAcceptedAtOnce f
+listed_accepted (generator.Board p) resume h = tt
+listed_accepted (generator.Simplex p) resume h = h.0
+listed_accepted (generator.Subsets p) resume h = h
 
 -- where its listing needs none
 pub listing_refused : (f : Generator) (resume : Resume) (p : Panic) → ((code : Panic) → IsGeneratorRefused f code → ◌≡◌ {A = Result Local Panic} (Err p) (Err code))
-    → ((params : BoardParams) → f ≡ generator.Board params → p ≢ NoRoom) → HasListingAtOnce f resume → p ≢ NoRoom
-listing_refused f resume p refused board h = grind (arith, generator_other)
+    → (IsAcceptedAtOnce f → p ≢ NoRoom) → HasListingAtOnce f resume → p ≢ NoRoom
+listing_refused f resume p refused accepted (inl h) = accepted (listed_accepted f resume h)
+listing_refused f resume p refused accepted (inr h) = names_refused f p refused accepted (inr h)
 
--- its listing begins nowhere
-pub listing_begun : {T : Type 0} (f : Generator) (resume : Resume) (l : Local) (r : Result T Fault) → IsLocalOf (generator_value f) (Ok l)
+-- of a simplex memory runs out before the head alone, so not where there is none
+headless : {T S : Type 0} (resume other : Resume) (old new : S) (r : Result T Fault) → IfErr r (λ g. g ≡ fault.Panic NoRoom → (resume ≡ other) × (new ≡ old)) → resume ≢ other
+    → IfErr r (λ g. g ≢ fault.Panic NoRoom)
+headless resume other old new (Ok x) simplex apart = tt
+headless resume other old new (Err f) simplex apart = λ none. apart (simplex none).0
+
+-- its listing begins nowhere, or no list is made for it
+pub listing_begun : {T S : Type 0} (f : Generator) (resume : Resume) (l : Local) (old new : S) (r : Result T Fault) → IsLocalOf (generator_value f) (Ok l) → sort_of l ≡ sort_made f
     → ((code : Panic) → IsGeneratorRefused f code → Ok l ≡ Err code)
     → (IsPast (names_of (graph_described (described l))) resume → IfErr r (λ g. g ≢ fault.Panic NoRoom))
+    → (sort_of l ≡ of_subsets → IfErr r (λ g. g ≢ fault.Panic NoRoom))
+    → (sort_of l ≡ of_simplex → IfErr r (λ g. g ≡ fault.Panic NoRoom → (resume ≡ resumes.Whole) × (new ≡ old)))
     → HasListingAtOnce f resume → IfErr r (λ g. g ≢ fault.Panic NoRoom)
-listing_begun f resume l r is refused past (inl (p, same, from)) = past (from (graph_described (described l)) (grind (arith)))
-listing_begun f resume l r is refused past (inr h) =
+listing_begun (generator.Board p) resume l old new r is sort refused past subsets simplex (inl from) = past (from (graph_described (described l)) (grind (arith)))
+listing_begun (generator.Simplex p) resume l old new r is sort refused past subsets simplex (inl h) = headless resume resumes.Whole old new r (simplex sort) h.1
+listing_begun (generator.Subsets p) resume l old new r is sort refused past subsets simplex (inl h) = subsets sort
+listing_begun f resume l old new r is sort refused past subsets simplex (inr h) =
     let none = refused h.0 h.1 in
     absurd cc
 
+-- where memory runs out for what is listed, the output is as it was, but for a board
+pub listing_untouched : {T S : Type 0} (f : Generator) (resume : Resume) (l : Local) (old new : S) (r : Result T Fault) → sort_of l ≡ sort_made f
+    → (sort_of l ≡ of_subsets → IfErr r (λ g. g ≢ fault.Panic NoRoom))
+    → (sort_of l ≡ of_simplex → IfErr r (λ g. g ≡ fault.Panic NoRoom → (resume ≡ resumes.Whole) × (new ≡ old)))
+    → sort_made f ≢ of_board → IfErr r (λ g. g ≡ fault.Panic NoRoom → new ≡ old)
+listing_untouched (generator.Board p) resume l old new r sort subsets simplex other = absurd (other refl)
+listing_untouched (generator.Simplex p) resume l old new (Ok x) sort subsets simplex other = tt
+listing_untouched (generator.Simplex p) resume l old new (Err f) sort subsets simplex other = λ none. (simplex sort none).1
+listing_untouched (generator.Subsets p) resume l old new (Ok x) sort subsets simplex other = tt
+listing_untouched (generator.Subsets p) resume l old new (Err f) sort subsets simplex other = λ none. absurd (subsets sort none)
+
+-- what never runs out of memory does nothing where it does
+pub never : {T P : Type 0} (r : Result T Fault) → IfErr r (λ f. f ≢ fault.Panic NoRoom) → IfErr r (λ f. f ≡ fault.Panic NoRoom → P)
+never (Ok x) other = tt
+never (Err f) other = λ none. absurd (other none)
+
+-- what a write alone can fail does nothing with another fault
+pub write_alone : {T P : Type 0} (r : Result T Fault) → IfErr r (λ f. f ≡ fault.Write) → IfErr r (λ f. f ≢ fault.Write → P)
+write_alone (Ok x) write = tt
+write_alone (Err f) write = λ other. absurd (other write)
+
+-- a head that is not left out is asked for
+pub head_asked : (head : Bool) → (head ≡ false → ⊥) → head ≡ true
+head_asked true some = refl
+head_asked false some = absurd (some refl)
+
+-- and it is where the answer is not resumed
+pub whole_asked : {T P : Type 0} (resume : Resume) (head : Bool) (r : Result T Fault) → (resume ≢ resumes.Whole → head ≡ false) → IfErr r (λ f. f ≢ fault.Write → (head ≡ true) × P)
+    → IfErr r (λ f. f ≡ fault.Panic NoRoom → (resume ≡ resumes.Whole) × P)
+whole_asked resume head (Ok x) resumed left = tt
+whole_asked resumes.Whole head (Err f) resumed left = λ none. (refl, (left (λ write. absurd cc)).1)
+whole_asked (resumes.Skip k) head (Err f) resumed left = λ none. absurd (true≢false (sym (left (λ write. absurd cc)).0 ∙ resumed (λ whole. absurd cc)))
+whole_asked (resumes.After name) head (Err f) resumed left = λ none. absurd (true≢false (sym (left (λ write. absurd cc)).0 ∙ resumed (λ whole. absurd cc)))
+
+-- and what was left as it was is
+pub exit_untouched : {T S : Type 0} (s : S) (r : Result T Fault) → IfErr r (λ f. f ≡ fault.Panic NoRoom → s ≡ s)
+exit_untouched s (Ok x) = tt
+exit_untouched s (Err f) = λ none. refl
+
+same_generator : (f g : Generator) → expr.Generator f ≡ expr.Generator g → f ≡ g
+same_generator f g e = cc
+
 -- of an expression that is a generator
-pub names_of_generator : (e : Expr) (f : Generator) → e ≡ expr.Generator f → IsBoard e ⊎ IsRefusedAtOnce (expression_of e) → HasNamesAtOnce f
-names_of_generator e f is (inl h) = grind (arith)
+pub names_of_generator : (e : Expr) (f : Generator) → e ≡ expr.Generator f → ((f : Generator) × (e ≡ expr.Generator f) × IsAcceptedAtOnce f) ⊎ IsRefusedAtOnce (expression_of e) → HasNamesAtOnce f
+names_of_generator e f is (inl h) = inl (subst IsAcceptedAtOnce (same_generator h.0 f (sym h.1 ∙ is)) h.2)
 names_of_generator e f is (inr h) = inr (h.code, rw is at (h.refused []))
 
-pub listing_of_generator : (e : Expr) (f : Generator) (resume : Resume) → e ≡ expr.Generator f → BeginsNowhere e resume ⊎ IsRefusedAtOnce (expression_of e) → HasListingAtOnce f resume
-listing_of_generator e f resume is (inl h) = inl (rw is at h)
+pub listing_of_generator : (e : Expr) (f : Generator) (resume : Resume) → e ≡ expr.Generator f → ((f : Generator) × (e ≡ expr.Generator f) × IsListedAtOnce f resume) ⊎ IsRefusedAtOnce (expression_of e) → HasListingAtOnce f resume
+listing_of_generator e f resume is (inl h) = inl (subst (λ f. IsListedAtOnce f resume) (same_generator h.0 f (sym h.1 ∙ is)) h.2)
 listing_of_generator e f resume is (inr h) = inr (h.code, rw is at (h.refused []))
+
+-- an expression that is no board is of another generator
+pub other_sort : (e : Expr) (f : Generator) → e ≡ expr.Generator f → ((p : BoardParams) → e ≢ expr.Generator (generator.Board p)) → sort_made f ≢ of_board
+other_sort e (generator.Board p) is other = λ _. other p is
+other_sort e (generator.Simplex p) is other = λ board. absurd cc
+other_sort e (generator.Subsets p) is other = λ board. absurd cc
 
 -- ---- graphs
 
 -- an expression that is no generator, where its names need no memory
-pub names_of_graph : (e : Expr) → ((f : Generator) → e ≢ expr.Generator f) → IsBoard e ⊎ IsRefusedAtOnce (expression_of e) → IsRefusedAtOnce (expression_of e)
-names_of_graph e other h = grind (arith)
+pub names_of_graph : (e : Expr) → ((f : Generator) → e ≢ expr.Generator f) → ((f : Generator) × (e ≡ expr.Generator f) × IsAcceptedAtOnce f) ⊎ IsRefusedAtOnce (expression_of e) → IsRefusedAtOnce (expression_of e)
+names_of_graph e other (inl h) = absurd (other h.0 h.1)
+names_of_graph e other (inr h) = h
 
 -- where its listing needs none
-pub listing_of_graph : (e : Expr) (resume : Resume) → ((f : Generator) → e ≢ expr.Generator f) → BeginsNowhere e resume ⊎ IsRefusedAtOnce (expression_of e) → IsRefusedAtOnce (expression_of e)
-listing_of_graph e resume other h = grind (arith)
+pub listing_of_graph : (e : Expr) (resume : Resume) → ((f : Generator) → e ≢ expr.Generator f) → ((f : Generator) × (e ≡ expr.Generator f) × IsListedAtOnce f resume) ⊎ IsRefusedAtOnce (expression_of e) → IsRefusedAtOnce (expression_of e)
+listing_of_graph e resume other (inl h) = absurd (other h.0 h.1)
+listing_of_graph e resume other (inr h) = h
 
 -- the refusal of an expression that is refused at once
 pub at_once_other : (input : List ℕ) (e : Expr) (p : Panic) → ((code : Panic) → IsRefusedFirst input (expression_of e) code → ◌≡◌ {A = Result GraphData Panic} (Err p) (Err code))
@@ -112,6 +182,10 @@ pub at_once_unmade : {T : Type 0} (input : List ℕ) (e : Expr) (g : GraphData) 
 at_once_unmade input e g r made h = search rules
 
 -- ---- runs
+
+-- the listing that a request is for is of no board
+pub list_other : (r : Request) (e : Expr) (resume : Resume) → r ≡ request.List e resume → ListsNoBoard r → (p : BoardParams) → e ≢ expr.Generator (generator.Board p)
+list_other r e resume is other p same = other p resume (is ∙ ap (λ x. request.List x resume) same)
 
 -- a request whose answer takes no memory reads no input
 pub certain_unread : (r : Request) → NeedsNoMemory r → reads_input r ≡ false

@@ -47,6 +47,22 @@ untouched s w failed h = record { same = refl; told = refl; sound = h }
 pub nothing_put : {S : Type 0} (out : Effect S) → IsUntouched out → Appends out.told.before out.told.after []
 nothing_put out is = rw is.told (Appends-nil out.told.before)
 
+-- a fault with the status 1 leaves the sink as it was, where want of memory does
+pub one_untouched : (T : Type 0) {S : Type 0} (a : Result (List ℕ) Fault) (out : Effect S) (f : Fault) → IsEnded {T = T} a out (Err f)
+    → (f ≡ fault.Panic NoRoom → out.new ≡ out.old) → status_of f ≡ 1 → out.new ≡ out.old
+one_untouched T (Ok text) out f ended room one = grind arith
+one_untouched T (Err g) out f ended room one = ended.1.same
+
+-- what holds of each fault
+pub all_err : {T : Type 0} {P : Fault → Type 0} (r : Result T Fault) → ((f : Fault) → P f) → IfErr r P
+all_err (Ok x) each = tt
+all_err (Err f) each = each f
+
+-- the fault of a write has another status
+pub write_status : {T P : Type 0} (r : Result T Fault) → IfErr r (λ f. f ≡ fault.Write) → IfErr r (λ f. status_of f ≡ 1 → P)
+write_status (Ok x) h = tt
+write_status (Err f) h = λ one. absurd cc
+
 -- a refusal before anything was written
 pub refused_at_once : (T : Type 0) {S : Type 0} (a : Result (List ℕ) Fault) (s : S) (f : Fault) (w : Option (List ℕ)) (failed : Bool) → a ≡ Err f → failed ≡ false
     → IsEnded {T = T} a (effect_of s s (change_of w w failed)) (Err f)

@@ -1,5 +1,5 @@
 -- Answers of requests on small graphs, worked out by hand, and what they are made of.
-use Rattle.std.specs.Prelude.{◌≡◌, ℕ, ℤ, pos, negsuc, true, false, List, [], ◌∷◌, ◌++◌, length, take, Some, None, Ok, Err, map, codes, refl}
+use Rattle.std.proofs.Common.{◌≡◌, ◌≤◌, ℕ, zero, suc, ℤ, pos, negsuc, true, false, List, [], ◌∷◌, ◌++◌, length, take, Some, None, Ok, Err, map, codes, refl, inl, inr, Result, arith}
 use Rattle.std.specs.Fmt.{digits}
 use Rattle.std.specs.Result.{result_map_both}
 use Rattle.sgb_vec.specs.Boxes.{box}
@@ -26,6 +26,7 @@ use Rattle.sgb_expr.specs.declared.expressions.Expr.TheVariants as expr
 use Rattle.sgb_gen.specs.declared.params.Generator.{Generator}
 use Rattle.sgb_gen.specs.declared.params.Generator.TheVariants as generator
 use Rattle.sgb_gen.specs.Generators.{vectors_of}
+use Rattle.sgb.specs.Certain.{IsPast}
 use Rattle.sgb.specs.Locals.{family_text, left_out_after}
 use Rattle.sgb.specs.Outcomes.{answer_of, left_out, outcome_of, queen_moves, reads_input}
 use Rattle.sgb_requests.specs.Faults.{fault_line}
@@ -33,6 +34,7 @@ use Rattle.sgb.specs.Texts.{arc_line, block, blocks, head_text, name_lines}
 use Rattle.sgb_gen.specs.Generators.{described}
 use Rattle.sgb_gen.specs.declared.locals.Local.{Local}
 use Rattle.sgb_gen.specs.declared.locals.Local.TheVariants as local
+use Rattle.sgb_requests.specs.declared.faults.Fault.{Fault}
 use Rattle.sgb_requests.specs.declared.faults.Fault.TheVariants as fault
 use Rattle.sgb_requests.specs.declared.requests.Request.TheVariants as request
 use Rattle.sgb_requests.specs.declared.requests.Resume.TheVariants as resume
@@ -82,6 +84,32 @@ ring_names = (refl, refl, refl)
 -- of two vertices of one name it is after the first
 pub same_names : left_out (codes "b" ∷ codes "a" ∷ codes "a" ∷ []) (resume.After (codes "a")) ≡ Ok 2
 same_names = refl
+
+-- one is not two or more
+not_both : (k : ℕ) → ◌≡◌ {A = Result ℕ Fault} (Ok 1) (Ok k) → 2 ≤ k → ⊥
+not_both (zero) e all = absurd cc
+not_both (suc zero) e all = absurd (omega (arith, all))
+not_both (suc (suc k)) e all = absurd cc
+
+-- an answer about vertices of the names a and b is past them after b, after two, and after a name that none has
+pub past :
+    IsPast (codes "a" ∷ codes "b" ∷ []) (resume.After (codes "b"))
+    × IsPast (codes "a" ∷ codes "b" ∷ []) (resume.Skip 2)
+    × IsPast (codes "a" ∷ codes "b" ∷ []) (resume.After (codes "c"))
+past = (inr (λ e. absurd cc, (2, refl, omega arith)), inr (λ e. absurd cc, (2, refl, omega arith)), inl refl)
+
+-- not so after a, after one, or from the start, where no vertex is too
+pub before_last : IsPast (codes "a" ∷ codes "b" ∷ []) (resume.After (codes "a")) → ⊥
+before_last (inl e) = absurd cc
+before_last (inr (other, k, is, all)) = absurd (not_both k is all)
+
+pub one_left : IsPast (codes "a" ∷ codes "b" ∷ []) (resume.Skip 1) → ⊥
+one_left (inl e) = absurd cc
+one_left (inr (other, k, is, all)) = absurd (not_both k is all)
+
+pub none_left : IsPast [] resume.Whole → ⊥
+none_left (inl e) = absurd cc
+none_left (inr (other, left)) = absurd (other refl)
 
 -- simplex(1,1,1,0,0,0,1): one arc, to the vector that has the unit at the first place
 pub unit_listed : answer_of (request.List (expr.Generator (generator.Simplex (record { n = pos 1; n0 = pos 1; n1 = pos 1; n2 = pos 0; n3 = pos 0; n4 = pos 0; directed = true }))) resume.Whole) (Err Early)

@@ -1,9 +1,14 @@
 -- Texts handed to a page of output, part by part.
-use Rattle.std.proofs.Common.{arith, rules, ◌≡◌, ◌++◌, Bool, ℕ, false, List, [], Option, Result, refl, sym, append_assoc, append-nil}
+use Rattle.std.proofs.Common.{arith, rules, ◌≡◌, ◌++◌, ◌∙◌, Bool, ℕ, false, List, [], Option, Result, Ok, Err, IfErr, OnOk, inr, ap, refl, sym, append_assoc, append-nil}
+use Rattle.std.specs.Io.KnownBytes.{Appends}
+use Rattle.std.specs.List.{flat_map}
 use Rattle.std.specs.Result.{IsErrAnd}
 use Rattle.std.proofs.lemmas.Result.{err_from_is_err_and}
 use Rattle.std.proofs.KnownBytes.{Appends-nil, Appends-trans}
-use Rattle.sgb_file.specs.Devices.{Change}
+use Rattle.sgb_file.specs.Devices.{Change, change}
+use Rattle.sgb_gen.specs.ArcSinks.{AreGiven}
+use Rattle.sgb_gen.specs.LocalLists.{LocalArc}
+use Rattle.sgb.specs.inner.Locals.{local_line}
 use Rattle.sgb_file.proofs.SoFar.{SoFar}
 use Rattle.sgb_file.proofs.WrittenPrefixes.{prefix_none}
 use Rattle.sgb_vec.specs.declared.panics.Panic.{Panic}
@@ -49,6 +54,14 @@ pub exit_unput : {T : Type 0} (held text holds : List ℕ) (a : Option (List ℕ
     → IsPaged held text holds (record { before = a; after = a; failed = failed }) r
 exit_unput held text holds a failed r p exit memory sound = grind (arith, err_from_is_err_and, prefix_none)
 
+-- the exit of a `?` out of memory, where a page took the first part of a text
+pub exit_begun_by : {T : Type 0} (held text more now holds : List ℕ) (a b : Option (List ℕ)) (failed : Bool) (r : Result T Fault) (p : Panic) → IsErrAnd r (λ f. f ≡ fault.Panic p) → p ≡ NoRoom → failed ≡ false
+    → SoFar (held ++ text) now a b → IsPaged held (text ++ more) holds (record { before = a; after = b; failed = failed }) r
+exit_begun_by held text more now holds a b failed r p exit memory sound q =
+    let cut : IsCutOff (held ++ (text ++ more)) (record { before = a; after = b; failed = failed }) (fault.Panic NoRoom) =
+    record { output = (q.0, now ++ more, sym (append_assoc held text more) ∙ ap (λ l. l ++ more) (sym q.1) ∙ append_assoc q.0 now more, q.2); cause = inr (sound, refl) } in
+    grind (arith, err_from_is_err_and)
+
 -- all that a page holds is put in the end
 pub written_held : {T : Type 0} (all holds : List ℕ) (a b c : Option (List ℕ)) (failed : Bool) (r : Result T Fault) → SoFar all holds a b
     → IsWritten holds (record { before = b; after = c; failed = failed }) r → IsWritten all (record { before = a; after = c; failed = failed }) r
@@ -93,3 +106,28 @@ pub exit_begun : {T : Type 0} (all part left rest now : List ℕ) (a b c : Optio
     → IsWritten all (record { before = a; after = c; failed = failed }) r
 exit_begun all part left rest now a b c failed r f exit p q e =
     exit_cut all (record { before = a; after = c; failed = failed }) r f exit (paged_cut all part left rest [] now a b c failed f e p q)
+
+-- a page took a first part of a text, and then the lines of arcs, or a fault came before it had
+pub lines_given : {S T : Type 0} (written : S → Option (List ℕ)) (failed : S → Bool) (held text now after : List ℕ) (old mid new : S) (arcs : List LocalArc) (r : Result T Fault)
+    → SoFar (held ++ text) now (written old) (written mid)
+    → AreGiven (λ page o xs later n. (put : List ℕ) × (put ++ later ≡ page ++ flat_map local_line xs) × Appends (written o) (written n) put)
+    (λ page o xs later n f. IsCutOff (page ++ flat_map local_line xs) (change written failed o n) f × (f ≡ fault.Write)) now mid arcs after new r
+    → OnOk r (failed new ≡ false) → IsPaged held (text ++ flat_map local_line arcs) after (change written failed old new) r
+lines_given written failed held text now after old mid new arcs (Ok x) p given sound =
+    record { output = held_both held text (flat_map local_line arcs) now after (written old) (written mid) (written new) p given; sound = sound }
+lines_given written failed held text now after old mid new arcs (Err f) p given sound =
+    let lines = flat_map local_line arcs in
+    paged_cut (text ++ lines) lines lines [] held now (written old) (written mid) (written new) (failed new) f (sym (append-nil lines)) (text, refl, p) given.0
+
+-- the fault is that of a write
+pub lines_fault : {S T : Type 0} (written : S → Option (List ℕ)) (failed : S → Bool) (now after : List ℕ) (mid new : S) (arcs : List LocalArc) (r : Result T Fault)
+    → AreGiven (λ page o xs later n. (put : List ℕ) × (put ++ later ≡ page ++ flat_map local_line xs) × Appends (written o) (written n) put)
+    (λ page o xs later n f. IsCutOff (page ++ flat_map local_line xs) (change written failed o n) f × (f ≡ fault.Write)) now mid arcs after new r
+    → IfErr r (λ f. f ≡ fault.Write)
+lines_fault written failed now after mid new arcs (Ok x) given = tt
+lines_fault written failed now after mid new arcs (Err f) given = given.1
+
+-- where there is an answer, the first of two facts holds
+pub first_ok : {T A B : Type 0} (r : Result T Fault) → OnOk r (A × B) → OnOk r A
+first_ok (Ok x) both = both.0
+first_ok (Err f) both = tt

@@ -18,7 +18,7 @@ use Rattle.sgb_requests.specs.declared.requests.Resume.TheVariants as resumes
 use Rattle.sgb_requests.specs.declared.faults.Fault.TheVariants as fault
 use Rattle.sgb.specs.Outcomes.{answer_of, left_out, outcome_of}
 use Rattle.sgb.specs.Runs.{IsGiven, Left}
-use Rattle.sgb_gen.specs.Generators.{made}
+use Rattle.sgb_gen.specs.Generators.{IsAcceptedAtOnce, made}
 use Rattle.sgb_values.specs.FirstRefusals.{IsRefusedFirst}
 
 -- an expression that reads no input is refused before memory is taken
@@ -27,26 +27,24 @@ pub record IsRefusedAtOnce (e : Expression) : Type 0 where
   pub code : Panic
   pub refused : (input : List ℕ) → IsRefusedFirst input e code
 
--- an expression is a board
-abbrev pub IsBoard : Expr → Type 0
-IsBoard e = (p : BoardParams) × (e ≡ expr.Generator (generator.Board p))
-
 -- an answer is to begin after a name that none of these is, or is resumed after all of them
 abbrev pub IsPast : List (List ℕ) → Resume → Type 0
 IsPast names resume =
     (left_out names resume ≡ Err fault.NoVertex)
     ⊎ ((resume ≢ resumes.Whole) × ((k : ℕ) × (left_out names resume ≡ Ok k) × (length names ≤ k)))
 
--- an expression is a board, and an answer is to begin after a name that no vertex of it has, or after its last vertex
-abbrev pub BeginsNowhere : Expr → Resume → Type 0
-BeginsNowhere e resume = (p : BoardParams) × (e ≡ expr.Generator (generator.Board p))
-    × ((g : GraphData) → made (board p) ≡ Ok g → IsPast (names_of g) resume)
+-- the listing of a generator's graph takes no memory: of a board one that is to begin after a name that no vertex has, or after the
+-- last vertex; of a simplex of one bound one without the head; of subsets of one bound each
+abbrev pub IsListedAtOnce : Generator → Resume → Type 0
+IsListedAtOnce (generator.Board p) resume = (g : GraphData) → made (board p) ≡ Ok g → IsPast (names_of g) resume
+IsListedAtOnce (generator.Simplex p) resume = IsAcceptedAtOnce (generator.Simplex p) × (resume ≢ resumes.Whole)
+IsListedAtOnce (generator.Subsets p) resume = IsAcceptedAtOnce (generator.Subsets p)
 
--- answering the request takes no memory: random numbers, the names of a board, what is refused at once, and the listing of a
--- board that is to begin after a name that no vertex has, or after the last vertex
+-- answering the request takes no memory: random numbers, the names of a generator's graph that is accepted without memory, the
+-- listings above, and what is refused at once
 abbrev pub NeedsNoMemory : Request → Type 0
-NeedsNoMemory (request.Names e resume) = IsBoard e ⊎ IsRefusedAtOnce (expression_of e)
-NeedsNoMemory (request.List e resume) = BeginsNowhere e resume ⊎ IsRefusedAtOnce (expression_of e)
+NeedsNoMemory (request.Names e resume) = ((f : Generator) × (e ≡ expr.Generator f) × IsAcceptedAtOnce f) ⊎ IsRefusedAtOnce (expression_of e)
+NeedsNoMemory (request.List e resume) = ((f : Generator) × (e ≡ expr.Generator f) × IsListedAtOnce f resume) ⊎ IsRefusedAtOnce (expression_of e)
 NeedsNoMemory (request.Save e) = IsRefusedAtOnce (expression_of e)
 NeedsNoMemory request.Queen = ⊥
 NeedsNoMemory (request.Flip p) = Unit {0}
@@ -55,3 +53,7 @@ NeedsNoMemory (request.Flip p) = Unit {0}
 -- and the status of its refusal
 abbrev pub IsCertain : {S : Type 0} → Request → Left S → Type 0
 IsCertain r l = NeedsNoMemory r → l.out.told.failed ≡ false → (stdin : Result GraphData Panic) → IsGiven (outcome_of (answer_of r stdin)) l
+
+-- the request is for no listing of a board: all memory for its answer is taken before something is written
+abbrev pub ListsNoBoard : Request → Type 0
+ListsNoBoard r = (p : BoardParams) (resume : Resume) → r ≢ request.List (expr.Generator (generator.Board p)) resume

@@ -3,6 +3,7 @@ ghost use Rattle.std.specs.Prelude.{◌≡◌, ◌≢◌, ◌+◌, ◌&&◌, ℕ
 ghost use Rattle.std.specs.Io.KnownBytes.{Keeps};
 ghost use Rattle.sgb_file.specs.Devices.{change};
 ghost use Rattle.sgb_vec.specs.declared.panics.Panic.TheVariants.{NoRoom};
+ghost use Rattle.sgb_requests.specs.Faults.{status_of};
 ghost use Rattle.sgb_requests.specs.declared.faults.Fault.{Fault};
 ghost use Rattle.sgb.specs.Inputs.{IsReadFrom, LosesAtMost};
 ghost use Rattle.sgb.specs.Runs.{AreUsed, IsAnswerGiven, IsAnswerRun};
@@ -27,6 +28,9 @@ pub trait Answer {
     // That writing it takes no memory.
     ghost certain: { Self → Type 0 };
 
+    // That all memory for it is taken before something is written.
+    ghost prepared: { Self → Type 0 };
+
     /// Whether it reads standard input. There is an answer to each input.
     fn reads_input(&self) -> bool
         ensures read { result ≡ reads self.now }
@@ -41,7 +45,9 @@ pub trait Answer {
         requires { W.has_failed out.old ≡ false }
         ensures ended { (a : Result (List ℕ) Fault) → answers self.now input.items a
             → IsEnded a (effect W.written W.has_failed out.old out.new) result }
-        ensures memory { certain self.now → IfErr result (λ f. f ≢ Fault.Panic NoRoom) };
+        ensures memory { certain self.now → IfErr result (λ f. f ≢ Fault.Panic NoRoom) }
+        ensures untouched { prepared self.now
+            → IfErr result (λ f. f ≡ Fault.Panic NoRoom → out.new ≡ out.old) };
 }
 
 /// Gives an answer as `run` gives that of a request: writes its output to `out`, with one flush at its end, or the line of a
@@ -74,6 +80,8 @@ pub fn run_answer<A: Answer, R: Source, W: Sink, E: Sink>(
           err = change E.written E.has_failed errors.old errors.new;
           status = result;
         }) }
+    // Where all memory is taken before something is written, a status of 1 leaves the output as it was.
+    ensures untouched { A.prepared answer.now → result ≡ 1 → out.new ≡ out.old }
     ensures flushed { result ≡ 0 → W.held out.new ≡ [] }
     ensures unread { A.reads answer.now ≡ false → source.new ≡ source.old }
     ensures bounded { LosesAtMost (most_input + 1) (R.remaining source.old)
@@ -102,6 +110,8 @@ fn give<A: Answer, R: Source, W: Sink>(
         × A.answers answer.now input a }
     ensures certain { A.reads answer.now ≡ false → A.certain answer.now
         → IfErr result (λ f. f ≢ Fault.Panic NoRoom) }
+    ensures untouched { A.prepared answer.now
+        → IfErr result (λ f. status_of f ≡ 1 → out.new ≡ out.old) }
     ensures flushed { OnOk result (W.held out.new ≡ []) }
     ensures unread { A.reads answer.now ≡ false → source.new ≡ source.old }
     ensures bounded { LosesAtMost (most_input + 1) (R.remaining source.old)

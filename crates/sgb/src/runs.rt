@@ -8,13 +8,15 @@ ghost use Rattle.sgb_vec.specs.declared.panics.Panic.TheVariants.{Early, NoRoom}
 ghost use Rattle.sgb_expr.specs.Expression.{expression_of};
 ghost use Rattle.sgb_file.specs.Saving.{text_of_graph};
 ghost use Rattle.sgb_graph.specs.Vertices.{names_of};
-ghost use Rattle.sgb.specs.Certain.{BeginsNowhere, IsBoard, IsCertain, IsRefusedAtOnce, NeedsNoMemory};
+ghost use Rattle.sgb.specs.Certain.{IsCertain, IsListedAtOnce, IsRefusedAtOnce, ListsNoBoard, NeedsNoMemory};
 ghost use Rattle.sgb.specs.inner.Certain.{HasListingAtOnce, HasNamesAtOnce};
 ghost use Rattle.sgb.specs.Outcomes.{IsAnswered, answer_from, list_answer, names_answer, queen_moves, queen_title, reads_input};
 ghost use Rattle.sgb.specs.Inputs.{LosesAtMost};
 ghost use Rattle.sgb.specs.Runs.{IsRunOn};
 ghost use Rattle.sgb.specs.Texts.{blocks, head};
-ghost use Rattle.sgb_gen.specs.Generators.{generator_value, made};
+ghost use Rattle.sgb_gen.specs.Generators.{IsAcceptedAtOnce, generator_value, made, sort_made};
+ghost use Rattle.sgb_gen.specs.Sorts.{of_board};
+ghost use Rattle.sgb_gen.specs.declared.params.BoardParams.{BoardParams};
 ghost use Rattle.sgb_values.specs.Values.{IsValueOn, most_input, value_of};
 ghost use Rattle.sgb.specs.Writing.{IsEnded, effect};
 // For the search alone.
@@ -38,7 +40,8 @@ use std::alloc::Global;
 /// Answers a request: writes its output to `out`, or the line of a fault to `errors`, and returns the exit status. The
 /// answer is that of the definitions, unless `out` fails (3, a prefix of the output) or memory runs out (1, a prefix of
 /// the output). An answer that is given in full ends with one flush of `out`, which then holds nothing back. A request
-/// that is refused, or whose input fails, leaves `out` as it was, with no put and no flush.
+/// that is refused, or whose input fails, leaves `out` as it was, with no put and no flush; and so does one for which memory
+/// runs out, but for the listing of a board, of which a prefix may be written then.
 ///
 /// `source` is standard input. It is read, once and whole, only if the request's expression has `stdin`, and before all
 /// else; where it fails nothing is written (3). Of more than 2^30 bytes only so many and one more are read.
@@ -63,6 +66,8 @@ pub fn run<R: Source, W: Sink, E: Sink>(
       err = change E.written E.has_failed errors.old errors.new;
       status = result;
     }) }
+    // A refusal leaves the output as it was, and so does want of memory, but for a board's listing.
+    ensures untouched { ListsNoBoard request.now → result ≡ 1 → out.new ≡ out.old }
     ensures flushed { result ≡ 0 → W.held out.new ≡ [] }
     // What the request asks for is never that memory runs out: code 1 is the machine's alone.
     ensures apart { (input : List ℕ) (answer : Result (List ℕ) Fault)
@@ -80,6 +85,8 @@ impl Answer for Request {
     ghost answers = { λ r input a. IsAnswered r input a };
 
     ghost certain = { λ r. NeedsNoMemory r };
+
+    ghost prepared = { λ r. ListsNoBoard r };
 
     fn reads_input(&self) -> bool {
         reads_stdin(self)
@@ -115,6 +122,8 @@ fn write_answer<W: Sink>(
         (effect W.written W.has_failed out.old out.new) result }
     ensures certain { NeedsNoMemory request.now
         → IfErr result (λ f. f ≢ Fault.Panic NoRoom) }
+    ensures untouched { ListsNoBoard request.now
+        → IfErr result (λ f. f ≡ Fault.Panic NoRoom → out.new ≡ out.old) }
 {
     match request {
         Request::Names(expression, resume) => answer_names(alloc, expression, input, resume, out),
@@ -138,8 +147,10 @@ fn answer_names<W: Sink>(
         × IsValueOn input.items (expression_of expression.now) value
         × IsEnded (answer_from value (λ g. names_answer (names_of g) resume.now))
         (effect W.written W.has_failed out.old out.new) result }
-    ensures certain { IsBoard expression.now ⊎ IsRefusedAtOnce (expression_of expression.now)
+    ensures certain { ((f : Generator) × (expression.now ≡ Expr.Generator f) × IsAcceptedAtOnce f)
+        ⊎ IsRefusedAtOnce (expression_of expression.now)
         → IfErr result (λ f. f ≢ Fault.Panic NoRoom) }
+    ensures untouched { IfErr result (λ f. f ≡ Fault.Panic NoRoom → out.new ≡ out.old) }
 {
     if let Expr::Generator(generator) = expression {
         return answer_generator_names(alloc, generator, resume, out);
@@ -161,6 +172,7 @@ fn answer_generator_names<W: Sink>(
         (effect W.written W.has_failed out.old out.new) result }
     ensures certain { HasNamesAtOnce generator.now
         → IfErr result (λ f. f ≢ Fault.Panic NoRoom) }
+    ensures untouched { IfErr result (λ f. f ≡ Fault.Panic NoRoom → out.new ≡ out.old) }
 {
     let local = local_of(alloc, generator)?;
     local.visit(NamesAnswer { resume }, out)
@@ -179,9 +191,12 @@ fn answer_list<W: Sink>(
         × IsValueOn input.items (expression_of expression.now) value
         × IsEnded (answer_from value (λ g. list_answer g resume.now))
         (effect W.written W.has_failed out.old out.new) result }
-    ensures certain { BeginsNowhere expression.now resume.now
+    ensures certain { ((f : Generator) × (expression.now ≡ Expr.Generator f)
+        × IsListedAtOnce f resume.now)
         ⊎ IsRefusedAtOnce (expression_of expression.now)
         → IfErr result (λ f. f ≢ Fault.Panic NoRoom) }
+    ensures untouched { ((p : BoardParams) → expression.now ≢ Expr.Generator (Generator.Board p))
+        → IfErr result (λ f. f ≡ Fault.Panic NoRoom → out.new ≡ out.old) }
 {
     if let Expr::Generator(generator) = expression {
         return answer_generator_list(alloc, generator, resume, out);
@@ -203,6 +218,8 @@ fn answer_generator_list<W: Sink>(
         (effect W.written W.has_failed out.old out.new) result }
     ensures certain { HasListingAtOnce generator.now resume.now
         → IfErr result (λ f. f ≢ Fault.Panic NoRoom) }
+    ensures untouched { sort_made generator.now ≢ of_board
+        → IfErr result (λ f. f ≡ Fault.Panic NoRoom → out.new ≡ out.old) }
 {
     let local = local_of(alloc, generator)?;
     let mut links = Links::new(alloc);
@@ -227,6 +244,7 @@ fn answer_save<W: Sink>(
         (effect W.written W.has_failed out.old out.new) result }
     ensures certain { IsRefusedAtOnce (expression_of expression.now)
         → IfErr result (λ f. f ≢ Fault.Panic NoRoom) }
+    ensures untouched { IfErr result (λ f. f ≡ Fault.Panic NoRoom → out.new ≡ out.old) }
 {
     let graph = graph_from(alloc, expression, input)?;
     write_file(&graph, out)
@@ -235,9 +253,10 @@ fn answer_save<W: Sink>(
 // Writes the moves of queens on a board of three rows and four columns, under their title.
 fn answer_queen<W: Sink>(alloc: Global, out: &mut W) -> Result<(), Fault>
     requires { W.has_failed out.old ≡ false }
-    ensures { IsEnded (answer_from (value_of (Err Early) queen_moves)
+    ensures ended { IsEnded (answer_from (value_of (Err Early) queen_moves)
         (λ g. Ok (queen_title ++ (head g ++ blocks g 0))))
         (effect W.written W.has_failed out.old out.new) result }
+    ensures untouched { IfErr result (λ f. f ≡ Fault.Panic NoRoom → out.new ≡ out.old) }
 {
     let graph = queen_moves(alloc)?;
     write_titled_listing(b"Queen Moves on a 3x4 Board\n\n", &graph, out)

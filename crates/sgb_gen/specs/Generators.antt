@@ -1,5 +1,5 @@
 -- The three generators: their graphs, and what is known of an accepted one without its graph [GB_BASIC].
-use Rattle.std.specs.Prelude.{◌≡◌, ◌⊎◌, ℕ, List, Result, Ok, Err}
+use Rattle.std.specs.Prelude.{◌≡◌, ◌<◌, ◌⊎◌, ℕ, List, length, Result, Ok, Err, IfOk}
 use Rattle.sgb_vec.specs.Bounds.{simplex_of}
 use Rattle.sgb_vec.specs.Results.{and_then}
 use Rattle.sgb_vec.specs.declared.panics.Panic.{Panic}
@@ -33,6 +33,12 @@ IsGeneratorRefused (generator.Board p) code = board p ≡ Err code
 IsGeneratorRefused (generator.Simplex p) code = simplex_of p.n p.n0 p.n1 p.n2 p.n3 p.n4 ≡ Err code
 IsGeneratorRefused (generator.Subsets p) code = simplex_of p.n p.n0 p.n1 p.n2 p.n3 p.n4 ≡ Err code
 
+-- accepting a generator takes no memory: a board, and a sum of one bound
+abbrev pub IsAcceptedAtOnce : Generator → Type 0
+IsAcceptedAtOnce (generator.Board p) = Unit {0}
+IsAcceptedAtOnce (generator.Simplex p) = IfOk (simplex_of p.n p.n0 p.n1 p.n2 p.n3 p.n4) (λ shape. length shape.sizes < 2)
+IsAcceptedAtOnce (generator.Subsets p) = IfOk (simplex_of p.n p.n0 p.n1 p.n2 p.n3 p.n4) (λ shape. length shape.sizes < 2)
+
 -- the graph of accepted parameters, as one of vectors
 abbrev pub vector_graph_of : Local → VectorGraph
 vector_graph_of (local.Board b) = board_vector_graph b
@@ -44,6 +50,12 @@ abbrev pub sort_of : Local → Sort
 sort_of (local.Board b) = of_board
 sort_of (local.Simplex s) = of_simplex
 sort_of (local.Subsets s) = of_subsets
+
+-- which generator parameters are of
+abbrev pub sort_made : Generator → Sort
+sort_made (generator.Board p) = of_board
+sort_made (generator.Simplex p) = of_simplex
+sort_made (generator.Subsets p) = of_subsets
 
 -- the graph of accepted parameters
 abbrev pub described : Local → Description

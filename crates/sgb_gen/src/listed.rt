@@ -97,11 +97,13 @@ pub trait Listed<'a> {
         ensures same { graph self.new ≡ graph self.old }
         ensures sort { sort self.new ≡ sort self.old };
 
-    /// The list of the vertex of `x` run by run, where it can be had so: no list is then made. No memory is taken.
+    /// The list of the vertex of `x` run by run, where it can be had so, of a board alone: no list is then made. No memory is
+    /// taken.
     fn runs<'b>(&'b self, x: &'b [u32]) -> Option<Runs<'b>>
         requires { Contains (graph self.now).vectors x.now }
         ensures vector { IfSome result (λ r. r.x ≡ x.now) }
-        ensures arcs { IfSome result (λ r. r.arcs ≡ list_in (graph self.now) x.now) };
+        ensures arcs { IfSome result (λ r. r.arcs ≡ list_in (graph self.now) x.now) }
+        ensures board { IfSome result (λ r. sort self.now ≡ of_board) };
 
     /// The list of vertex `v`, which is that of `x`, by the vertices where its arcs lead, where it can be had so: no vector of
     /// theirs is then made. No memory is taken.

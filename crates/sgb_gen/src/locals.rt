@@ -1,8 +1,7 @@
 //! The accepted parameters of a generator: what is known of its graph without the graph.
 ghost use Rattle.std.specs.Prelude.{◌≡◌, ◌≢◌, length, Err, Ok, IfErr, IfOk, IsOkUnless};
 ghost use Rattle.sgb_graph.specs.Descriptions.{IsAnswerOf};
-ghost use Rattle.sgb_gen.specs.declared.params.BoardParams.{BoardParams};
-ghost use Rattle.sgb_gen.specs.Generators.{IsGeneratorRefused, IsLocalOf, described, generator_value};
+ghost use Rattle.sgb_gen.specs.Generators.{IsAcceptedAtOnce, IsGeneratorRefused, IsLocalOf, described, generator_value, sort_made, sort_of};
 ghost use Rattle.sgb_graph.specs.Made.{graph_described};
 
 use crate::accepted::{Board, Simplex, Subsets};
@@ -22,12 +21,12 @@ pub enum Local {
 
 /// The accepted parameters of a generator.
 ///
-/// The generator's refusal, or `NoRoom` when out of memory.
+/// The generator's refusal, or `NoRoom` when out of memory: never of a board, and never of a sum of one bound.
 pub fn local_of(alloc: Global, generator: &Generator) -> Result<Local, Panic>
     ensures value { IsLocalOf (generator_value generator.now) result }
+    ensures sort { IfOk result (λ l. sort_of l ≡ sort_made generator.now) }
     ensures refused { (p : Panic) → IsGeneratorRefused generator.now p → result ≡ Err p }
-    ensures board { (params : BoardParams) → generator.now ≡ Generator.Board params
-        → IfErr result (λ p. p ≢ Panic.NoRoom) }
+    ensures certain { IsAcceptedAtOnce generator.now → IfErr result (λ p. p ≢ Panic.NoRoom) }
 {
     match generator {
         Generator::Board(params) => {

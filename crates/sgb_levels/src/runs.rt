@@ -128,6 +128,8 @@ impl Answer for Levels {
 
     ghost certain = { λ l. ⊥ };
 
+    ghost prepared = { λ l. ⊥ };
+
     fn reads_input(&self) -> bool {
         self.expression.has_stdin()
     }

@@ -59,13 +59,15 @@ impl SumFamily {
     ///
     /// `Bad` where `n` is negative; `VeryBad` where it is above 1,000,000,000, both whatever memory there is, or
     /// where for some j from 1 to d and some k up to `n` more than 1,000,000,000 vectors within the first j+1
-    /// bounds add to k; `NoRoom` when out of memory. Memory grows with the smaller of `n` and the sum of all bounds but
-    /// the two greatest, and stays small where that is refused; so does the time for each bound.
+    /// bounds add to k; `NoRoom` when out of memory, and never for one bound or none. Memory grows with the smaller of `n`
+    /// and the sum of all bounds but the two greatest, and stays small where that is refused; so does the time for each
+    /// bound.
     pub fn new(alloc: Global, n: i64, bounds: &[u32]) -> Result<SumFamily, Panic>
         requires { length bounds.now ≤ most_dimensions + 1 }
         ensures value { (result ≡ sum_of n bounds.now) ⊎ (result ≡ Err NoRoom) }
         ensures negative { n <ℤ pos 0 → result ≡ Err Panic.Bad }
         ensures great { pos most_vertices <ℤ n → result ≡ Err Panic.VeryBad }
+        ensures few { length bounds.now < 2 → result ≡ sum_of n bounds.now }
     {
         if n < 0 {
             return Err(Panic::Bad);

@@ -1,4 +1,5 @@
 //! The listing of a generator's graph, written from its vectors: one list of arcs after another, and no graph is built.
+//! The arcs of a simplex and of subsets are handed to the page one by one (`ArcLines`), so no list of theirs is kept.
 //!
 //! The head is put before the first list is made, which takes time and memory in a great graph; the program's
 //! `Buffered` holds it until the first page comes. Where memory runs out for a list the page is not put any more: a
@@ -7,9 +8,10 @@
 //!
 //! What puts the line of an arc together is inlined in one place (`push_arc`): a simplex takes a twentieth less time
 //! so.
-ghost use Rattle.std.specs.Prelude.{◌≡◌, ◌≢◌, ◌≤◌, ◌+◌, [], ◌++◌, false, pos, drop, length, option_map, reverse, Contains, IfErr, IfSome, IsOk, IsOkUnless, OnOk};
+ghost use Rattle.std.specs.Prelude.{◌≡◌, ◌≢◌, ◌≤◌, ◌+◌, ℕ, List, [], ◌++◌, false, true, drop, length, option_map, reverse, Contains, IfErr, IfSome, IsOk, IsOkUnless, OnOk};
 ghost use Rattle.std.specs.List.{flat_map};
-ghost use Rattle.sgb_file.specs.Devices.{change};
+ghost use Rattle.std.specs.Io.KnownBytes.{Appends};
+ghost use Rattle.sgb_file.specs.Devices.{AppendsPrefix, change};
 ghost use Rattle.sgb_vec.specs.Limits.{most_dimensions};
 ghost use Rattle.sgb_vec.specs.Names.{name_of_vector};
 ghost use Rattle.sgb_gen.specs.Runs.{AreMoved, arc_along, arcs_along};
@@ -17,7 +19,9 @@ ghost use Rattle.sgb_gen.specs.VectorGraphs.{described_by};
 ghost use Rattle.sgb_graph.specs.Made.{graph_described};
 ghost use Rattle.sgb_graph.specs.Vertices.{names_of};
 ghost use Rattle.sgb_requests.specs.declared.faults.Fault.TheVariants as fault;
-ghost use Rattle.sgb_gen.specs.Generators.{vectors_of};
+ghost use Rattle.sgb_requests.specs.declared.requests.Resume.TheVariants.{Whole};
+ghost use Rattle.sgb_gen.specs.Generators.{sort_of, vectors_of};
+ghost use Rattle.sgb_gen.specs.Sorts.{of_board, of_simplex, of_subsets};
 ghost use Rattle.sgb.specs.Locals.{family_text, head_if, left_out_after};
 ghost use Rattle.sgb.specs.inner.Locals.{local_block, local_line};
 ghost use Rattle.sgb.specs.inner.Pages.{IsPaged, page_bytes};
@@ -28,7 +32,7 @@ ghost use Rattle.sgb_gen.specs.Generators.{described};
 ghost use Rattle.sgb.specs.Certain.{IsPast};
 ghost use Rattle.sgb.specs.Outcomes.{list_answer};
 ghost use Rattle.sgb_vec.specs.declared.panics.Panic.TheVariants.{NoRoom};
-ghost use Rattle.sgb.specs.Writing.{IsEnded, IsLeftOrBegun, IsWritten, effect};
+ghost use Rattle.sgb.specs.Writing.{IsCutOff, IsEnded, IsLeftOrBegun, IsWritten, effect};
 // For the search alone.
 ghost use Rattle.std.specs.Prelude.{IfOk};
 
@@ -38,7 +42,7 @@ use super::listing::push_head_of;
 use super::pages::{Page, make_room, put_page};
 use super::resumed::{has_head, slice_of, start_of, vectors_after};
 use sgb_file::Sink;
-use sgb_gen::{Links, Listed, Local, Runs, Visit, Visitor};
+use sgb_gen::{ArcSink, Links, Listed, Local, Runs, Visit, Visitor};
 use sgb_requests::{Fault, Resume};
 use sgb_vec::{Family, Panic, Vectors};
 
@@ -48,7 +52,8 @@ use sgb_vec::{Family, Panic, Vectors};
 /// simplex the counts for the head, about a megabyte at most. What `links` holds afterwards is open.
 ///
 /// `after` is a vector of the family. `Write` where the sink failed, `Panic(NoRoom)` when out of memory; a prefix is then
-/// written. Where memory runs out that is nothing, or the whole head at least.
+/// written. Where memory runs out that is nothing, or the whole head at least. Subsets take no memory, and a simplex only
+/// before its head.
 pub fn list_family<W: Sink>(
     local: &Local,
     head: bool,
@@ -64,6 +69,9 @@ pub fn list_family<W: Sink>(
     ensures head { IfErr result (λ f. f ≢ Fault.Write → IsLeftOrBegun
         (head_if head (graph_described (described local.now)))
         (effect W.written W.has_failed out.old out.new)) }
+    ensures subsets { sort_of local.now ≡ of_subsets → IfErr result (λ f. f ≡ Fault.Write) }
+    ensures simplex { sort_of local.now ≡ of_simplex → IfErr result (λ f. f ≢ Fault.Write
+        → (head ≡ true) × (out.new ≡ out.old)) }
 {
     local.visit(FamilyListing { head, after, links }, out)
 }
@@ -85,11 +93,14 @@ impl<'l, W: Sink> Visitor<W> for FamilyListing<'l> {
     ghost needs = { λ v g _ old. IfSome v.after (λ x. Contains g.vectors x.now)
         × (W.has_failed old ≡ false) };
 
-    ghost gives = { λ v g _ old new result. IsWritten (family_text (graph_described (described_by g))
+    ghost gives = { λ v g sort old new result. IsWritten (family_text (graph_described (described_by g))
         v.head (left_out_after g.vectors (option_map (λ x. x.now) v.after)))
         (change W.written W.has_failed old new) result
         × IfErr result (λ f. f ≢ fault.Write → IsLeftOrBegun
-        (head_if v.head (graph_described (described_by g))) (effect W.written W.has_failed old new)) };
+        (head_if v.head (graph_described (described_by g))) (effect W.written W.has_failed old new))
+        × (sort ≡ of_subsets → IfErr result (λ f. f ≡ fault.Write))
+        × (sort ≡ of_simplex → IfErr result (λ f. f ≢ fault.Write
+        → (v.head ≡ true) × (new ≡ old))) };
 }
 
 impl<'a, 'l, L: Listed<'a>, W: Sink> Visit<'a, L, W> for FamilyListing<'l> {
@@ -116,11 +127,14 @@ impl<'l, W: Sink> Visitor<W> for ListAnswer<'l> {
 
     ghost needs = { λ _ _ _ old. W.has_failed old ≡ false };
 
-    ghost gives = { λ v g _ old new result.
+    ghost gives = { λ v g sort old new result.
         IsEnded (list_answer (graph_described (described_by g)) v.resume.now)
         (effect W.written W.has_failed old new) result
         × (IsPast (names_of (graph_described (described_by g))) v.resume.now
-        → IfErr result (λ f. f ≢ fault.Panic NoRoom)) };
+        → IfErr result (λ f. f ≢ fault.Panic NoRoom))
+        × (sort ≡ of_subsets → IfErr result (λ f. f ≢ fault.Panic NoRoom))
+        × (sort ≡ of_simplex → IfErr result (λ f. f ≡ fault.Panic NoRoom
+        → (v.resume.now ≡ Whole) × (new ≡ old))) };
 }
 
 impl<'a, 'l, L: Listed<'a>, W: Sink> Visit<'a, L, W> for ListAnswer<'l> {
@@ -158,6 +172,9 @@ fn list_vectors<'a, L: Listed<'a>, W: Sink>(
     ensures end { head ≡ false → drop (left_out_after (L.graph listed.old).vectors
         (option_map (λ x. x.now) after.entry)) (L.graph listed.old).vectors ≡ []
         → IfErr result (λ f. f ≢ Fault.Panic NoRoom) }
+    ensures subsets { L.sort listed.old ≡ of_subsets → IfErr result (λ f. f ≡ Fault.Write) }
+    ensures simplex { L.sort listed.old ≡ of_simplex → IfErr result (λ f. f ≢ Fault.Write
+        → (head ≡ true) × (out.new ≡ out.old)) }
 {
     let vectors = vectors_after(listed.family(), after);
     let mut page = Page::new();
@@ -179,6 +196,7 @@ fn push_head_if<'a, L: Listed<'a>>(
         ++ head_if asked (graph_described (described_by (L.graph listed.now)))) }
     ensures memory { IsOkUnless result Panic.NoRoom }
     ensures none { asked ≡ false → IsOk result }
+    ensures subsets { L.sort listed.now ≡ of_subsets → IsOk result }
 {
     if !asked {
         return Ok(());
@@ -192,6 +210,7 @@ fn push_head<'a, L: Listed<'a>>(listed: &L, links: &Links, page: &mut Page) -> R
     ensures text { OnOk result (page.new ≡ page.old
         ++ head (graph_described (described_by (L.graph listed.now)))) }
     ensures memory { IsOkUnless result Panic.NoRoom }
+    ensures subsets { L.sort listed.now ≡ of_subsets → IsOk result }
 {
     let m = listed.arcs_count(links)?;
     push_head_of(&listed.id(), listed.family().size(), m, page);
@@ -212,6 +231,7 @@ fn write_blocks<'a, L: Listed<'a>, W: Sink>(
     ensures written { IsWritten (flat_map (local_block (L.graph listed.old)) vectors.entry)
         (change W.written W.has_failed out.old out.new) result }
     ensures end { vectors.entry ≡ [] → IfErr result (λ f. f ≢ Fault.Panic NoRoom) }
+    ensures fault { L.sort listed.old ≢ of_board → IfErr result (λ f. f ≡ Fault.Write) }
 {
     let mut name = KeptName::new();
     let mut left = vectors;
@@ -238,7 +258,9 @@ fn push_block<'a, L: Listed<'a>, W: Sink>(
     requires sound { W.has_failed out.old ≡ false }
     ensures paged { IsPaged page.old (local_block (L.graph listed.old) x.now) page.new
         (change W.written W.has_failed out.old out.new) result }
+    ensures fault { L.sort listed.old ≢ of_board → IfErr result (λ f. f ≡ Fault.Write) }
     ensures same { L.graph listed.new ≡ L.graph listed.old }
+    ensures sort { L.sort listed.new ≡ L.sort listed.old }
 {
     if let Some(runs) = listed.runs(x) {
         return push_block_of_runs(runs, name, page, out);
@@ -372,35 +394,75 @@ fn push_listed_block<'a, L: Listed<'a>, W: Sink>(
     requires sound { W.has_failed out.old ≡ false }
     ensures paged { IsPaged page.old (local_block (L.graph listed.old) x.now) page.new
         (change W.written W.has_failed out.old out.new) result }
+    ensures fault { L.sort listed.old ≢ of_board → IfErr result (λ f. f ≡ Fault.Write) }
     ensures same { L.graph listed.new ≡ L.graph listed.old }
+    ensures sort { L.sort listed.new ≡ L.sort listed.old }
 {
-    listed.arcs_at(x, links)?;
     name.push_line(page, out)?;
-    for i in 0..links.len() {
-        let link = links.get(i);
-        push_arc(name, link.tip, link.len, page, out)?;
-    }
-    Ok(())
+    listed.give_arcs(x, links, &ArcLines { name }, page, out)?
 }
 
-// Hands the line of an arc to this vector, from one whose name is known, to a page.
-#[inline(always)]
-fn push_arc<W: Sink>(
-    name: &KeptName,
-    tip: &[u32],
-    len: u32,
-    page: &mut Page,
-    out: &mut W,
-) -> Result<(), Fault>
-    requires width { length tip.now ≡ length name.now }
-    requires short { length tip.now ≤ most_dimensions + 1 }
-    requires sound { W.has_failed out.old ≡ false }
-    ensures { IsPaged page.old (local_line (record { tip = tip.now; len = pos len })) page.new
-        (change W.written W.has_failed out.old out.new) result }
-{
-    make_room(page, out)?;
-    begin_arc(page);
-    name.push_other(tip, page);
-    end_counted_arc(page, len);
-    Ok(())
+// Takes the arcs of the vector of this name, and hands their lines to a page.
+#[derive(Drop)]
+struct ArcLines<'n> {
+    name: &'n KeptName,
+}
+
+impl<'n, W: Sink> ArcSink<Page, W> for ArcLines<'n> {
+    ghost use Rattle.std.proofs.Common.{◌∙◌, sym, ap, subst, append-nil, append_assoc};
+    ghost use Rattle.std.proofs.KnownBytes.{Appends-nil, Appends-trans};
+    ghost use Rattle.std.proofs.lemmas.Grind.{flat_map-append};
+    ghost use Rattle.sgb_file.proofs.WrittenPrefixes.{prefix_after, prefix_more};
+
+    type Fault = Fault;
+
+    ghost width = { λ s. length s.name.now };
+
+    ghost ready = { λ s page out. (W.has_failed out ≡ false)
+        × (length s.name.now ≤ most_dimensions + 1) };
+
+    ghost took = { λ _ page old arcs after new. (put : List ℕ)
+        × (put ++ after ≡ page ++ flat_map local_line arcs)
+        × Appends (W.written old) (W.written new) put };
+
+    ghost cut = { λ _ page old arcs _ new f. IsCutOff (page ++ flat_map local_line arcs)
+        (change W.written W.has_failed old new) f × (f ≡ fault.Write) };
+
+    // A page that took some lines and then others took both, and what cuts the others off cuts off both.
+    ghost laws = { λ s. record {
+      none = λ page out. ([], sym (append-nil page), Appends-nil (W.written out));
+      more = λ xs ys page old mid out _ new p q. (p.0 ++ q.0, append_assoc p.0 q.0 _
+          ∙ ap (λ text. p.0 ++ text) q.1 ∙ sym (append_assoc p.0 mid (flat_map local_line ys))
+          ∙ ap (λ text. text ++ flat_map local_line ys) p.1
+          ∙ append_assoc page (flat_map local_line xs) (flat_map local_line ys)
+          ∙ ap (λ text. page ++ text) (sym (flat_map-append local_line xs ys)),
+          Appends-trans (W.written old) (W.written out) (W.written new) p.0 q.0 p.2 q.2);
+      cut_after = λ xs ys page old mid out _ new f p q. (record {
+        output = subst (AppendsPrefix (W.written old) (W.written new))
+            (sym (append_assoc p.0 mid (flat_map local_line ys))
+            ∙ ap (λ text. text ++ flat_map local_line ys) p.1
+            ∙ append_assoc page (flat_map local_line xs) (flat_map local_line ys)
+            ∙ ap (λ text. page ++ text) (sym (flat_map-append local_line xs ys)))
+            (prefix_after (W.written old) (W.written out) (W.written new) p.0
+            (mid ++ flat_map local_line ys) p.2 q.0.output);
+        cause = q.0.cause;
+      }, q.1);
+      cut_more = λ xs ys page old _ new f q. (record {
+        output = subst (AppendsPrefix (W.written old) (W.written new))
+            (append_assoc page (flat_map local_line xs) (flat_map local_line ys)
+            ∙ ap (λ text. page ++ text) (sym (flat_map-append local_line xs ys)))
+            (prefix_more (W.written old) (W.written new) (page ++ flat_map local_line xs)
+            (flat_map local_line ys) q.0.output);
+        cause = q.0.cause;
+      }, q.1);
+    } };
+
+    #[inline(always)]
+    fn put_arc(&self, tip: &[u32], len: u32, page: &mut Page, out: &mut W) -> Result<(), Fault> {
+        make_room(page, out)?;
+        begin_arc(page);
+        self.name.push_other(tip, page);
+        end_counted_arc(page, len);
+        Ok(())
+    }
 }

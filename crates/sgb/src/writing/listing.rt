@@ -1,7 +1,8 @@
 //! The listing of a graph, written to a sink.
-ghost use Rattle.std.specs.Prelude.{◌≡◌, ◌<◌, ◌≤◌, ◌+◌, ◌++◌, false, length, Err};
+ghost use Rattle.std.specs.Prelude.{◌≡◌, ◌≢◌, ◌<◌, ◌≤◌, ◌+◌, ◌++◌, false, length, Err, IfErr};
 ghost use Rattle.sgb_file.specs.Devices.{change};
 ghost use Rattle.sgb_graph.specs.Vertices.{names_of};
+ghost use Rattle.sgb_vec.specs.declared.panics.Panic.TheVariants.{NoRoom};
 ghost use Rattle.sgb.specs.Outcomes.{head_for, left_out, list_answer};
 ghost use Rattle.sgb.specs.Texts.{arc_line, block, blocks, head, head_text};
 ghost use Rattle.sgb.specs.Writing.{IsEnded, IsWritten, effect};
@@ -29,6 +30,7 @@ pub(crate) fn write_listing<W: Sink>(
         (effect W.written W.has_failed out.old out.new) result }
     ensures nowhere { left_out (names_of graph.now) resume.now ≡ Err Fault.NoVertex
         → result ≡ Err Fault.NoVertex }
+    ensures certain { IfErr result (λ f. f ≢ Fault.Panic NoRoom) }
 {
     let from = vertices_left_out(graph, resume)?;
     let mut page = Page::new();
@@ -44,8 +46,9 @@ pub(crate) fn write_titled_listing<W: Sink>(
 ) -> Result<(), Fault>
     requires short { length title.now ≤ most_line_bytes }
     requires sound { W.has_failed out.old ≡ false }
-    ensures { IsWritten (title.now ++ (head graph.now ++ blocks graph.now 0))
+    ensures written { IsWritten (title.now ++ (head graph.now ++ blocks graph.now 0))
         (change W.written W.has_failed out.old out.new) result }
+    ensures fault { IfErr result (λ f. f ≡ Fault.Write) }
 {
     let mut page = Page::new();
     page.push_text(title);
@@ -95,8 +98,9 @@ fn write_blocks<W: Sink>(
     out: &mut W,
 ) -> Result<(), Fault>
     requires { W.has_failed out.old ≡ false }
-    ensures { IsWritten (page.old ++ blocks graph.now from)
+    ensures written { IsWritten (page.old ++ blocks graph.now from)
         (change W.written W.has_failed out.old out.new) result }
+    ensures fault { IfErr result (λ f. f ≡ Fault.Write) }
 {
     let end = graph.n();
     let start = from.min(u64::from(end)) as u32;
@@ -111,8 +115,9 @@ fn write_blocks<W: Sink>(
 fn push_block<W: Sink>(graph: &Graph, v: u32, page: &mut Page, out: &mut W) -> Result<(), Fault>
     requires vertex { v < length graph.now.vertices }
     requires sound { W.has_failed out.old ≡ false }
-    ensures { IsPaged page.old (block graph.now v) page.new
+    ensures paged { IsPaged page.old (block graph.now v) page.new
         (change W.written W.has_failed out.old out.new) result }
+    ensures fault { IfErr result (λ f. f ≡ Fault.Write) }
 {
     push_name_line(graph, v, page, out)?;
     for link in graph.arcs(v) {
@@ -125,8 +130,9 @@ fn push_block<W: Sink>(graph: &Graph, v: u32, page: &mut Page, out: &mut W) -> R
 fn push_arc<W: Sink>(graph: &Graph, link: Link, page: &mut Page, out: &mut W) -> Result<(), Fault>
     requires tip { link.tip < length graph.now.vertices }
     requires sound { W.has_failed out.old ≡ false }
-    ensures { IsPaged page.old (arc_line (names_of graph.now) link) page.new
+    ensures paged { IsPaged page.old (arc_line (names_of graph.now) link) page.new
         (change W.written W.has_failed out.old out.new) result }
+    ensures fault { IfErr result (λ f. f ≡ Fault.Write) }
 {
     make_room(page, out)?;
     begin_arc(page);

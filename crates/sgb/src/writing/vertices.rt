@@ -1,8 +1,9 @@
 //! The names of a graph's vertices, written one a line, and where an answer begins by a name.
-ghost use Rattle.std.specs.Prelude.{◌≡◌, ◌<◌, [], false, length, Err};
+ghost use Rattle.std.specs.Prelude.{◌≡◌, ◌≢◌, ◌<◌, [], false, length, Err, IfErr};
 ghost use Rattle.std.specs.List.{slice_index_or};
 ghost use Rattle.sgb_file.specs.Devices.{change};
 ghost use Rattle.sgb_graph.specs.Vertices.{names_of};
+ghost use Rattle.sgb_vec.specs.declared.panics.Panic.TheVariants.{NoRoom};
 ghost use Rattle.sgb.specs.Outcomes.{left_out, names_answer};
 ghost use Rattle.sgb.specs.inner.Named.{vertex_named};
 ghost use Rattle.sgb.specs.Texts.{name_line, name_lines};
@@ -27,6 +28,7 @@ pub(crate) fn write_vertex_names<W: Sink>(
         (effect W.written W.has_failed out.old out.new) result }
     ensures nowhere { left_out (names_of graph.now) resume.now ≡ Err Fault.NoVertex
         → result ≡ Err Fault.NoVertex }
+    ensures certain { IfErr result (λ f. f ≢ Fault.Panic NoRoom) }
 {
     let from = vertices_left_out(graph, resume)?;
     write_name_lines(graph, from, out)
@@ -35,8 +37,9 @@ pub(crate) fn write_vertex_names<W: Sink>(
 // Writes the names of the vertices from `from` on.
 fn write_name_lines<W: Sink>(graph: &Graph, from: u64, out: &mut W) -> Result<(), Fault>
     requires { W.has_failed out.old ≡ false }
-    ensures { IsWritten (name_lines (names_of graph.now) from)
+    ensures written { IsWritten (name_lines (names_of graph.now) from)
         (change W.written W.has_failed out.old out.new) result }
+    ensures fault { IfErr result (λ f. f ≡ Fault.Write) }
 {
     let end = graph.n();
     let start = from.min(u64::from(end)) as u32;
@@ -56,8 +59,9 @@ pub(super) fn push_name_line<W: Sink>(
 ) -> Result<(), Fault>
     requires vertex { v < length graph.now.vertices }
     requires sound { W.has_failed out.old ≡ false }
-    ensures { IsPaged page.old (name_line (slice_index_or (names_of graph.now) v [])) page.new
-        (change W.written W.has_failed out.old out.new) result }
+    ensures paged { IsPaged page.old (name_line (slice_index_or (names_of graph.now) v []))
+        page.new (change W.written W.has_failed out.old out.new) result }
+    ensures fault { IfErr result (λ f. f ≡ Fault.Write) }
 {
     make_room(page, out)?;
     page.push_text(graph.name(v).bytes());

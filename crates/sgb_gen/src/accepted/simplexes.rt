@@ -1,4 +1,4 @@
-ghost use Rattle.std.specs.Prelude.{◌≡◌, ◌⊎◌, Err, ◌<◌, ◌≤◌, ◌+◌, length, map, slice_get, Contains, Some, None, Ok, IfSome, OnOk, IsOkUnless, if◌then◌else◌};
+ghost use Rattle.std.specs.Prelude.{◌≡◌, ◌⊎◌, Err, ◌<◌, ◌≤◌, ◌+◌, length, map, slice_get, Contains, Some, None, Ok, IfOk, IfSome, OnOk, IsOkUnless, if◌then◌else◌};
 ghost use Rattle.sgb_gen.specs.Simplexes.{accepted_simplex, simplex_id, moves_to, moves_of_simplex, simplex_vectors, simplex_vector_graph};
 ghost use Rattle.sgb_gen.specs.inner.Simplexes.{can_shift, shifted, pairs_from, moves_by};
 ghost use Rattle.sgb_vec.specs.Bounds.{simplex_of};
@@ -89,6 +89,11 @@ impl Simplex {
         ensures refused { (e : Panic) → simplex_of params.now.n params.now.n0 params.now.n1
             params.now.n2 params.now.n3 params.now.n4 ≡ Err e
             → result ≡ Err e }
+        // One bound takes no memory.
+        ensures few { IfOk (simplex_of params.now.n params.now.n0 params.now.n1
+            params.now.n2 params.now.n3 params.now.n4)
+            (λ shape. length shape.sizes < 2)
+            → result ≡ accepted_simplex params.now }
     {
         let shape = simplex_bounds(
             params.n, params.n0, params.n1, params.n2, params.n3, params.n4,

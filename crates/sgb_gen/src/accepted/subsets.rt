@@ -2,7 +2,7 @@
 //!
 //! In a graph that is built the subsets that are joined with a vertex are found by a walk from the first vertex:
 //! `common` takes the lesser entries of eight at a time.
-ghost use Rattle.std.specs.Prelude.{IfSome, ◌≡◌, ◌⊎◌, Err, ◌<◌, ◌+◌, [], ◌∷◌, pos, length, map, min, slice_get, Some, Ok, OnOk, IsOkUnless, if◌then◌else◌, ◌≤◌, ◌^◌};
+ghost use Rattle.std.specs.Prelude.{IfOk, IfSome, ◌≡◌, ◌⊎◌, Err, ◌<◌, ◌+◌, [], ◌∷◌, pos, length, map, min, slice_get, Some, Ok, OnOk, IsOkUnless, if◌then◌else◌, ◌≤◌, ◌^◌};
 ghost use Rattle.sgb_gen.specs.Subsets.{accepted_subsets, subsets_id, is_wanted_size, moves_to_place, subsets_vectors, moves_of_subsets, subsets_vector_graph, common_size};
 ghost use Rattle.sgb_vec.specs.Bounds.{simplex_of};
 ghost use Rattle.sgb_vec.specs.Limits.{most_dimensions};
@@ -107,6 +107,11 @@ impl Subsets {
         ensures refused { (e : Panic) → simplex_of params.now.n params.now.n0 params.now.n1
             params.now.n2 params.now.n3 params.now.n4 ≡ Err e
             → result ≡ Err e }
+        // One bound takes no memory.
+        ensures few { IfOk (simplex_of params.now.n params.now.n0 params.now.n1
+            params.now.n2 params.now.n3 params.now.n4)
+            (λ shape. length shape.sizes < 2)
+            → result ≡ accepted_subsets params.now }
     {
         let shape = simplex_bounds(
             params.n, params.n0, params.n1, params.n2, params.n3, params.n4,

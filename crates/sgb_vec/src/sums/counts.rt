@@ -4,7 +4,7 @@
 //! the pairs of the two are counted by a formula. The count rises up to half the sum of all bounds and falls after it,
 //! so two counts decide: at the lesser of n and that half, and at n. Where n and three bounds are 44,720 or more these
 //! three alone have too many vectors, and no row is made: so rows are short.
-ghost use Rattle.std.specs.Prelude.{◌≡◌, ◌+◌, ◌-◌, ◌/◌, ◌<◌, ◌≤◌, ◌^◌, ◌++◌, ◌⊎◌, ℕ, List, [], ◌∷◌, All, length, take, sum, min, slice_index, nat_lt, nat_le, true, false, IfOk, IfErr, IfSome, IfNone};
+ghost use Rattle.std.specs.Prelude.{◌≡◌, ◌+◌, ◌-◌, ◌/◌, ◌<◌, ◌≤◌, ◌^◌, ◌++◌, ◌⊎◌, ℕ, List, [], ◌∷◌, All, length, take, sum, min, slice_index, nat_lt, nat_le, true, false, IfOk, IsOk, IfErr, IfSome, IfNone};
 ghost use Rattle.std.specs.List.{list_any};
 ghost use Rattle.sgb_vec.specs.Limits.{most_dimensions, most_vertices};
 ghost use Rattle.sgb_vec.specs.Sums.{has_great_count};
@@ -22,7 +22,7 @@ const GREAT_BOUND: u32 = 44_720;
 
 // How many vectors within the bounds add to `total`. The counts of all bounds but the two greatest stand in a row, so
 // that it is short. `VeryBad` where for some of the first bounds, two or more, and some sum up to `total` there are
-// more than 1,000,000,000: then there are so many for all bounds too. `NoRoom` when out of memory.
+// more than 1,000,000,000: then there are so many for all bounds too. `NoRoom` when out of memory, and never for one bound.
 pub(super) fn count_vectors(alloc: Global, total: u32, bounds: &[u32]) -> Result<u32, Panic>
     requires low { total ≤ most_vertices }
     requires few { length bounds.now ≤ most_dimensions + 1 }
@@ -31,6 +31,7 @@ pub(super) fn count_vectors(alloc: Global, total: u32, bounds: &[u32]) -> Result
     ensures err { IfErr result (λ panic.
         ((panic ≡ Panic.VeryBad) × (has_great_count total bounds.now ≡ true))
         ⊎ (panic ≡ Panic.NoRoom)) }
+    ensures few { length bounds.now < 2 → IsOk result }
 {
     if bounds.len() < 2 {
         return Ok(count_of_one(total, bounds));

@@ -1,6 +1,7 @@
+use Rattle.std.proofs.Common.{refl}
 use Rattle.std.proofs.lemmas.Result.{err_from_is_err_and}
 use Rattle.sgb.proofs.CertainAnswers.{exit_certain, write_certain}
-use Rattle.sgb.proofs.Endings.{flush_ended, read_refused, read_sound, some_used}
+use Rattle.sgb.proofs.Endings.{all_err, flush_ended, one_untouched, read_refused, read_sound, some_used, write_status}
 use Rattle.sgb.proofs.answers.give.Goals as goal
 
 pub returns-in_err-input-clause-ended : goal.returns-in_err-input-clause-ended
@@ -32,3 +33,15 @@ returns-in_err-write-clause-certain g c = λ unread needs. exit_certain _ _ c.fr
 
 pub returns-clause-certain : goal.returns-clause-certain
 returns-clause-certain g c = λ unread needs. write_certain _ c.pass_on.ensures.fault
+
+pub returns-in_err-input-clause-untouched : goal.returns-in_err-input-clause-untouched
+returns-in_err-input-clause-untouched g c = λ prepared. all_err c.from_residual.result (λ f one. refl)
+
+pub returns-in_err-write-clause-untouched : goal.returns-in_err-write-clause-untouched
+returns-in_err-write-clause-untouched g c = λ prepared.
+    let p = err_from_is_err_and c.from_residual-in_err-write.result c.from_residual-in_err-write.ensures.1 in
+    let (a, is) = c.in_ok-input.ensures.answered c.in_ok-input.input.items in
+    rw (p.1, p.2) (one_untouched _ a _ _ (c.in_err-write.ensures.ended a is) (c.in_err-write.ensures.untouched prepared))
+
+pub returns-clause-untouched : goal.returns-clause-untouched
+returns-clause-untouched g c = λ prepared. write_status _ c.pass_on.ensures.fault

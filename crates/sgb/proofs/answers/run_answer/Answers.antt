@@ -26,3 +26,9 @@ returns-in-Err-clause-certain g c = λ unread needs sound a answer.
 
 pub returns-in-Err-clause-flushed : goal.returns-in-Err-clause-flushed
 returns-in-Err-clause-flushed g c = λ none. absurd (fault_status c.in-Err.fault (sym c.report.ensures.status ∙ none))
+
+pub returns-in-Ok-clause-untouched : goal.returns-in-Ok-clause-untouched
+returns-in-Ok-clause-untouched g c = λ prepared one. absurd cc
+
+pub returns-in-Err-clause-untouched : goal.returns-in-Err-clause-untouched
+returns-in-Err-clause-untouched g c = λ prepared one. c.in-Err.ensures.untouched prepared (sym c.report.ensures.status ∙ one)

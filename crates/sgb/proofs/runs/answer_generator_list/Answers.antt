@@ -1,10 +1,19 @@
-use Rattle.sgb.proofs.CertainAnswers.{exit_panic, listing_begun, listing_refused}
+use Rattle.sgb.proofs.CertainAnswers.{exit_panic, exit_untouched, listing_begun, listing_refused, listing_untouched}
 use Rattle.sgb.proofs.runs.answer_generator_list.Goals as goal
 
 pub returns-in_err-local-clause-certain : goal.returns-in_err-local-clause-certain
 returns-in_err-local-clause-certain g c = λ needs.
-    exit_panic _ _ c.from_residual.ensures.1 (listing_refused c.args.generator.now _ _ c.in_err-local.ensures.refused c.in_err-local.ensures.board needs)
+    exit_panic _ _ c.from_residual.ensures.1 (listing_refused c.args.generator.now _ _ c.in_err-local.ensures.refused c.in_err-local.ensures.certain needs)
 
 pub returns-clause-certain : goal.returns-clause-certain
 returns-clause-certain g c = λ needs.
-    listing_begun c.args.generator.now c.args.resume.now c.in_ok-local.local _ c.in_ok-local.ensures.value c.in_ok-local.ensures.refused c.visit.ensures.1 needs
+    let (ended, past, subsets, simplex) = c.visit.ensures in
+    listing_begun c.args.generator.now c.args.resume.now c.in_ok-local.local _ _ _ c.in_ok-local.ensures.value c.in_ok-local.ensures.sort c.in_ok-local.ensures.refused past subsets simplex needs
+
+pub returns-in_err-local-clause-untouched : goal.returns-in_err-local-clause-untouched
+returns-in_err-local-clause-untouched g c = λ other. exit_untouched _ _
+
+pub returns-clause-untouched : goal.returns-clause-untouched
+returns-clause-untouched g c = λ other.
+    let (ended, past, subsets, simplex) = c.visit.ensures in
+    listing_untouched c.args.generator.now c.args.resume.now c.in_ok-local.local _ _ _ c.in_ok-local.ensures.sort subsets simplex other

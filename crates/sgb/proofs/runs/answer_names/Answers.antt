@@ -1,6 +1,6 @@
 use Rattle.sgb_gen.specs.Generators.{generator_value, made}
 use Rattle.sgb_values.proofs.StdinValues.{generated_on}
-use Rattle.sgb.proofs.CertainAnswers.{at_once_other, at_once_unmade, exit_panic, names_of_generator, names_of_graph}
+use Rattle.sgb.proofs.CertainAnswers.{at_once_other, at_once_unmade, exit_panic, exit_untouched, names_of_generator, names_of_graph, never}
 use Rattle.sgb.proofs.Endings.{ended_value, refused_value}
 use Rattle.sgb.proofs.runs.answer_names.Goals as goal
 
@@ -29,3 +29,9 @@ returns-in_err-graph-clause-certain g c = λ needs.
 pub returns-clause-certain : goal.returns-clause-certain
 returns-clause-certain g c = λ needs.
     at_once_unmade c.args.input.items c.args.expression.now _ _ c.in_ok-graph.ensures.refused (names_of_graph c.args.expression.now c.in_default.not-Generator needs)
+
+pub returns-in_err-graph-clause-untouched : goal.returns-in_err-graph-clause-untouched
+returns-in_err-graph-clause-untouched g c = exit_untouched _ _
+
+pub returns-clause-untouched : goal.returns-clause-untouched
+returns-clause-untouched g c = never _ c.write_vertex_names.ensures.certain

@@ -1,9 +1,10 @@
-use Rattle.std.proofs.Common.{◌∙◌, true≢false, rules, subst, sym}
+use Rattle.std.proofs.Common.{◌∙◌, true≢false, refl, rules, subst, sym}
 use Rattle.sgb_vec.specs.Lexicographic.{IsRising}
 use Rattle.sgb.specs.inner.Pages.{page_bytes}
 use Rattle.sgb.specs.inner.Texts.{most_line_bytes}
-use Rattle.sgb.proofs.CertainAnswers.{exit_certain}
-use Rattle.sgb.proofs.CutOff.{begun_by, cut_more, exit_cut, exit_uncut, exit_unwritten, written_after}
+use Rattle.sgb.proofs.CertainAnswers.{exit_certain, head_asked, write_alone}
+use Rattle.sgb.proofs.Endings.{all_err}
+use Rattle.sgb.proofs.CutOff.{begun_by, cut_more, exit_cut, exit_uncut, exit_unwritten, exit_write, written_after}
 use Rattle.sgb.proofs.LocalListings.{blocks_of_rest}
 use Rattle.sgb.proofs.writing.families.list_vectors.Goals as goal
 
@@ -32,6 +33,20 @@ pub returns-in_err-put_page-clause-head : goal.returns-in_err-put_page-clause-he
 returns-in_err-put_page-clause-head g c =
     exit_uncut _ _ _ _ _ _ _ c.from_residual-in_err-put_page.ensures.1 (λ other. absurd (other c.in_err-put_page.ensures.fault))
 
+-- nor of subsets
+pub returns-in_err-push_head_if-clause-subsets : goal.returns-in_err-push_head_if-clause-subsets
+returns-in_err-push_head_if-clause-subsets g c = λ same. absurd (true≢false (sym (c.in_err-push_head_if.ensures.subsets same)))
+
+pub returns-in_err-push_head_if-clause-simplex : goal.returns-in_err-push_head_if-clause-simplex
+returns-in_err-push_head_if-clause-simplex g c = λ same.
+    all_err c.from_residual.result (λ f other. (head_asked c.args.head (λ plain. absurd (true≢false (sym (c.in_err-push_head_if.ensures.none plain)))), refl))
+
+pub returns-in_err-put_page-clause-subsets : goal.returns-in_err-put_page-clause-subsets
+returns-in_err-put_page-clause-subsets g c = λ same. exit_write _ _ c.from_residual-in_err-put_page.ensures.1 c.in_err-put_page.ensures.fault
+
+pub returns-in_err-put_page-clause-simplex : goal.returns-in_err-put_page-clause-simplex
+returns-in_err-put_page-clause-simplex g c = λ same. write_alone _ (exit_write _ _ c.from_residual-in_err-put_page.ensures.1 c.in_err-put_page.ensures.fault)
+
 pub returns : goal.returns
 returns g c =
     let graph = g.L.Listed.graph c.args.listed.now in
@@ -42,4 +57,6 @@ returns g c =
       written = rw (blocks_of_rest graph rise c.family.ensures.ends _ _ rest) (written_after _ _ _ _ _ _ _ put c.write_blocks.ensures.written);
       head = begun_by _ _ _ _ _ _ _ _ _ put c.write_blocks.ensures.written;
       end = λ plain none. c.write_blocks.ensures.end (rest ∙ none);
+      subsets = λ same. c.write_blocks.ensures.fault (λ board. absurd cc);
+      simplex = λ same. write_alone _ (c.write_blocks.ensures.fault (λ board. absurd cc));
     }

@@ -1,35 +1,35 @@
-use Rattle.std.proofs.Common.{rules, ◌∙◌, length, Some, sym, ap, arith}
-use Rattle.sgb.specs.inner.Locals.{local_block}
-use Rattle.sgb.proofs.LocalListings.{lines-first, tip_width}
+use Rattle.std.proofs.Common.{◌∙◌, ap, refl, sym}
+use Rattle.std.specs.List.{flat_map}
+use Rattle.sgb.specs.inner.Locals.{local_block, local_line}
+use Rattle.sgb_gen.specs.LocalLists.{list_in}
+use Rattle.sgb.proofs.CutOff.{exit_write}
 use Rattle.sgb.proofs.RunLines.{parts-named}
-use Rattle.sgb.proofs.Pages.{exit_unput, paged_more, paged_none, exit_part}
+use Rattle.sgb.proofs.Pages.{exit_begun_by, exit_part, first_ok, lines_fault, lines_given, paged_none}
 use Rattle.sgb.proofs.writing.families.push_listed_block.Goals as goal
-
-pub returns-in_err-arcs_at-clause-paged : goal.returns-in_err-arcs_at-clause-paged
-returns-in_err-arcs_at-clause-paged g c =
-    exit_unput c.args.page.now (local_block (g.L.Listed.graph c.args.listed.now) c.args.x.now) _ _ _ _ _ c.from_residual.ensures.1 c.in_err-arcs_at.ensures.memory c.requires.sound
 
 pub returns-in_err-push_line-clause-paged : goal.returns-in_err-push_line-clause-paged
 returns-in_err-push_line-clause-paged g c =
-    exit_part _ _ _ _ _ _ _ _ _ _ _ _ _ c.from_residual-in_err-push_line.ensures.1 (paged_none _ c.args.page.now _) c.in_err-push_line.ensures.paged
-    (parts-named (g.L.Listed.graph c.args.listed.now) c.args.x.now _ _ c.in_ok-arcs_at.ensures.ok c.requires.named)
+    exit_part _ _ _ _ _ _ _ _ _ _ _ _ _ c.from_residual.ensures.1 (paged_none _ c.args.page.now _) c.in_err-push_line.ensures.paged
+    (parts-named (g.L.Listed.graph c.args.listed.now) c.args.x.now _ _ refl c.requires.named)
 
-pub loop-i-init : goal.loop-i-init
-loop-i-init g c = search (rules, parts-named, paged_more, paged_none)
+pub returns-in_err-push_line-clause-fault : goal.returns-in_err-push_line-clause-fault
+returns-in_err-push_line-clause-fault g c = λ other. exit_write _ _ c.from_residual.ensures.1 c.in_err-push_line.ensures.fault
 
--- the arc that is written leads to a vector as wide as x
-pub push_arc-requires-clause-width : goal.push_arc-requires-clause-width
-push_arc-requires-clause-width g c =
-    tip_width (length c.args.x.now) _ c.loop-i.i _ c.in_ok-arcs_at.ensures.widths (c.get-link.ensures ∙ ap Some (sym c.link.view_is)) ∙ ap length (sym c.requires.named)
+-- out of memory nothing was put after the name
+pub returns-in_err-give_arcs-clause-paged : goal.returns-in_err-give_arcs-clause-paged
+returns-in_err-give_arcs-clause-paged g c =
+    rw (parts-named (g.L.Listed.graph c.args.listed.now) c.args.x.now _ _ refl c.requires.named, c.in_err-give_arcs.ensures.unput.1)
+    (exit_begun_by c.args.page.now _ _ c.in_ok-push_line.new.page _ _ _ _ _ _ c.from_residual-in_err-give_arcs.ensures.1 c.in_err-give_arcs.ensures.memory
+    c.in_ok-push_line.ensures.paged.sound c.in_ok-push_line.ensures.paged.output)
 
-pub push_arc-requires-clause-short : goal.push_arc-requires-clause-short
-push_arc-requires-clause-short g c =
-    omega (arith, tip_width (length c.args.x.now) _ c.loop-i.i _ c.in_ok-arcs_at.ensures.widths (c.get-link.ensures ∙ ap Some (sym c.link.view_is)), c.requires.short)
+pub returns-in_err-give_arcs-clause-fault : goal.returns-in_err-give_arcs-clause-fault
+returns-in_err-give_arcs-clause-fault g c = λ other. absurd (other c.in_err-give_arcs.ensures.board)
 
-pub returns-in_err-push_arc-clause-paged : goal.returns-in_err-push_arc-clause-paged
-returns-in_err-push_arc-clause-paged g c =
-    exit_part _ _ _ _ _ _ _ _ _ _ _ _ _ c.from_residual-in_err-push_arc.ensures.1 c.loop-i.invariant.0 c.in_err-push_arc.ensures (lines-first _ c.loop-i.i _ (c.get-link.ensures ∙ ap Some (sym c.link.view_is)))
+pub returns-clause-paged : goal.returns-clause-paged
+returns-clause-paged g c =
+    rw (parts-named (g.L.Listed.graph c.args.listed.now) c.args.x.now _ _ refl c.requires.named)
+    (lines_given g.W.Sink.written g.W.Sink.has_failed c.args.page.now _ c.in_ok-push_line.new.page _ c.args.out.now c.in_ok-push_line.new.out _ _ _ c.in_ok-push_line.ensures.paged.output
+    c.in_ok-give_arcs.ensures.given (first_ok _ c.in_ok-give_arcs.ensures.ready))
 
-pub loop-i-preserved : goal.loop-i-preserved
-loop-i-preserved g c =
-    (paged_more _ _ _ _ _ _ _ _ _ _ (lines-first _ c.loop-i.i _ (c.get-link.ensures ∙ ap Some (sym c.link.view_is))) c.loop-i.invariant.0 c.in_ok-push_arc.ensures.output, c.in_ok-push_arc.ensures.sound)
+pub returns-clause-fault : goal.returns-clause-fault
+returns-clause-fault g c = λ other. lines_fault g.W.Sink.written g.W.Sink.has_failed _ _ _ _ _ _ c.in_ok-give_arcs.ensures.given

@@ -13,6 +13,7 @@ invariant-loop-x g l =
     × (g.W.Sink.has_failed l.out ≡ false)
     × IsRest graph.vectors l.left
     × (g.L.Listed.graph l.listed ≡ graph)
+    × (g.L.Listed.sort l.listed ≡ g.L.Listed.sort l.initial.listed)
     × (length l.left ≤ length l.fn.vectors)
 
 -- each turn leaves out one vector

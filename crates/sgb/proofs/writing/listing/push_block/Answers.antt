@@ -6,6 +6,7 @@ use Rattle.sgb_vec.proofs.Lists.{steps_to}
 use Rattle.sgb_graph.specs.declared.fields.Link.{Link}
 use Rattle.sgb.specs.Texts.{arc_line}
 use Rattle.sgb.proofs.Listings.{block-parts}
+use Rattle.sgb.proofs.CutOff.{exit_write}
 use Rattle.sgb.proofs.Pages.{paged_all, paged_more, paged_none, exit_part}
 use Rattle.sgb.proofs.writing.listing.push_block.Goals as goal
 
@@ -14,8 +15,10 @@ step_none : (s u : List Link) (r : Option Link) → r ≡ None → YieldsFirst (
 step_none s u r e h = (subst (λ o. YieldsFirst (λ x. x) s o u) e h).0
 
 pub returns-in_err-push_name_line : goal.returns-in_err-push_name_line
-returns-in_err-push_name_line g c =
-    exit_part _ _ _ _ _ _ _ _ _ _ _ _ _ c.from_residual.ensures.1 (paged_none _ c.args.page.now _) c.in_err-push_name_line.ensures (block-parts c.args.graph.now c.args.v _ refl)
+returns-in_err-push_name_line g c = record {
+  paged = exit_part _ _ _ _ _ _ _ _ _ _ _ _ _ c.from_residual.ensures.1 (paged_none _ c.args.page.now _) c.in_err-push_name_line.ensures.paged (block-parts c.args.graph.now c.args.v _ refl);
+  fault = exit_write _ _ c.from_residual.ensures.1 c.in_err-push_name_line.ensures.fault;
+}
 
 pub loop-link-init : goal.loop-link-init
 loop-link-init g c = search (rules, block-parts, paged_more, paged_none, All)
@@ -23,15 +26,18 @@ loop-link-init g c = search (rules, block-parts, paged_more, paged_none, All)
 pub returns-in_err-push_arc : goal.returns-in_err-push_arc
 returns-in_err-push_arc g c =
     let step = steps_to c.loop-link.link-iterator _ _ c.in-Some.link c.in-Some.is c.next.ensures.steps in
-    exit_part _ _ _ _ _ _ _ _ _ _ _ _ _ c.from_residual-in_err-push_arc.ensures.1 c.loop-link.invariant.0 c.in_err-push_arc.ensures (ap (flat_map (arc_line _)) step)
+    record {
+      paged = exit_part _ _ _ _ _ _ _ _ _ _ _ _ _ c.from_residual-in_err-push_arc.ensures.1 c.loop-link.invariant.0 c.in_err-push_arc.ensures.paged (ap (flat_map (arc_line _)) step);
+      fault = exit_write _ _ c.from_residual-in_err-push_arc.ensures.1 c.in_err-push_arc.ensures.fault;
+    }
 
 pub loop-link-preserved : goal.loop-link-preserved
 loop-link-preserved g c =
     let step = steps_to c.loop-link.link-iterator _ _ c.in-Some.link c.in-Some.is c.next.ensures.steps in (
-      paged_more _ _ _ _ _ _ _ _ _ _ (ap (flat_map (arc_line _)) step) c.loop-link.invariant.0 c.in_ok-push_arc.ensures.output,
+      paged_more _ _ _ _ _ _ _ _ _ _ (ap (flat_map (arc_line _)) step) c.loop-link.invariant.0 c.in_ok-push_arc.ensures.paged.output,
       All-tail (λ link. link.tip < length c.args.graph.now.vertices) c.in-Some.link _ (rw step at c.loop-link.invariant.1),
-      c.in_ok-push_arc.ensures.sound,
+      c.in_ok-push_arc.ensures.paged.sound,
     )
 
-pub returns : goal.returns
-returns g c = search (rules, step_none, paged_all, flat_map, arc_line)
+pub returns-clause-paged : goal.returns-clause-paged
+returns-clause-paged g c = search (rules, step_none, paged_all, flat_map, arc_line)

@@ -5,4 +5,5 @@ pub list_vectors-requires : goal.list_vectors-requires
 list_vectors-requires g c = rw c.prepare.ensures.same (λ k. ((refl, tt), (c.requires.0, c.requires.1)))
 
 pub returns : goal.returns
-returns g c = rw (sym c.prepare.ensures.same) (c.list_vectors.ensures.written, c.list_vectors.ensures.head)
+returns g c =
+    rw (sym c.prepare.ensures.same, sym c.prepare.ensures.sort) (c.list_vectors.ensures.written, c.list_vectors.ensures.head, c.list_vectors.ensures.subsets, c.list_vectors.ensures.simplex)

@@ -1,19 +1,22 @@
-use Rattle.std.proofs.Common.{ℕ, List, ◌++◌, Ok, option_map, refl, sym, rules}
+use Rattle.std.proofs.Common.{ℕ, List, ◌++◌, Ok, option_map, refl, sym, rules, ◌∙◌}
 use Rattle.sgb_graph.specs.Made.{graph_described}
 use Rattle.sgb_graph.specs.Vertices.{names_of}
 use Rattle.sgb_gen.specs.VectorGraphs.{described_by}
 use Rattle.sgb.specs.Outcomes.{head_for, left_out}
 use Rattle.sgb.specs.Texts.{blocks, head}
-use Rattle.sgb.proofs.CertainAnswers.{exit_certain, place_other}
+use Rattle.sgb.proofs.CertainAnswers.{exit_certain, never, place_other, whole_asked, write_certain}
 use Rattle.sgb.proofs.Endings.{ended_after, exit_ended, refused_after}
 use Rattle.sgb.proofs.ResumedListings.{blocks_after, left_out_of_graph, none_left, some_member}
 use Rattle.sgb.proofs.writing.families.ListAnswerVisit.visit.Goals as goal
 
 pub returns-in_err-start : goal.returns-in_err-start
 returns-in_err-start g c =
-    let nowhere = left_out_of_graph (g.L.Listed.graph c.args.listed.now) c.args.self.resume.now _ (rw c.family.ensures.members at c.in_err-start.ensures) in (
+    let nowhere = left_out_of_graph (g.L.Listed.graph c.args.listed.now) c.args.self.resume.now _ (rw c.family.ensures.members at c.in_err-start.ensures) in
+    let nowhere_certain = exit_certain _ _ c.from_residual.ensures.1 (place_other _ c.args.self.resume.now _ (sym nowhere)) in (
       search (rules, nowhere, exit_ended, refused_after, left_out, head_for, head, blocks, names_of, graph_described),
-      λ past. exit_certain _ _ c.from_residual.ensures.1 (place_other _ c.args.self.resume.now _ (sym nowhere)),
+      λ past. nowhere_certain,
+      λ same. nowhere_certain,
+      λ same. never _ nowhere_certain,
     )
 
 pub list_vectors-requires : goal.list_vectors-requires
@@ -34,4 +37,6 @@ returns g c =
       λ past.
           let (resumed, none) = none_left vectors c.args.self.resume.now begins.0 (option_map (λ vector. vector.items) c.in_ok-start.start) (option_map (λ x. x.now) c.slice_of.result) from begins.2 c.slice_of.ensures past in
           c.list_vectors.ensures.end (c.has_head.ensures.resumed resumed) (rw c.prepare.ensures.same none),
+      λ same. write_certain _ (c.list_vectors.ensures.subsets (c.prepare.ensures.sort ∙ same)),
+      λ same. whole_asked c.args.self.resume.now _ _ c.has_head.ensures.resumed (c.list_vectors.ensures.simplex (c.prepare.ensures.sort ∙ same)),
     )
