@@ -31,7 +31,7 @@ stands. Each definition stands there as it is once more, too: where
 an example fails with that, or an error is none that this script reads, it stops with status 2 and guesses nothing.
 
 What it does not know: it does not turn a record's fields away, `×`, `→` or `≡`; it does not see that two turns are
-one; and what only an example of a crate above would refuse is unseen, unless --above CRATE has the examples of that crate too.
+one; it leaves out examples that cite a file of lemmas with parameters of its own; and what only an example of a crate above would refuse is unseen, unless --above CRATE has the examples of that crate too.
 
 With -v each turn that is unseen is printed. For each crate one line: its definitions, its turns, those that an example
 refuses and those that nothing does. The status is 1 where fewer than 95 in a hundred of a crate's definitions are seen.
@@ -167,14 +167,18 @@ class Universe:
             folder = os.path.join(others or "", folder)
             for path in sorted(glob.glob(f"{folder}/**/*.antt", recursive=True)) if others else ():
                 self.add(crate, "proofs", folder, path)
-        work = list(self.modules.values())
+        opaque, work = set(), list(self.modules.values())
         while work:
             for place, _ in work.pop().brought.values():
                 crate, _, module = place.partition(".proofs.")
                 path = f"crates/{crate}/proofs/{module.replace('.', '/')}.antt"
-                if module and crate in crates and place not in self.modules:
+                if not module or crate not in crates or place in self.modules or place in opaque:
+                    continue
+                try:
                     self.modules[place] = Module(place, path)
                     work.append(self.modules[place])
+                except Unread:
+                    opaque.add(place)
         self.owner = {(m.name, name): c for m in self.modules.values() for c in m.chunks for name in c.names}
         self.users = collections.defaultdict(set)
         self.cites = {}
@@ -191,6 +195,13 @@ class Universe:
                 self.cites[chunk] = cited
                 for other in cited:
                     self.users[other].add(chunk)
+        # examples that cite a file of lemmas that is not read here, which speak of the definitions as they are
+        self.left_out = set()
+        for module in self.modules.values():
+            names = {name for name, (place, _) in module.brought.items() if place in opaque}
+            for chunk in module.chunks:
+                if names & chunk.words:
+                    self.left_out |= self.above(chunk)
 
     def add(self, crate, area, folder, path):
         module = os.path.relpath(path, folder).removesuffix(".antt").replace("/", ".")
@@ -599,7 +610,7 @@ def flat(module):
 def copies(universe, chunk, text, needs, number):
     """The modules of a turn: name -> (text, the chunk of each line)."""
     affected = universe.above(chunk)
-    examples = {c for c in affected if is_example(c)}
+    examples = {c for c in affected if is_example(c) and c not in universe.left_out}
     copied = universe.below(examples, affected) | {chunk}
     # what is not public, and what else of the examples they cite, is copied too
     work = list(copied)
