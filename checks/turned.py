@@ -24,6 +24,7 @@ errors say what became of each:
     of no type        the definition itself, or another one that cites it, is refused: this turn counts for nothing
     seen              an example is refused by itself; "depends on .., which was rejected" tells nothing
     unseen            no example is refused
+    no end            its check alone took more than --seconds, which is told apart, and is not taken for seen
 
 A definition is seen where each of its turns is that has a type, or stands in the table ALIKE with its reason. A definition of
 which no turn has a type (a record of data, say) is not counted, and no law: a record without parameters, which is proved as it
@@ -31,7 +32,8 @@ stands. Each definition stands there as it is once more, too: where
 an example fails with that, or an error is none that this script reads, it stops with status 2 and guesses nothing.
 
 What it does not know: it does not turn a record's fields away, `×`, `→` or `≡`; it does not see that two turns are
-one; and what only an example of a crate above would refuse is unseen, unless --above CRATE has the examples of that crate too.
+one; it leaves out examples that cite a file of lemmas with parameters of its own, and the turns of the table ENDLESS, whose value is not to be
+had; and what only an example of a crate above would refuse is unseen, unless --above CRATE has the examples of that crate too.
 
 With -v each turn that is unseen is printed. For each crate one line: its definitions, its turns, those that an example
 refuses and those that nothing does. The status is 1 where fewer than 95 in a hundred of a crate's definitions are seen.
@@ -66,6 +68,11 @@ LISTED = {
     "sgb_graph.Parts.checked": "1,000,000,000 vertices are not to be listed",
     "sgb_graph.Sound.IsGraph": "1,000,000,000 vertices are not to be listed",
 }
+
+# turns that are not made, since what they say is too long to evaluate: the definition, the turn, and the reason
+ENDLESS = [
+    (r"sgb_graph\.Draws\.", r"\w+ \d+: seed and ", "a start value in the place of a count"),
+]
 
 USE = re.compile(r"^(?:pub |ghost )?use Rattle\.([\w.]+)\.\{([^}]*)\}\s*$", re.M)
 USE_AS = re.compile(r"^(?:pub |ghost )?use Rattle\.[\w.]+ as \w+\s*$", re.M)
@@ -167,14 +174,18 @@ class Universe:
             folder = os.path.join(others or "", folder)
             for path in sorted(glob.glob(f"{folder}/**/*.antt", recursive=True)) if others else ():
                 self.add(crate, "proofs", folder, path)
-        work = list(self.modules.values())
+        opaque, work = set(), list(self.modules.values())
         while work:
             for place, _ in work.pop().brought.values():
                 crate, _, module = place.partition(".proofs.")
                 path = f"crates/{crate}/proofs/{module.replace('.', '/')}.antt"
-                if module and crate in crates and place not in self.modules:
+                if not module or crate not in crates or place in self.modules or place in opaque:
+                    continue
+                try:
                     self.modules[place] = Module(place, path)
                     work.append(self.modules[place])
+                except Unread:
+                    opaque.add(place)
         self.owner = {(m.name, name): c for m in self.modules.values() for c in m.chunks for name in c.names}
         self.users = collections.defaultdict(set)
         self.cites = {}
@@ -191,6 +202,13 @@ class Universe:
                 self.cites[chunk] = cited
                 for other in cited:
                     self.users[other].add(chunk)
+        # examples that cite a file of lemmas that is not read here, which speak of the definitions as they are
+        self.left_out = set()
+        for module in self.modules.values():
+            names = {name for name, (place, _) in module.brought.items() if place in opaque}
+            for chunk in module.chunks:
+                if names & chunk.words:
+                    self.left_out |= self.above(chunk)
 
     def add(self, crate, area, folder, path):
         module = os.path.relpath(path, folder).removesuffix(".antt").replace("/", ".")
@@ -381,7 +399,9 @@ class Turner:
         seen = {chunk.text}
         parts = clauses_of(chunk)
         for what, text, needs in self.all_turns(chunk, module, parts):
-            if text not in seen:
+            place = f"{chunk.module.replace('.specs.', '.')}.{chunk.names[0]}"
+            endless = any(re.match(which, place) and re.match(turn, what) for which, turn, _ in ENDLESS)
+            if text not in seen and not endless:
                 seen.add(text)
                 yield what, text, needs
 
@@ -599,7 +619,7 @@ def flat(module):
 def copies(universe, chunk, text, needs, number):
     """The modules of a turn: name -> (text, the chunk of each line)."""
     affected = universe.above(chunk)
-    examples = {c for c in affected if is_example(c)}
+    examples = {c for c in affected if is_example(c) and c not in universe.left_out}
     copied = universe.below(examples, affected) | {chunk}
     # what is not public, and what else of the examples they cite, is copied too
     work = list(copied)
@@ -774,13 +794,13 @@ def report(crate, definitions, laws, verdicts, args):
             verdict = "alike"
         counts[verdict] += 1
         by_chunk[chunk][verdict] += 1
-        if verdict == "unseen":
-            unseen[place].append(what)
+        if verdict in ("unseen", "no end"):
+            unseen[place].append(what + (" (no end)" if verdict == "no end" else ""))
         if args.save:
             with open(args.save, "a") as file:
                 print(verdict, place, what, names[:3], sep="\t", file=file)
     turned = [chunk for chunk in definitions if sum(by_chunk[chunk].values()) > by_chunk[chunk]["no type"]]
-    seen = [chunk for chunk in turned if not by_chunk[chunk]["unseen"]]
+    seen = [chunk for chunk in turned if not by_chunk[chunk]["unseen"] + by_chunk[chunk]["no end"]]
     for place, ways in unseen.items():
         print(f"    {place}: {len(ways)} unseen{': ' if place in LISTED else ''}{LISTED.get(place, '')}")
         for way in ways if args.v else ():
@@ -788,7 +808,7 @@ def report(crate, definitions, laws, verdicts, args):
     share = 100 * len(seen) // len(turned) if turned else 100
     print(f"{crate}: {len(definitions)} definitions and {len(laws)} laws; {len(turned)} definitions turned, {len(seen)} seen ({share} in a hundred); "
           f"{sum(counts.values())} turns: {counts['no type']} of no type, {counts['seen']} refused by an example, "
-          f"{counts['alike']} alike, {counts['unseen']} by nothing")
+          f"{counts['alike']} alike, {counts['unseen']} by nothing" + (f", {counts['no end']} without an end" if counts["no end"] else ""))
     return 0 if share >= WANTED else 1
 
 

@@ -1,19 +1,18 @@
 -- Worked examples of codes, of what a string may hold, of the order of vectors and of places among them: what holds, and what
 -- nearly does.
-use Rattle.std.specs.Prelude.{◌≡◌, ◌≤◌, ◌<◌, ℕ, zero, suc, true, false, replicate, pos, negsuc, List, [], ◌∷◌, map, Some, Ok, Err, codes, refl, slice_index_or}
+use Rattle.std.specs.Prelude.{◌≡◌, ◌≤◌, ◌<◌, ℕ, zero, suc, true, false, replicate, pos, negsuc, List, [], ◌∷◌, map, Ok, Err, codes, refl, slice_index_or}
 use Rattle.std.proofs.Common.{arith, inl, inr}
 use Rattle.sgb_vec.specs.Codes.{code_of}
 use Rattle.sgb_vec.specs.Digits.{leading_digits}
-use Rattle.sgb_vec.specs.Lexicographic.{IsBefore, IsBelow, IsWithin}
+use Rattle.sgb_vec.specs.Lexicographic.{IsBelow, IsWithin}
 use Rattle.sgb_vec.specs.NamedVectors.{IsVector}
 use Rattle.sgb_vec.specs.Names.{IsText, is_text_byte}
 use Rattle.sgb_vec.specs.Order.{IsFirst, IsNext, IsLast, IsFinal, IsPrevious, HasNoneBefore}
 use Rattle.sgb_vec.specs.Ranges.{ComeAfter}
 use Rattle.sgb_vec.specs.Results.{IsValue}
-use Rattle.sgb_vec.specs.Sizes.{stop_of, zero_after_stop}
-use Rattle.sgb_vec.specs.Sums.{BoundedSum, sum_of, has_great_count}
+use Rattle.sgb_vec.specs.Sizes.{stop_of}
+use Rattle.sgb_vec.specs.Sums.{sum_of, has_great_count}
 use Rattle.sgb_vec.specs.Visits.{changed_entries, HasVisited}
-use Rattle.sgb_vec.specs.declared.panics.Panic.{Panic}
 use Rattle.sgb_vec.specs.declared.panics.Panic.TheVariants.{NoRoom, Early, Late, Syntax, Bad, VeryBad, Invalid}
 
 -- ---- codes, digits, stops, bytes

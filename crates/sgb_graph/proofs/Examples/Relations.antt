@@ -1,15 +1,15 @@
 -- What holds of small graphs and of their parts, and what nearly does: arcs of events, fields that fit, kept graphs, answers.
-use Rattle.std.specs.Prelude.{◌≡◌, ◌≤◌, ◌<◌, ◌^◌, ◌+◌, ℕ, zero, suc, pos, true, false, List, [], ◌∷◌, ◌++◌, All, IsTrue, map, codes, length, refl, None, Some, Ok, Err, slice_set, slice_index_or}
-use Rattle.std.proofs.Common.{ap, arith, inl, inr}
+use Rattle.std.specs.Prelude.{◌≡◌, ◌≤◌, ◌<◌, ℕ, zero, suc, pos, true, false, List, [], ◌∷◌, All, map, codes, length, refl, None, Some, Ok, Err, slice_set}
+use Rattle.std.proofs.Common.{ap, arith, inr}
 use Rattle.sgb_vec.specs.declared.panics.Panic.TheVariants.{NoRoom, Bad}
 use Rattle.sgb_graph.specs.Columns.{arc_seen}
 use Rattle.sgb_graph.specs.Descriptions.{IsAnswerOf}
 use Rattle.sgb_graph.specs.Events.{Event, HasArcsOf, HasEndsBelow, list_from, list_of}
-use Rattle.sgb_graph.specs.Graphs.{GraphData, HasNoFields, ListsEnd, arc_record, chain_of, ends_from, ends_of, numbers_from, vertex_of}
+use Rattle.sgb_graph.specs.Graphs.{GraphData, HasNoFields, ListsEnd, chain_of, ends_from, numbers_from, vertex_of}
 use Rattle.sgb_graph.specs.Growth.{AddsEvents, IsKept, graph_data, new_vertex, some_numbers}
 use Rattle.sgb_graph.specs.Made.{no_fields, no_kinds, plain}
 use Rattle.sgb_graph.specs.Parts.{vertex_with_ints}
-use Rattle.sgb_graph.specs.Sound.{IsGraph, fields_fit, leads_to_vertex, record_fits, utils_fit, vertex_fits}
+use Rattle.sgb_graph.specs.Sound.{fields_fit, leads_to_vertex, record_fits, utils_fit, vertex_fits}
 use Rattle.sgb_graph.specs.declared.fields.Kind.TheVariants.{Z, V, A}
 use Rattle.sgb_graph.specs.declared.fields.Ref.TheVariants.{Null, At}
 use Rattle.sgb_graph.specs.declared.fields.Util.TheVariants.{Nothing, Int, Vertex as VertexField, Chain}

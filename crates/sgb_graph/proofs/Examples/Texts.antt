@@ -1,5 +1,5 @@
 -- Letters of kinds, texts that ids are made of, ids at their limit, vertices and their names, and values that are seen.
-use Rattle.std.specs.Prelude.{◌≡◌, ◌≤◌, ◌<◌, ℕ, zero, suc, pos, negsuc, true, false, List, [], ◌∷◌, map, codes, replicate, refl, None, Some}
+use Rattle.std.specs.Prelude.{◌≡◌, ◌≤◌, pos, negsuc, true, false, [], ◌∷◌, map, codes, replicate, refl, Some}
 use Rattle.std.specs.Fmt.{digits}
 use Rattle.std.proofs.Common.{arith}
 use Rattle.sgb_graph.specs.Columns.{util_seen}
@@ -11,7 +11,7 @@ use Rattle.sgb_graph.specs.IdTexts.{is_id_text, flag_text, numbers_text, hexadec
 use Rattle.sgb_graph.specs.Kinds.{letter_of}
 use Rattle.sgb_graph.specs.Vertices.{order_of, places_of, names_of, name_at}
 use Rattle.sgb_graph.specs.declared.fields.Kind.TheVariants.{Z, I, V, S, A}
-use Rattle.sgb_graph.specs.declared.fields.Ref.TheVariants.{Null, One, At}
+use Rattle.sgb_graph.specs.declared.fields.Ref.TheVariants.{At}
 use Rattle.sgb_graph.specs.declared.fields.Util.TheVariants.{Nothing, Int, Vertex as VertexField, Chain}
 use Rattle.sgb_graph.specs.declared.fields.UtilRef.TheVariants.{Nothing as NothingSeen, Int as IntSeen, Vertex as VertexSeen, Chain as ChainSeen}
 
