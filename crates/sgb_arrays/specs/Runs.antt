@@ -1,8 +1,9 @@
 -- A run of a graph's vertices, so many one after another from the first one on, as arrays: their lists ("compressed sparse
 -- rows"), and their names. All vertices are the run from 0 on of as many as there are.
-use Rattle.std.specs.Prelude.{◌≡◌, ◌⊎◌, ◌≤◌, ◌+◌, ℕ, ℤ, Unit, List, length, map}
+use Rattle.std.specs.Prelude.{◌≡◌, ◌⊎◌, ◌≤◌, ◌+◌, ℕ, ℤ, List, length, map}
 use Rattle.std.specs.List.{flat_map, range_with_len}
 use Rattle.sgb_graph.specs.Graphs.{GraphData, chain_of}
+use Rattle.sgb_graph.specs.Vertices.{name_at}
 use Rattle.sgb_arrays.specs.Lists.{starts_from}
 use Rattle.sgb_arrays.specs.declared.refusals.Wrong.{Wrong}
 use Rattle.sgb_arrays.specs.declared.refusals.Wrong.TheVariants as wrong

@@ -2,7 +2,6 @@
 use Rattle.std.specs.Prelude.{Option, Some, None}
 use Rattle.std.specs.Box.Ownership.{box_owns}
 use Rattle.std.specs.contracts.impls.GlobalAllocator.TheImpl.{ghosts}
-use Rattle.std.specs.declared.alloc.Global.{Global}
 use base.Fml.{Fml, ftrue}
 use mir.Syntax.{Ty}
 use denote.RattleType.{RattleType}
