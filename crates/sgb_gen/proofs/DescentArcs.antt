@@ -1,5 +1,5 @@
 -- The arcs to vectors that begin alike; sizes that they cannot have in common; and the vectors down to one and from it.
-use Rattle.std.proofs.Common.{◌≡◌, ℕ, suc, ◌+◌, ◌-◌, ◌≤◌, ◌⊎◌, min, pos, Bool, false, cond, List, [], ◌∷◌, ◌++◌, length, map, filter, reverse, take, drop, sum, get_or, refl, sym, ap, ap₂, subst, ◌∙◌, inl, arith, append-nil, append_assoc}
+use Rattle.std.proofs.Common.{◌≡◌, ℕ, suc, ◌+◌, ◌-◌, ◌<◌, ◌≤◌, ◌⊎◌, min, pos, Bool, false, cond, List, [], ◌∷◌, ◌++◌, length, map, filter, reverse, take, drop, sum, get_or, refl, sym, ap, ap₂, subst, ◌∙◌, inl, arith, append-nil, append_assoc}
 use Rattle.std.specs.List.{Contains}
 use Rattle.std.proofs.lemmas.List.{drop_at, length-append, map-append, reverse-append, reverse-reverse, take_at}
 use Rattle.std.proofs.lemmas.List.Elements.{All-contains_itself}
@@ -13,14 +13,11 @@ use Rattle.sgb_vec.specs.Sums.{BoundedSum, bounded_sums}
 use Rattle.sgb_vec.proofs.Lists.{All-reverse, filter-none, made-append, reverse-first}
 use Rattle.sgb_vec.proofs.SumMembers.{Contains-bounded_sums, bounded_sums-rise}
 use Rattle.sgb_vec.proofs.SumSuccessors.{sum-cons}
-use Rattle.sgb_gen.specs.LocalLists.{LinksData}
 use Rattle.sgb_gen.specs.Subsets.{common_size, is_wanted_size}
 use Rattle.sgb_gen.specs.VectorGraphs.{vertex_among}
 use Rattle.sgb_gen.specs.inner.Descents.{IsBegun, arcs_under, down_from, down_to, row, rows}
-use Rattle.sgb_gen.specs.inner.LocalSimplexes.{with_arcs}
 use Rattle.sgb_gen.specs.inner.LocalSubsets.{arcs_by_walk, arcs_to}
 use Rattle.sgb_gen.proofs.Descents.{row-within, rows-end, rows-parts, sums-rows}
-use Rattle.sgb_gen.proofs.PairWalks.{with_more}
 use Rattle.sgb_gen.proofs.RisingVectors.{vertex_in_rising}
 
 -- ---- arcs to vectors that begin alike
@@ -202,35 +199,37 @@ pub row-under : (sb : ℕ) (front : List ℕ) (c left h e : ℕ) (bs x : List �
 row-under sb front c left h e bs x within =
     sym (under-front sb front c h x e (reverse (bounded_sums (left - e) bs))) ∙ ap (arcs_under sb front c (h ∷ x)) (sym (row-within left e bs within))
 
+-- some rows: the arcs by the greatest entry, and then the others
+pub rows-under : (sb : ℕ) (front : List ℕ) (c : ℕ) (x : List ℕ) (left : ℕ) (bs : List ℕ) (low k : ℕ) → 0 < k
+    → arcs_under sb front c x (rows left bs low k) ≡ arcs_under sb front c x (row left bs (low + (k - 1))) ++ arcs_under sb front c x (rows left bs low (k - 1))
+rows-under sb front c x left bs low k some =
+    ap (λ n. arcs_under sb front c x (rows left bs low n)) {x = k} {y = suc (k - 1)} (omega (arith, some)) ∙ under-append sb front c x (row left bs (low + (k - 1))) (rows left bs low (k - 1))
+
 -- down to x: the rows above its first entry, and then on with that
-pub to-more : (links mid new : LinksData) (sb : ℕ) (front : List ℕ) (c left b h most : ℕ) (bs xs bounds x : List ℕ) → bounds ≡ b ∷ bs → x ≡ h ∷ xs → left ≡ sum x → most ≡ min left b
-    → mid ≡ with_arcs links (arcs_under sb front c (h ∷ xs) (rows left bs (h + 1) (most + 1 - (h + 1))))
-    → new ≡ with_arcs mid (arcs_under sb (front ++ h ∷ []) (c + min h h) xs (down_to bs xs))
-    → new ≡ with_arcs links (arcs_under sb front c x (down_to bounds x))
-to-more links mid new sb front c left b h most bs xs bounds x bounds_are x_is adds most_is mid_is new_is =
+pub to-more : (sb : ℕ) (front : List ℕ) (c left b h most : ℕ) (bs xs bounds x : List ℕ) → bounds ≡ b ∷ bs → x ≡ h ∷ xs → left ≡ sum x → most ≡ min left b
+    → arcs_under sb front c x (down_to bounds x)
+    ≡ arcs_under sb front c (h ∷ xs) (rows left bs (h + 1) (most + 1 - (h + 1))) ++ arcs_under sb (front ++ h ∷ []) (c + min h h) xs (down_to bs xs)
+to-more sb front c left b h most bs xs bounds x bounds_are x_is adds most_is =
     let whole : left ≡ h + sum xs = adds ∙ ap sum x_is ∙ sum-cons h xs in
-    with_more links mid new _ _ _ mid_is new_is
-    (ap₂ (λ cs v. arcs_under sb front c v (down_to cs v)) bounds_are x_is
+    ap₂ (λ cs v. arcs_under sb front c v (down_to cs v)) bounds_are x_is
     ∙ under-append sb front c (h ∷ xs) (rows (h + sum xs) bs (h + 1) (b - h)) (map (λ v. h ∷ v) (down_to bs xs))
     ∙ ap₂ (λ l m. l ++ m)
     (ap (λ n. arcs_under sb front c (h ∷ xs) (rows n bs (h + 1) (b - h))) (sym whole)
     ∙ ap (λ n. arcs_under sb front c (h ∷ xs) (rows left bs (h + 1) n)) {y = b + 1 - (h + 1)} (omega arith)
     ∙ ap (arcs_under sb front c (h ∷ xs)) (rows-end left bs (h + 1) b (omega arith) ∙ ap (λ n. rows left bs (h + 1) (n + 1 - (h + 1))) (sym most_is)))
-    (under-front sb front c h xs h (down_to bs xs)))
+    (under-front sb front c h xs h (down_to bs xs))
 
 -- from x on: on with its first entry, and then the rows below that
-pub from-more : (links mid new : LinksData) (sb : ℕ) (front : List ℕ) (c left b h : ℕ) (bs xs bounds x : List ℕ) → bounds ≡ b ∷ bs → x ≡ h ∷ xs → left ≡ sum x
-    → mid ≡ with_arcs links (arcs_under sb (front ++ h ∷ []) (c + min h h) xs (down_from bs xs))
-    → new ≡ with_arcs mid (arcs_under sb front c (h ∷ xs) (rows left bs 0 (h - 0)))
-    → new ≡ with_arcs links (arcs_under sb front c x (down_from bounds x))
-from-more links mid new sb front c left b h bs xs bounds x bounds_are x_is adds mid_is new_is =
+pub from-more : (sb : ℕ) (front : List ℕ) (c left b h : ℕ) (bs xs bounds x : List ℕ) → bounds ≡ b ∷ bs → x ≡ h ∷ xs → left ≡ sum x
+    → arcs_under sb front c x (down_from bounds x)
+    ≡ arcs_under sb (front ++ h ∷ []) (c + min h h) xs (down_from bs xs) ++ arcs_under sb front c (h ∷ xs) (rows left bs 0 (h - 0))
+from-more sb front c left b h bs xs bounds x bounds_are x_is adds =
     let whole : left ≡ h + sum xs = adds ∙ ap sum x_is ∙ sum-cons h xs in
-    with_more links mid new _ _ _ mid_is new_is
-    (ap₂ (λ cs v. arcs_under sb front c v (down_from cs v)) bounds_are x_is
+    ap₂ (λ cs v. arcs_under sb front c v (down_from cs v)) bounds_are x_is
     ∙ under-append sb front c (h ∷ xs) (map (λ v. h ∷ v) (down_from bs xs)) (rows (h + sum xs) bs 0 h)
     ∙ ap₂ (λ l m. l ++ m)
     (under-front sb front c h xs h (down_from bs xs))
-    (ap₂ (λ n k. arcs_under sb front c (h ∷ xs) (rows n bs 0 k)) (sym whole) (omega arith)))
+    (ap₂ (λ n k. arcs_under sb front c (h ∷ xs) (rows n bs 0 k)) (sym whole) (omega arith))
 
 -- both lists of x as it is descended, of no first entries
 pub walked : (b directed : Bool) (sb : ℕ) (front again : List ℕ) (c left : ℕ) (bs x : List ℕ) → IsWithin x bs → left ≡ sum x → c ≡ 0 → front ≡ [] → again ≡ [] → directed ≡ b

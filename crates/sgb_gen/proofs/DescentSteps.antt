@@ -1,14 +1,13 @@
 -- Entries with which no vector that begins alike has a wanted size in common; and wanted sizes by the least and the greatest one.
-use Rattle.std.proofs.Common.{◌≡◌, ℕ, zero, suc, ◌+◌, ◌-◌, ◌<◌, ◌≤◌, min, false, List, [], ◌∷◌, ◌++◌, length, reverse, take, set, sum, refl, sym, ap, ap₂, ◌∙◌, arith, append-nil, append_assoc}
+use Rattle.std.proofs.Common.{◌≡◌, ℕ, zero, suc, ◌+◌, ◌-◌, ◌<◌, ◌≤◌, min, false, List, [], ◌∷◌, ◌++◌, length, reverse, take, set, sum, refl, sym, ap, ap₂, ◌∙◌, arith, append-nil}
 use Rattle.std.proofs.lemmas.Bool.{cases_lt}
 use Rattle.std.proofs.lemmas.Grind.{take-set_at}
 use Rattle.std.proofs.lemmas.List.{length-set, take-set-le, take-take}
 use Rattle.sgb_vec.specs.Sums.{bounded_sums}
 use Rattle.sgb_vec.proofs.SumSuccessors.{sum-cons}
-use Rattle.sgb_gen.specs.LocalLists.{LinksData, LocalArc}
+use Rattle.sgb_gen.specs.LocalLists.{LocalArc}
 use Rattle.sgb_gen.specs.Subsets.{is_wanted_size}
 use Rattle.sgb_gen.specs.inner.Descents.{HasNoArcs, IsBegun, arcs_under, front_of, row, rows}
-use Rattle.sgb_gen.specs.inner.LocalSimplexes.{with_arcs}
 use Rattle.sgb_gen.proofs.Descents.{rows-first, rows-parts, rows-end, sums-rows}
 use Rattle.sgb_gen.proofs.DescentArcs.{row-under, under-append, under-unwanted}
 use Rattle.sgb_gen.proofs.SubsetsCounts.{begun-on}
@@ -86,32 +85,25 @@ range_below P after end some all here k from to = grind (arith, cases_lt)
 
 -- ---- a step of the descent
 
--- the greater entries are done, and the least one is placed
-pub least-placed : (links mid start : LinksData) (sb c left b h least count low n place : ℕ) (tip new bs xs bounds x : List ℕ) (all : List LocalArc)
+-- the arcs by the greater entries, and then those where the least one is placed
+pub least-placed : (sb c left b h least count low n place : ℕ) (tip new bs xs bounds x : List ℕ)
     → bounds ≡ b ∷ bs → x ≡ h ∷ xs → length x ≤ length tip → length new ≡ length tip → place ≡ length tip - length x → low ≡ least + 1 → n + 1 ≡ count → least ≤ left
     → ((front : List ℕ) → arcs_under sb front c (h ∷ xs) (reverse (bounded_sums left (b ∷ bs))) ≡ arcs_under sb front c (h ∷ xs) (rows left bs least count))
     → front_of new (h ∷ xs) ≡ front_of tip (h ∷ xs)
-    → mid ≡ with_arcs links (arcs_under sb (front_of tip (h ∷ xs)) c (h ∷ xs) (rows left bs low n))
-    → with_arcs links (arcs_under sb (front_of tip x) c x (reverse (bounded_sums left bounds))) ≡ with_arcs start all
-    → with_arcs mid (arcs_under sb (front_of (set new place least) xs) (c + min h least) xs (reverse (bounded_sums (left - least) bs))) ≡ with_arcs start all
-least-placed links mid start sb c left b h least count low n place tip new bs xs bounds x all bounds_are x_is fits long at low_is count_is within same kept mid_is so_far =
+    → arcs_under sb (front_of tip x) c x (reverse (bounded_sums left bounds))
+    ≡ arcs_under sb (front_of tip (h ∷ xs)) c (h ∷ xs) (rows left bs low n) ++ arcs_under sb (front_of (set new place least) xs) (c + min h least) xs (reverse (bounded_sums (left - least) bs))
+least-placed sb c left b h least count low n place tip new bs xs bounds x bounds_are x_is fits long at low_is count_is within same kept =
     let front = front_of tip (h ∷ xs) in
-    let greater = arcs_under sb front c (h ∷ xs) (rows left bs (least + 1) n) in
-    let own = arcs_under sb front c (h ∷ xs) (row left bs least) in
     let fits_new : length (h ∷ xs) ≤ length new = omega (arith, fits, ap length x_is, long) in
     let at_new : place ≡ length new - length (h ∷ xs) = at ∙ ap₂ (λ k v. k - length v) (sym long) x_is in
     let placed_front : front_of (set new place least) xs ≡ front ++ least ∷ [] = front-placed new (h ∷ xs) xs h least place refl fits_new at_new ∙ ap (λ f. f ++ least ∷ []) kept in
-    ap₂ (λ l f. with_arcs l (arcs_under sb f (c + min h least) xs (reverse (bounded_sums (left - least) bs))))
-    (mid_is ∙ ap (λ k. with_arcs links (arcs_under sb front c (h ∷ xs) (rows left bs k n))) low_is) placed_front
-    ∙ ap (with_arcs (with_arcs links greater)) (row-under sb front c left h least bs xs within)
-    ∙ ap (λ arcs. record { width = links.width; arcs = arcs }) (append_assoc links.arcs greater own)
-    ∙ ap (with_arcs links)
-    (sym (under-append sb front c (h ∷ xs) (rows left bs (least + 1) n) (row left bs least))
-    ∙ ap (arcs_under sb front c (h ∷ xs)) (sym (rows-first left bs least n))
-    ∙ ap (λ k. arcs_under sb front c (h ∷ xs) (rows left bs least k)) {x = suc n} {y = count} (omega (arith, count_is))
-    ∙ sym (same front)
-    ∙ ap₂ (λ v cs. arcs_under sb (front_of tip v) c v (reverse (bounded_sums left cs))) (sym x_is) (sym bounds_are))
-    ∙ so_far
+    ap₂ (λ v cs. arcs_under sb (front_of tip v) c v (reverse (bounded_sums left cs))) x_is bounds_are
+    ∙ same front
+    ∙ ap (λ k. arcs_under sb front c (h ∷ xs) (rows left bs least k)) {x = count} {y = suc n} (omega (arith, count_is))
+    ∙ ap (arcs_under sb front c (h ∷ xs)) (rows-first left bs least n)
+    ∙ under-append sb front c (h ∷ xs) (rows left bs (least + 1) n) (row left bs least)
+    ∙ ap₂ (λ l m. l ++ m) (ap (λ k. arcs_under sb front c (h ∷ xs) (rows left bs k n)) (sym low_is))
+    (sym (row-under sb front c left h least bs xs within) ∙ ap (λ f. arcs_under sb f (c + min h least) xs (reverse (bounded_sums (left - least) bs))) (sym placed_front))
 
 -- what the other bounds add to
 pub others-add : (bounds x : List ℕ) (room shared left c b : ℕ) (bs : List ℕ) → bounds ≡ b ∷ bs → IsBegun bounds x room shared left c → sum bs ≡ room - b

@@ -6,10 +6,9 @@ use Rattle.std.proofs.lemmas.Simd.{splat_is_map}
 use Rattle.sgb_vec.specs.Lexicographic.{IsWithin}
 use Rattle.sgb_vec.specs.Sums.{bounded_sums}
 use Rattle.sgb_vec.proofs.SumMembers.{IsWithin-length}
-use Rattle.sgb_gen.specs.LocalLists.{LinksData, LocalArc}
+use Rattle.sgb_gen.specs.LocalLists.{LocalArc}
 use Rattle.sgb_gen.specs.Subsets.{is_wanted_size}
 use Rattle.sgb_gen.specs.inner.Descents.{arcs_under, front_of, row}
-use Rattle.sgb_gen.specs.inner.LocalSimplexes.{with_arcs}
 use Rattle.sgb_gen.proofs.Descents.{sums-past}
 use Rattle.sgb_gen.proofs.DescentArcs.{all-rows, row-under, under-append, under-zeros, zeros}
 
@@ -75,25 +74,32 @@ zeros_filled tip new bs x within fits is =
     ∙ ap (λ n. front_of tip x ++ replicate n 0) {y = length bs} (omega (arith, IsWithin-length bs x within))
     ∙ ap (λ l. front_of tip x ++ l) (splat_is_map bs (length bs) 0 refl)
 
+-- and they leave what stands before them
+pub zeros_kept : (tip new x : List ℕ) → length x ≤ length tip → length new ≡ length tip → new ≡ take (length tip - length x) tip ++ replicate (length tip - (length tip - length x)) 0 → front_of new x ≡ front_of tip x
+zeros_kept tip new x fits long is =
+    let start = length tip - length x in
+    ap₂ (λ k l. take (k - length x) l) long is ∙ take_at (take start tip) (replicate (length tip - start) 0) start (length-take-le start tip (omega (arith, fits)))
+
 -- ---- the walk over the places
 
 -- one place more
-pub units-more : (links new start_links : LinksData) (sb : ℕ) (tip : List ℕ) (c start i n b h : ℕ) (wanted : Bool) (bounds x : List ℕ) (all : List LocalArc) → start + n ≡ length tip → drop start tip ≡ replicate n 0 → n ≡ length x → length x ≡ length bounds → i < n
+pub units-more : (sb : ℕ) (tip : List ℕ) (c start i n b h : ℕ) (wanted : Bool) (bounds x : List ℕ) → start + n ≡ length tip → drop start tip ≡ replicate n 0 → n ≡ length x → length x ≡ length bounds → i < n
     → b ≡ get_or bounds i 0 → h ≡ get_or x i 0
     → wanted ≡ (ltb 0 b && is_wanted_size sb (c + min h 1))
-    → new ≡ with_arcs links (cond wanted (record { tip = set tip (start + i) 1; len = pos 1 } ∷ []) [])
-    → with_arcs links (arcs_under sb (take (start + i) tip) c (drop i x) (reverse (bounded_sums 1 (drop i bounds)))) ≡ with_arcs start_links all
-    → with_arcs new (arcs_under sb (take (start + (i + 1)) tip) c (drop (i + 1) x) (reverse (bounded_sums 1 (drop (i + 1) bounds)))) ≡ with_arcs start_links all
-units-more links new start_links sb tip c start i n b h wanted bounds x all fits rest count same within b_is h_is wanted_is new_is so_far =
+    → arcs_under sb (take (start + i) tip) c (drop i x) (reverse (bounded_sums 1 (drop i bounds)))
+    ≡ cond wanted (record { tip = set tip (start + i) 1; len = pos 1 } ∷ []) [] ++ arcs_under sb (take (start + (i + 1)) tip) c (drop (i + 1) x) (reverse (bounded_sums 1 (drop (i + 1) bounds)))
+units-more sb tip c start i n b h wanted bounds x fits rest count same within b_is h_is wanted_is =
     let front = take (start + i) tip in
     let bs = drop (i + 1) bounds in
     let xs = drop (i + 1) x in
     let long : length bs ≡ n - (i + 1) = omega (arith, length-drop (i + 1) bounds, same, count) in
-    let later = arcs_under sb (front ++ 0 ∷ []) c xs (reverse (bounded_sums 1 bs)) in
-    let unit : List LocalArc = cond wanted (record { tip = set tip (start + i) 1; len = pos 1 } ∷ []) [] in
-    let unit_is : unit ≡ cond (ltb 0 b && is_wanted_size sb (c + min h 1)) (unit_arc front bs ∷ []) [] =
+    let unit_is : cond wanted (record { tip = set tip (start + i) 1; len = pos 1 } ∷ []) [] ≡ cond (ltb 0 b && is_wanted_size sb (c + min h 1)) (unit_arc front bs ∷ []) [] =
     ap₂ (λ t v. cond t (record { tip = v; len = pos 1 } ∷ []) []) wanted_is (unit-set tip start n i fits rest within bs long) in
-    grind (arith, drop_more, zero-more, append_assoc, later, unit-first, front, front, bs, xs, later, unit, unit_is)
+    ap₂ (λ v cs. arcs_under sb front c v (reverse (bounded_sums 1 cs)))
+    (drop_more x i 0 (omega (arith, within, count)) ∙ ap (λ e. e ∷ xs) (sym h_is))
+    (drop_more bounds i 0 (omega (arith, within, count, same)) ∙ ap (λ e. e ∷ bs) (sym b_is))
+    ∙ unit-first sb front c b h bs xs
+    ∙ ap₂ (λ l m. l ++ m) (sym unit_is) (ap (λ f. arcs_under sb f c xs (reverse (bounded_sums 1 bs))) (sym (zero-more tip start n i fits rest within)))
 
 -- and no place is left
 pub none-left : (sb : ℕ) (front : List ℕ) (c left i : ℕ) (bounds x : List ℕ) → 0 < left → length x ≤ i → length bounds ≤ i → arcs_under sb front c (drop i x) (reverse (bounded_sums left (drop i bounds))) ≡ []

@@ -106,6 +106,8 @@ pub mod BoardWalks
 pub mod StraightMoves
 -- the list of a vertex, run by run
 pub mod RunsOfLists
+-- arcs that are handed out one by one
+pub mod ArcsInTurn
 -- lists of arcs that were put into links, or refused
 pub mod EndedLists
 -- the list of a vector of a board

@@ -1,10 +1,9 @@
 //! Arcs that are handed out one by one, and kept in links.
-ghost use Rattle.std.specs.Prelude.{◌≡◌, ◌≤◌, ◌+◌, length};
-ghost use Rattle.sgb_vec.specs.Limits.{most_dimensions};
+ghost use Rattle.std.specs.Prelude.{◌≡◌};
 
 use crate::arc_sinks::ArcSink;
 use crate::links::Links;
-use sgb_vec::{Panic, Vector};
+use sgb_vec::Panic;
 
 // Puts arcs to vectors of this width into links, behind the others.
 #[derive(Drop)]
@@ -54,16 +53,4 @@ impl ArcSink<Links, ()> for KeptArcs {
     ) -> Result<(), Panic> {
         links.push(tip, len)
     }
-}
-
-// A vector that is kept in place.
-pub(crate) fn copy_of(x: &[u32]) -> Vector
-    requires { length x.now ≤ most_dimensions + 1 }
-    ensures { result.items ≡ x.now }
-{
-    let mut copy = Vector::new();
-    for entry in x {
-        copy.push(*entry);
-    }
-    copy
 }

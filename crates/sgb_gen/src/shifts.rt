@@ -38,10 +38,19 @@ pub(crate) fn unit_moved(bounds: &[u32], v: &[u32], from: usize, to: usize) -> V
     requires can { can_move_unit bounds.now v.now from to ≡ true }
     ensures { result.items ≡ unit_moved v.now from to }
 {
-    let mut there = Vector::new();
-    for entry in v {
-        there.push(*entry);
-    }
+    let mut there = copy_of(v);
     move_unit(bounds, there.as_mut_slice(), from, to);
     there
+}
+
+/// The vector `v`, kept in place.
+pub(crate) fn copy_of(v: &[u32]) -> Vector
+    requires { length v.now ≤ most_dimensions + 1 }
+    ensures { result.items ≡ v.now }
+{
+    let mut copy = Vector::new();
+    for entry in v {
+        copy.push(*entry);
+    }
+    copy
 }

@@ -2,9 +2,10 @@
 //!
 //! In a graph that is built the subsets that are joined with a vertex are found by a walk from the first vertex:
 //! `common` takes the lesser entries of eight at a time.
-ghost use Rattle.std.specs.Prelude.{IfOk, IfSome, ◌≡◌, ◌⊎◌, Err, ◌<◌, [], ◌∷◌, pos, length, map, min, slice_get, Some, Ok, OnOk, IsOkUnless, if◌then◌else◌, ◌≤◌, ◌^◌};
+ghost use Rattle.std.specs.Prelude.{IfOk, IfSome, ◌≡◌, ◌⊎◌, Err, ◌<◌, ◌+◌, [], ◌∷◌, pos, length, map, min, slice_get, Some, Ok, OnOk, IsOkUnless, if◌then◌else◌, ◌≤◌, ◌^◌};
 ghost use Rattle.sgb_gen.specs.Subsets.{accepted_subsets, subsets_id, is_wanted_size, moves_to_place, subsets_vectors, moves_of_subsets, subsets_vector_graph, common_size};
 ghost use Rattle.sgb_vec.specs.Bounds.{simplex_of};
+ghost use Rattle.sgb_vec.specs.Limits.{most_dimensions};
 ghost use Rattle.sgb_graph.specs.Descriptions.{IsAnswerOf};
 ghost use Rattle.sgb_graph.specs.Growth.{AddsEvents, HasPlainArcs};
 ghost use Rattle.sgb_gen.specs.VectorGraphs.{described_by, event_among};
@@ -141,7 +142,8 @@ impl Subsets {
     // The bounds of its vectors.
     #[inline(always)]
     fn sizes(&self) -> &[u32]
-        ensures { result.now ≡ self.now.sum.bounds }
+        ensures same { result.now ≡ self.now.sum.bounds }
+        ensures few { length self.now.sum.bounds ≤ most_dimensions + 1 }
     {
         self.shape.sizes()
     }

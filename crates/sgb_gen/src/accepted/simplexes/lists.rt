@@ -7,9 +7,9 @@ ghost use Rattle.sgb_gen.specs.Simplexes.{simplex_vectors, moves_of_simplex, pai
 
 use super::Simplex;
 use crate::arc_sinks::ArcSink;
-use crate::kept_arcs::{KeptArcs, copy_of};
+use crate::kept_arcs::KeptArcs;
 use crate::links::Links;
-use crate::shifts::{can_move_unit, move_unit};
+use crate::shifts::{can_move_unit, copy_of, move_unit};
 use sgb_vec::Panic;
 
 impl Simplex {
@@ -46,15 +46,9 @@ impl Simplex {
             room.new out.new result }
         ensures ready { OnOk result (K.ready sink.now room.new out.new) }
     {
+        let bounds = self.sizes();
         let mut tip = copy_of(x);
-        push_both(
-            self.directed,
-            self.sizes(),
-            tip.as_mut_slice(),
-            sink,
-            room,
-            out,
-        )
+        push_both(self.directed, bounds, tip.as_mut_slice(), sink, room, out)
     }
 }
 

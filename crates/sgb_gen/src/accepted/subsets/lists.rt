@@ -11,8 +11,9 @@ use super::Subsets;
 use super::descents::{Begun, push_from, push_to};
 use super::sizes::WantedSizes;
 use crate::arc_sinks::ArcSink;
-use crate::kept_arcs::{KeptArcs, copy_of};
+use crate::kept_arcs::KeptArcs;
 use crate::links::Links;
+use crate::shifts::copy_of;
 use sgb_vec::Panic;
 
 impl Subsets {
@@ -50,11 +51,12 @@ impl Subsets {
             room.new out.new result }
         ensures ready { OnOk result (K.ready sink.now room.new out.new) }
     {
+        let bounds = self.sizes();
         let mut tip = copy_of(x);
         push_both(
             self.directed,
             self.begun(),
-            self.sizes(),
+            bounds,
             x,
             tip.as_mut_slice(),
             sink,

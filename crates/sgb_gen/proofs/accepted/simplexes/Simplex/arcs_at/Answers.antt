@@ -1,14 +1,16 @@
-use Rattle.std.proofs.Common.{rules, arith}
-use Rattle.sgb_gen.proofs.EndedLists.{list_ended}
-use Rattle.sgb_gen.proofs.SimplexEvents.{length_in_sum}
-use Rattle.sgb_gen.proofs.SimplexLists.{list_by_pairs}
+use Rattle.std.proofs.Common.{ap}
+use Rattle.sgb_gen.specs.LocalLists.{list_at}
+use Rattle.sgb_gen.specs.Simplexes.{moves_of_simplex, simplex_vectors}
+use Rattle.sgb_gen.proofs.EndedLists.{list_ended_as, list_kept, memory_told}
 use Rattle.sgb_gen.proofs.accepted.simplexes.Simplex.arcs_at.Goals as goal
 
-pub push_all-put-requires-clause-few : goal.push_all-put-requires-clause-few
-push_all-put-requires-clause-few c = omega (arith, length_in_sum c.args.self.now c.args.x.now c.requires, c.sizes-bounds.ensures.few)
-
-pub push_all-put-requires-clause-bounds : goal.push_all-put-requires-clause-bounds
-push_all-put-requires-clause-bounds c = search (rules, length_in_sum)
-
 pub returns-clause-ok : goal.returns-clause-ok
-returns-clause-ok c = search (rules, list_ended, list_by_pairs)
+returns-clause-ok c =
+    let s = c.args.self.now in
+    list_ended_as c.push_all-put.result _ _ _ _ c.ended.ensures.result c.ended.ensures.ok
+    (list_kept c.clear.new.self _ (list_at s.directed (simplex_vectors s) (moves_of_simplex s) c.args.x.now) c.push_all-put.result (ap (λ l. l.arcs) c.clear.ensures) c.push_all-put.ensures.given)
+
+pub returns-clause-memory : goal.returns-clause-memory
+returns-clause-memory c =
+    let s = c.args.self.now in
+    rw c.ended.ensures.result (memory_told c.clear.new.self _ (list_at s.directed (simplex_vectors s) (moves_of_simplex s) c.args.x.now) c.push_all-put.result c.push_all-put.ensures.given)

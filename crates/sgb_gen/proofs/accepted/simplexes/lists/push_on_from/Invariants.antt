@@ -1,10 +1,12 @@
-use Rattle.std.proofs.Common.{◌≡◌, ◌+◌, ◌≤◌, length, reverse}
-use Rattle.sgb_gen.specs.inner.LocalSimplexes.{arcs_on, with_arcs}
-use Rattle.sgb_gen.proofs.SimplexEvents.{pairs_left}
+use Rattle.std.proofs.Common.{◌≡◌, ◌+◌, ◌≤◌, length}
+use Rattle.sgb_gen.specs.inner.LocalSimplexes.{arcs_on, pairs_down}
+use Rattle.sgb_gen.proofs.ArcsInTurn.{TakenSoFar}
 use Rattle.sgb_gen.proofs.accepted.simplexes.lists.push_on_from.Given as goal
 
--- the arcs by the pairs with the higher places that are done
+-- the arcs by the pairs with the higher places that are left are still to come
 abbrev pub invariant-loop-higher : goal.invariant-loop-higher
-invariant-loop-higher l =
+invariant-loop-higher g l =
     (l.lower + 1 ≤ l.higher)
-    × (l.links ≡ with_arcs l.fn.links (arcs_on l.bounds l.x (reverse (pairs_left (length l.x) l.lower l.higher))))
+    × (l.tip ≡ l.fn.tip)
+    × TakenSoFar (g.K.ArcSink.took l.sink) (arcs_on l.bounds l.fn.tip (pairs_down (length l.fn.tip) l.lower)) (arcs_on l.bounds l.fn.tip (pairs_down l.higher l.lower)) l.fn.room l.fn.out l.room l.out
+    × g.K.ArcSink.ready l.sink l.room l.out

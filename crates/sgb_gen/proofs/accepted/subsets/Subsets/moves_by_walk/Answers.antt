@@ -25,7 +25,7 @@ pub count_from-counted-requires-clause-begun : goal.count_from-counted-requires-
 count_from-counted-requires-clause-begun c =
     let s = c.args.self.now in
     let member = first_has (Contains (subsets_vectors s)) c.loop-x.left c.in-Some.x.now c.loop-x.invariant.0 c.in-Some.ensures.first in
-    rw c.begun-begun.ensures.value (begun-all s.sum c.sizes-bounds.result.now c.in-Some.x.now _ _ _ member c.sizes-bounds.ensures (ap sum (sym c.sizes-bounds.ensures)) refl refl c.begun-begun.ensures.small)
+    rw c.begun-begun.ensures.value (begun-all s.sum c.sizes-bounds.result.now c.in-Some.x.now _ _ _ member c.sizes-bounds.ensures.same (ap sum (sym c.sizes-bounds.ensures.same)) refl refl c.begun-begun.ensures.small)
 
 pub count_from-counted-requires-clause-all : goal.count_from-counted-requires-clause-all
 count_from-counted-requires-clause-all c =
@@ -44,7 +44,7 @@ loop-x-preserved c =
     let s = c.args.self.now in
     let x = c.in-Some.x.now in
     let rest = c.advance-some.new.self in
-    let here : c.count_from-counted.result ≡ wanted_among s.size_bits 0 c.in-Some.x.now (down_from s.sum.bounds c.in-Some.x.now) = rw (← c.sizes-bounds.ensures) (rw c.begun-begun.ensures.value at c.count_from-counted.ensures) in
+    let here : c.count_from-counted.result ≡ wanted_among s.size_bits 0 c.in-Some.x.now (down_from s.sum.bounds c.in-Some.x.now) = rw (← c.sizes-bounds.ensures.same) (rw c.begun-begun.ensures.value at c.count_from-counted.ensures) in
     let step : c.loop-x.left ≡ x ∷ rest = first_and_rest c.loop-x.left rest x x c.in-Some.ensures.first refl c.advance-some.ensures.rest in (
       All-tail (Contains (subsets_vectors s)) x rest (subst (All (Contains (subsets_vectors s))) step c.loop-x.invariant.0),
       omega (arith, here, c.loop-x.invariant.1, ap (moves_among s.size_bits s.sum.bounds) step),

@@ -1,11 +1,37 @@
-use Rattle.std.proofs.Common.{rules}
+use Rattle.std.proofs.Common.{◌≡◌, ◌+◌, ◌-◌, ◌++◌, length, take, drop, reverse, refl, arith, get_or, cond, [], ◌∷◌, set, pos, List}
+use Rattle.sgb_vec.specs.Sums.{bounded_sums}
 use Rattle.sgb_vec.proofs.SumMembers.{IsWithin-length}
+use Rattle.sgb_gen.proofs.ArcsInTurn.{exit_part, so_far_all, so_far_more}
 use Rattle.sgb_gen.proofs.LastEntries.{none-left, units-more}
-use Rattle.sgb_gen.proofs.PairWalks.{with_none}
 use Rattle.sgb_gen.proofs.accepted.subsets.last_entries.push_units.Goals as goal
 
-pub loop-i-preserved : goal.loop-i-preserved
-loop-i-preserved c = search (rules, IsWithin-length, units-more)
+pub returns-in_err-push_unit-clause-given : goal.returns-in_err-push_unit-clause-given
+returns-in_err-push_unit-clause-given g c =
+    let x = c.args.x.now in
+    let bounds = c.args.bounds.now in
+    let tip = c.args.tip.now in
+    let i = c.loop-i.i in
+    let same = IsWithin-length bounds x c.requires.begun.within in
+    let first = units-more c.args.begun.size_bits tip c.args.begun.common (length tip - length x) i (length x) (get_or bounds i 0) (get_or x i 0) c.is_unit_wanted-wanted.result bounds x (omega (arith, c.requires.place)) c.requires.zeros refl (omega (arith, same)) (omega arith) refl refl c.is_unit_wanted-wanted.ensures in
+    exit_part (g.met.K.ArcSink.laws c.args.sink.now) _ _ _ _ _ _ _ _ _ _ _ _ c.from_residual.ensures.1 first c.loop-i.invariant.1 (rw c.loop-i.invariant.0 at c.in_err-push_unit.ensures.given)
 
-pub returns-clause-ok : goal.returns-clause-ok
-returns-clause-ok c = search (rules, IsWithin-length, with_none, none-left)
+pub loop-i-preserved : goal.loop-i-preserved
+loop-i-preserved g c =
+    let x = c.args.x.now in
+    let bounds = c.args.bounds.now in
+    let tip = c.args.tip.now in
+    let i = c.loop-i.i in
+    let same = IsWithin-length bounds x c.requires.begun.within in
+    let first = units-more c.args.begun.size_bits tip c.args.begun.common (length tip - length x) i (length x) (get_or bounds i 0) (get_or x i 0) c.is_unit_wanted-wanted.result bounds x (omega (arith, c.requires.place)) c.requires.zeros refl (omega (arith, same)) (omega arith) refl refl c.is_unit_wanted-wanted.ensures in (
+      rw c.loop-i.invariant.0 at c.in_ok-push_unit.ensures.same,
+      so_far_more (g.met.K.ArcSink.laws c.args.sink.now) _ _ _ _ _ _ _ _ _ _ first c.loop-i.invariant.1 (rw c.loop-i.invariant.0 at c.in_ok-push_unit.ensures.given),
+      c.in_ok-push_unit.ensures.ready,
+    )
+
+pub returns-clause-given : goal.returns-clause-given
+returns-clause-given g c =
+    let x = c.args.x.now in
+    let bounds = c.args.bounds.now in
+    let same = IsWithin-length bounds x c.requires.begun.within in
+    so_far_all (g.met.K.ArcSink.laws c.args.sink.now) _ _ _ _ _ _
+    (none-left c.args.begun.size_bits _ c.args.begun.common 1 c.loop-i.i bounds x (omega arith) (omega arith) (omega (arith, same))) c.loop-i.invariant.1

@@ -1,12 +1,12 @@
 use Rattle.std.proofs.Common.{rules}
-use Rattle.std.proofs.lemmas.Result.{on_ok_weaker}
+use Rattle.sgb_gen.proofs.ArcsInTurn.{given_as, took_none}
 use Rattle.sgb_gen.proofs.DescentArcs.{under-zeros}
 use Rattle.sgb_gen.proofs.LastEntries.{zeros_filled}
-use Rattle.sgb_gen.proofs.PairWalks.{with_none}
 use Rattle.sgb_gen.proofs.accepted.subsets.last_entries.push_zeros.Goals as goal
 
-pub returns-then-not-is_wanted-clause-ok : goal.returns-then-not-is_wanted-clause-ok
-returns-then-not-is_wanted-clause-ok c = search (rules, with_none, under-zeros)
+pub returns-then-not-is_wanted-clause-given : goal.returns-then-not-is_wanted-clause-given
+returns-then-not-is_wanted-clause-given g c = took_none (g.met.K.ArcSink.laws c.args.sink.now) _ _ _ (search (rules, under-zeros))
 
-pub returns-clause-ok : goal.returns-clause-ok
-returns-clause-ok c = search (rules, zeros_filled, on_ok_weaker, under-zeros)
+pub returns-clause-given : goal.returns-clause-given
+returns-clause-given g c =
+    given_as (g.met.K.ArcSink.laws c.args.sink.now) _ _ _ _ _ _ _ (search (rules, zeros_filled, under-zeros)) c.put_arc.ensures.given
