@@ -114,14 +114,14 @@ listing_untouched (generator.Subsets p) resume l old new (Ok x) sort subsets sim
 listing_untouched (generator.Subsets p) resume l old new (Err f) sort subsets simplex other = λ none. absurd (subsets sort none)
 
 -- what never runs out of memory does nothing where it does
-pub never : {T P : Type 0} (r : Result T Fault) → IfErr r (λ f. f ≢ fault.Panic NoRoom) → IfErr r (λ f. f ≡ fault.Panic NoRoom → P)
-never (Ok x) other = tt
-never (Err f) other = λ none. absurd (other none)
+pub never : {T : Type 0} (P : Type 0) (r : Result T Fault) → IfErr r (λ f. f ≢ fault.Panic NoRoom) → IfErr r (λ f. f ≡ fault.Panic NoRoom → P)
+never P (Ok x) other = tt
+never P (Err f) other = λ none. absurd (other none)
 
 -- what a write alone can fail does nothing with another fault
-pub write_alone : {T P : Type 0} (r : Result T Fault) → IfErr r (λ f. f ≡ fault.Write) → IfErr r (λ f. f ≢ fault.Write → P)
-write_alone (Ok x) write = tt
-write_alone (Err f) write = λ other. absurd (other write)
+pub write_alone : {T : Type 0} (P : Type 0) (r : Result T Fault) → IfErr r (λ f. f ≡ fault.Write) → IfErr r (λ f. f ≢ fault.Write → P)
+write_alone P (Ok x) write = tt
+write_alone P (Err f) write = λ other. absurd (other write)
 
 -- a head that is not left out is asked for
 pub head_asked : (head : Bool) → (head ≡ false → ⊥) → head ≡ true
@@ -129,12 +129,12 @@ head_asked true some = refl
 head_asked false some = absurd (some refl)
 
 -- and it is where the answer is not resumed
-pub whole_asked : {T P : Type 0} (resume : Resume) (head : Bool) (r : Result T Fault) → (resume ≢ resumes.Whole → head ≡ false) → IfErr r (λ f. f ≢ fault.Write → (head ≡ true) × P)
+pub whole_asked : {T : Type 0} (P : Type 0) (resume : Resume) (head : Bool) (r : Result T Fault) → (resume ≢ resumes.Whole → head ≡ false) → IfErr r (λ f. f ≢ fault.Write → (head ≡ true) × P)
     → IfErr r (λ f. f ≡ fault.Panic NoRoom → (resume ≡ resumes.Whole) × P)
-whole_asked resume head (Ok x) resumed left = tt
-whole_asked resumes.Whole head (Err f) resumed left = λ none. (refl, (left (λ write. absurd cc)).1)
-whole_asked (resumes.Skip k) head (Err f) resumed left = λ none. absurd (true≢false (sym (left (λ write. absurd cc)).0 ∙ resumed (λ whole. absurd cc)))
-whole_asked (resumes.After name) head (Err f) resumed left = λ none. absurd (true≢false (sym (left (λ write. absurd cc)).0 ∙ resumed (λ whole. absurd cc)))
+whole_asked P resume head (Ok x) resumed left = tt
+whole_asked P resumes.Whole head (Err f) resumed left = λ none. (refl, (left (λ write. absurd cc)).1)
+whole_asked P (resumes.Skip k) head (Err f) resumed left = λ none. absurd (true≢false (sym (left (λ write. absurd cc)).0 ∙ resumed (λ whole. absurd cc)))
+whole_asked P (resumes.After name) head (Err f) resumed left = λ none. absurd (true≢false (sym (left (λ write. absurd cc)).0 ∙ resumed (λ whole. absurd cc)))
 
 -- and what was left as it was is
 pub exit_untouched : {T S : Type 0} (s : S) (r : Result T Fault) → IfErr r (λ f. f ≡ fault.Panic NoRoom → s ≡ s)

@@ -54,14 +54,14 @@ one_untouched T (Ok text) out f ended room one = grind arith
 one_untouched T (Err g) out f ended room one = ended.1.same
 
 -- what holds of each fault
-pub all_err : {T : Type 0} {P : Fault → Type 0} (r : Result T Fault) → ((f : Fault) → P f) → IfErr r P
-all_err (Ok x) each = tt
-all_err (Err f) each = each f
+pub all_err : {T : Type 0} (P : Fault → Type 0) (r : Result T Fault) → ((f : Fault) → P f) → IfErr r P
+all_err P (Ok x) each = tt
+all_err P (Err f) each = each f
 
 -- the fault of a write has another status
-pub write_status : {T P : Type 0} (r : Result T Fault) → IfErr r (λ f. f ≡ fault.Write) → IfErr r (λ f. status_of f ≡ 1 → P)
-write_status (Ok x) h = tt
-write_status (Err f) h = λ one. absurd cc
+pub write_status : {T : Type 0} (P : Type 0) (r : Result T Fault) → IfErr r (λ f. f ≡ fault.Write) → IfErr r (λ f. status_of f ≡ 1 → P)
+write_status P (Ok x) h = tt
+write_status P (Err f) h = λ one. absurd cc
 
 -- a refusal before anything was written
 pub refused_at_once : (T : Type 0) {S : Type 0} (a : Result (List ℕ) Fault) (s : S) (f : Fault) (w : Option (List ℕ)) (failed : Bool) → a ≡ Err f → failed ≡ false

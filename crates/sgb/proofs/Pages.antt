@@ -1,5 +1,5 @@
 -- Texts handed to a page of output, part by part.
-use Rattle.std.proofs.Common.{arith, rules, ◌≡◌, ◌++◌, ◌∙◌, Bool, ℕ, false, List, [], Option, Result, Ok, Err, IfErr, OnOk, inr, ap, refl, sym, append_assoc, append-nil}
+use Rattle.std.proofs.Common.{arith, rules, ◌≡◌, ◌++◌, ◌∙◌, Bool, ℕ, false, List, [], ◌∷◌, Option, Result, Ok, Err, IfErr, OnOk, inr, ap, refl, sym, append_assoc, append-nil}
 use Rattle.std.specs.Io.KnownBytes.{Appends}
 use Rattle.std.specs.List.{flat_map}
 use Rattle.std.specs.Result.{IsErrAnd}
@@ -128,6 +128,14 @@ lines_fault written failed now after mid new arcs (Ok x) given = tt
 lines_fault written failed now after mid new arcs (Err f) given = given.1
 
 -- where there is an answer, the first of two facts holds
-pub first_ok : {T A B : Type 0} (r : Result T Fault) → OnOk r (A × B) → OnOk r A
-first_ok (Ok x) both = both.0
-first_ok (Err f) both = tt
+pub first_ok : {T : Type 0} (A B : Type 0) (r : Result T Fault) → OnOk r (A × B) → OnOk r A
+first_ok A B (Ok x) both = both.0
+first_ok A B (Err f) both = tt
+
+-- a page took the line of an arc, or a write's fault came before: so of the arc alone
+pub line_given : {S T : Type 0} (written : S → Option (List ℕ)) (failed : S → Bool) (page after : List ℕ) (old new : S) (arc : LocalArc) (r : Result T Fault)
+    → IsPaged page (local_line arc) after (change written failed old new) r → IfErr r (λ f. f ≡ fault.Write)
+    → AreGiven (λ page o xs later n. (put : List ℕ) × (put ++ later ≡ page ++ flat_map local_line xs) × Appends (written o) (written n) put)
+    (λ page o xs later n f. IsCutOff (page ++ flat_map local_line xs) (change written failed o n) f × (f ≡ fault.Write)) page old (arc ∷ []) after new r
+line_given written failed page after old new arc (Ok x) paged write = rw (append-nil (local_line arc)) paged.output
+line_given written failed page after old new arc (Err f) paged write = rw (append-nil (local_line arc)) (paged, write)

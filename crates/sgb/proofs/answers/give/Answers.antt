@@ -35,7 +35,7 @@ pub returns-clause-certain : goal.returns-clause-certain
 returns-clause-certain g c = λ unread needs. write_certain _ c.pass_on.ensures.fault
 
 pub returns-in_err-input-clause-untouched : goal.returns-in_err-input-clause-untouched
-returns-in_err-input-clause-untouched g c = λ prepared. all_err c.from_residual.result (λ f one. refl)
+returns-in_err-input-clause-untouched g c = λ prepared. all_err _ c.from_residual.result (λ f one. refl)
 
 pub returns-in_err-write-clause-untouched : goal.returns-in_err-write-clause-untouched
 returns-in_err-write-clause-untouched g c = λ prepared.
@@ -44,4 +44,4 @@ returns-in_err-write-clause-untouched g c = λ prepared.
     rw (p.1, p.2) (one_untouched _ a _ _ (c.in_err-write.ensures.ended a is) (c.in_err-write.ensures.untouched prepared))
 
 pub returns-clause-untouched : goal.returns-clause-untouched
-returns-clause-untouched g c = λ prepared. write_status _ c.pass_on.ensures.fault
+returns-clause-untouched g c = λ prepared. write_status _ _ c.pass_on.ensures.fault

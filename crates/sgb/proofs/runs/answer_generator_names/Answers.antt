@@ -14,4 +14,4 @@ pub returns-in_err-local-clause-untouched : goal.returns-in_err-local-clause-unt
 returns-in_err-local-clause-untouched g c = exit_untouched _ _
 
 pub returns-clause-untouched : goal.returns-clause-untouched
-returns-clause-untouched g c = never _ c.visit.ensures.1
+returns-clause-untouched g c = never _ _ c.visit.ensures.1

@@ -34,7 +34,7 @@ pub returns-in_err-graph-clause-untouched : goal.returns-in_err-graph-clause-unt
 returns-in_err-graph-clause-untouched g c = λ other. exit_untouched _ _
 
 pub returns-clause-untouched : goal.returns-clause-untouched
-returns-clause-untouched g c = λ other. never _ c.write_listing.ensures.certain
+returns-clause-untouched g c = λ other. never _ _ c.write_listing.ensures.certain
 
 pub returns-in-Generator-clause-untouched : goal.returns-in-Generator-clause-untouched
 returns-in-Generator-clause-untouched g c = λ other. c.answer_generator_list.ensures.untouched (other_sort _ _ c.in-Generator.is other)

@@ -34,4 +34,4 @@ pub returns-in_err-graph-clause-untouched : goal.returns-in_err-graph-clause-unt
 returns-in_err-graph-clause-untouched g c = exit_untouched _ _
 
 pub returns-clause-untouched : goal.returns-clause-untouched
-returns-clause-untouched g c = never _ c.write_vertex_names.ensures.certain
+returns-clause-untouched g c = never _ _ c.write_vertex_names.ensures.certain

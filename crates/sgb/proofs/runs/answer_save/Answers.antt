@@ -23,4 +23,4 @@ pub returns-in_err-graph-clause-untouched : goal.returns-in_err-graph-clause-unt
 returns-in_err-graph-clause-untouched g c = exit_untouched _ _
 
 pub returns-clause-untouched : goal.returns-clause-untouched
-returns-clause-untouched g c = never _ (write_certain _ c.write_file.ensures.fault)
+returns-clause-untouched g c = never _ _ (write_certain _ c.write_file.ensures.fault)

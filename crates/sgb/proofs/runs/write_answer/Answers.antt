@@ -38,4 +38,4 @@ pub returns-in-List-clause-untouched : goal.returns-in-List-clause-untouched
 returns-in-List-clause-untouched g c = λ other. c.answer_list.ensures.untouched (list_other c.args.request.now _ _ c.in-List.is other)
 
 pub returns-in-Flip-clause-untouched : goal.returns-in-Flip-clause-untouched
-returns-in-Flip-clause-untouched g c = λ other. never _ c.write_flip.ensures.certain
+returns-in-Flip-clause-untouched g c = λ other. never _ _ c.write_flip.ensures.certain

@@ -39,13 +39,13 @@ returns-in_err-push_head_if-clause-subsets g c = λ same. absurd (true≢false (
 
 pub returns-in_err-push_head_if-clause-simplex : goal.returns-in_err-push_head_if-clause-simplex
 returns-in_err-push_head_if-clause-simplex g c = λ same.
-    all_err c.from_residual.result (λ f other. (head_asked c.args.head (λ plain. absurd (true≢false (sym (c.in_err-push_head_if.ensures.none plain)))), refl))
+    all_err _ c.from_residual.result (λ f other. (head_asked c.args.head (λ plain. absurd (true≢false (sym (c.in_err-push_head_if.ensures.none plain)))), refl))
 
 pub returns-in_err-put_page-clause-subsets : goal.returns-in_err-put_page-clause-subsets
 returns-in_err-put_page-clause-subsets g c = λ same. exit_write _ _ c.from_residual-in_err-put_page.ensures.1 c.in_err-put_page.ensures.fault
 
 pub returns-in_err-put_page-clause-simplex : goal.returns-in_err-put_page-clause-simplex
-returns-in_err-put_page-clause-simplex g c = λ same. write_alone _ (exit_write _ _ c.from_residual-in_err-put_page.ensures.1 c.in_err-put_page.ensures.fault)
+returns-in_err-put_page-clause-simplex g c = λ same. write_alone _ _ (exit_write _ _ c.from_residual-in_err-put_page.ensures.1 c.in_err-put_page.ensures.fault)
 
 pub returns : goal.returns
 returns g c =
@@ -58,5 +58,5 @@ returns g c =
       head = begun_by _ _ _ _ _ _ _ _ _ put c.write_blocks.ensures.written;
       end = λ plain none. c.write_blocks.ensures.end (rest ∙ none);
       subsets = λ same. c.write_blocks.ensures.fault (λ board. absurd cc);
-      simplex = λ same. write_alone _ (c.write_blocks.ensures.fault (λ board. absurd cc));
+      simplex = λ same. write_alone _ _ (c.write_blocks.ensures.fault (λ board. absurd cc));
     }

@@ -19,7 +19,7 @@ returns-in_err-push_line-clause-fault g c = λ other. exit_write _ _ c.from_resi
 pub returns-in_err-give_arcs-clause-paged : goal.returns-in_err-give_arcs-clause-paged
 returns-in_err-give_arcs-clause-paged g c =
     rw (parts-named (g.L.Listed.graph c.args.listed.now) c.args.x.now _ _ refl c.requires.named, c.in_err-give_arcs.ensures.unput.1)
-    (exit_begun_by c.args.page.now _ _ c.in_ok-push_line.new.page _ _ _ _ _ _ c.from_residual-in_err-give_arcs.ensures.1 c.in_err-give_arcs.ensures.memory
+    (exit_begun_by c.args.page.now _ _ c.push_line.new.page _ _ _ _ _ _ c.from_residual-in_err-give_arcs.ensures.1 c.in_err-give_arcs.ensures.memory
     c.in_ok-push_line.ensures.paged.sound c.in_ok-push_line.ensures.paged.output)
 
 pub returns-in_err-give_arcs-clause-fault : goal.returns-in_err-give_arcs-clause-fault
@@ -28,8 +28,8 @@ returns-in_err-give_arcs-clause-fault g c = λ other. absurd (other c.in_err-giv
 pub returns-clause-paged : goal.returns-clause-paged
 returns-clause-paged g c =
     rw (parts-named (g.L.Listed.graph c.args.listed.now) c.args.x.now _ _ refl c.requires.named)
-    (lines_given g.W.Sink.written g.W.Sink.has_failed c.args.page.now _ c.in_ok-push_line.new.page _ c.args.out.now c.in_ok-push_line.new.out _ _ _ c.in_ok-push_line.ensures.paged.output
-    c.in_ok-give_arcs.ensures.given (first_ok _ c.in_ok-give_arcs.ensures.ready))
+    (lines_given g.W.Sink.written g.W.Sink.has_failed c.args.page.now _ c.push_line.new.page _ c.args.out.now c.push_line.new.out _ _ _ c.in_ok-push_line.ensures.paged.output
+    c.in_ok-give_arcs.ensures.given (first_ok _ _ _ c.in_ok-give_arcs.ensures.ready))
 
 pub returns-clause-fault : goal.returns-clause-fault
 returns-clause-fault g c = λ other. lines_fault g.W.Sink.written g.W.Sink.has_failed _ _ _ _ _ _ c.in_ok-give_arcs.ensures.given

@@ -16,7 +16,7 @@ returns-in_err-start g c =
       search (rules, nowhere, exit_ended, refused_after, left_out, head_for, head, blocks, names_of, graph_described),
       λ past. nowhere_certain,
       λ same. nowhere_certain,
-      λ same. never _ nowhere_certain,
+      λ same. never _ _ nowhere_certain,
     )
 
 pub list_vectors-requires : goal.list_vectors-requires
@@ -38,5 +38,5 @@ returns g c =
           let (resumed, none) = none_left vectors c.args.self.resume.now begins.0 (option_map (λ vector. vector.items) c.in_ok-start.start) (option_map (λ x. x.now) c.slice_of.result) from begins.2 c.slice_of.ensures past in
           c.list_vectors.ensures.end (c.has_head.ensures.resumed resumed) (rw c.prepare.ensures.same none),
       λ same. write_certain _ (c.list_vectors.ensures.subsets (c.prepare.ensures.sort ∙ same)),
-      λ same. whole_asked c.args.self.resume.now _ _ c.has_head.ensures.resumed (c.list_vectors.ensures.simplex (c.prepare.ensures.sort ∙ same)),
+      λ same. whole_asked _ c.args.self.resume.now _ _ c.has_head.ensures.resumed (c.list_vectors.ensures.simplex (c.prepare.ensures.sort ∙ same)),
     )
