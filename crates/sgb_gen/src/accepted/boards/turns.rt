@@ -21,7 +21,8 @@ use crate::steps::Step;
 use sgb_vec::{Panic, Vector};
 
 impl Board {
-    // Puts the arcs of `x` by the edges of the displacement `t` behind the others, the last of their starts first.
+    // Puts the arcs of `x` by the edges of the displacement `t` behind the others, the last of their starts first: with no
+    // sort where those behind `x` go around once at most, as all of a leaper do but on a side shorter than its step.
     pub(super) fn push_turned(
         &self,
         x: &[u32],
