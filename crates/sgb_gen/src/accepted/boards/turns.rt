@@ -103,7 +103,7 @@ impl Board {
     }
 
     // How many lengths the piece moves from `x` by `t`.
-    fn lengths_by(&self, x: &[u32], t: &Step) -> u32
+    pub(super) fn lengths_by(&self, x: &[u32], t: &Step) -> u32
         requires below { IsBelow x.now self.now.sizes }
         requires dimensions { length t.now ≡ length self.now.sizes }
         ensures { arcs_from self.now x.now t.now ≡ arcs_along self.now.sizes self.now.wrap x.now
