@@ -1,5 +1,5 @@
 -- Moves by a displacement that no side stops: of all lengths before they come home.
-use Rattle.std.proofs.Common.{◌≡◌, ℕ, zero, suc, ◌+◌, ◌<◌, ◌≤◌, ℤ, pos, negsuc, ◌+ℤ◌, ◌*ℤ◌, nat_abs, Bool, true, false, not, cond, List, [], ◌∷◌, length, map, get_or, Option, Some, None, refl, sym, ap, subst, ◌∙◌, arith, true≢false}
+use Rattle.std.proofs.Common.{◌≡◌, ℕ, zero, suc, ◌+◌, ◌<◌, ◌≤◌, ℤ, pos, negsuc, ◌+ℤ◌, ◌*ℤ◌, Bool, true, false, not, cond, List, [], ◌∷◌, length, map, get_or, Option, Some, None, refl, sym, ap, subst, ◌∙◌, arith, true≢false}
 use Rattle.std.specs.List.{range_with_len}
 use Rattle.std.specs.Option.{is_some}
 use Rattle.std.proofs.lemmas.Bool.{lt-ltb}
@@ -7,14 +7,14 @@ use Rattle.std.proofs.lemmas.Int.{ints}
 use Rattle.sgb_vec.specs.Lexicographic.{IsBelow}
 use Rattle.sgb_gen.specs.Boards.{BoardData}
 use Rattle.sgb_gen.specs.MovedCoordinates.{parts_of, parts_put}
-use Rattle.sgb_gen.specs.Moves.{Side, coordinate_on, in_front, is_bit_set, is_elsewhere, place, sides_from_bit, sides_of}
+use Rattle.sgb_gen.specs.Moves.{coordinate_on, in_front, is_bit_set, is_elsewhere, place, sides_from_bit, sides_of}
 use Rattle.sgb_gen.specs.Runs.{arc_along}
 use Rattle.sgb_gen.specs.inner.BoardCounts.{comes_home, stops_at, stops_on}
 use Rattle.sgb_gen.specs.inner.LocalBoards.{move_arc}
 use Rattle.sgb_gen.specs.inner.Moves.{destination}
 use Rattle.sgb_gen.proofs.BoardCountsHome.{home-to}
 use Rattle.sgb_gen.proofs.BoardCountsLengths.{going}
-use Rattle.sgb_gen.proofs.BoardWalks.{leads, longest, moves_of}
+use Rattle.sgb_gen.proofs.BoardWalks.{longest, moves_of}
 use Rattle.sgb_gen.proofs.MovedCoordinates.{place_by_parts}
 use Rattle.sgb_gen.proofs.StraightMoves.{arcs_to, on_sides}
 use Rattle.sgb_gen.proofs.TurnedMoves.{side_itself}

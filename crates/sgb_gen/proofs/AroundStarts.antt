@@ -1,6 +1,6 @@
 -- The edges of a rider that touch a vector by a displacement, with no sorting, where the vectors behind it are known to fall:
 -- those that come before it, and after these, where the moves have gone around, those that come after it.
-use Rattle.std.proofs.Common.{◌≡◌, ◌≢◌, ℕ, ◌+◌, ◌<◌, ℤ, Bool, false, true, not, cond, List, [], ◌∷◌, ◌++◌, length, map, reverse, get_or, Some, refl, sym, ap, ap₂, subst, subst₂, ◌∙◌, arith, append_assoc, length-append, rules}
+use Rattle.std.proofs.Common.{◌≡◌, ◌≢◌, ℕ, ◌+◌, ◌<◌, ℤ, Bool, false, not, cond, List, [], ◌∷◌, ◌++◌, length, map, reverse, get_or, refl, sym, ap, ap₂, subst, subst₂, ◌∙◌, arith, append_assoc, length-append, rules}
 use Rattle.std.specs.Prelude.{◌==◌, ⊤}
 use Rattle.std.specs.List.{All, AllPairs, Contains, flat_map}
 use Rattle.std.specs.List.Sorted.{IsPermutation}

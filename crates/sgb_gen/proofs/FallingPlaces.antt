@@ -1,33 +1,32 @@
 -- Where a displacement leads back around the first side on which it moves once at most: the vectors fall, first before the
 -- vector itself, and then after it.
 use borrow.Author.Differences.{neg_is}
-use Rattle.std.proofs.Common.{◌≡◌, ◌≢◌, ℕ, zero, suc, ◌+◌, ◌-◌, ◌*◌, ◌/◌, ◌<◌, ◌≤◌, min, ℤ, pos, negsuc, ◌+ℤ◌, ◌*ℤ◌, neg_ℤ, nat_abs, Bool, true, false, List, [], ◌∷◌, ◌++◌, length, map, reverse, take, drop, get_or, Some, refl, sym, ap, ap₂, subst, subst₂, ◌∙◌, arith, rules}
+use Rattle.std.proofs.Common.{◌≡◌, ℕ, zero, suc, ◌+◌, ◌-◌, ◌*◌, ◌/◌, ◌<◌, ◌≤◌, min, ℤ, pos, negsuc, ◌+ℤ◌, ◌*ℤ◌, neg_ℤ, nat_abs, Bool, true, false, List, [], ◌∷◌, ◌++◌, length, map, reverse, take, drop, get_or, Some, refl, sym, ap, ap₂, subst, subst₂, ◌∙◌, arith}
 use Rattle.std.proofs.Math.Nat.{div-mul-le_self, lt-div-mul-add, mod-eq_of_lt}
 use Rattle.std.specs.Int.{int_rem_euclid}
 use Rattle.std.specs.List.{All, Contains, range_with_len}
 use Rattle.std.proofs.lemmas.Int.{int_rem_euclid_is, ints}
 use Rattle.std.proofs.lemmas.List.{drop-map, get_or-drop, get_or-map, get_or-take, length-drop, length-map, length-take-le, reverse-append, reverse-reverse, take-append-drop, take-map}
-use Rattle.std.proofs.lemmas.List.Elements.{All-drop, All-take, AllZip-get_or, length_all_zip}
+use Rattle.std.proofs.lemmas.List.Elements.{AllZip-get_or, length_all_zip}
 use Rattle.std.proofs.lemmas.List.FromFn.{get_or-map-range_with_len, length-map-range_with_len, take-map-range_with_len}
 use Rattle.std.proofs.lemmas.Nat.{mul-le}
 use Rattle.sgb_vec.specs.Boxes.{box}
-use Rattle.sgb_vec.specs.Lexicographic.{IsBefore, IsBelow}
+use Rattle.sgb_vec.specs.Lexicographic.{IsBelow}
 use Rattle.sgb_vec.proofs.BoxPlaces.{IsBelow-from_Contains}
 use Rattle.sgb_vec.proofs.FamilyLaws.{box_vectors_rise}
 use Rattle.sgb_gen.specs.Boards.{BoardData}
 use Rattle.sgb_gen.specs.LocalLists.{LocalArc}
 use Rattle.sgb_gen.specs.MovedCoordinates.{parts_from, parts_of}
-use Rattle.sgb_gen.specs.Moves.{Side, coordinate_on, is_bit_set, opposite, place, sides_from_bit, sides_of, within_size}
+use Rattle.sgb_gen.specs.Moves.{Side, coordinate_on, is_bit_set, opposite, place, sides_from_bit, sides_of}
 use Rattle.sgb_gen.specs.Runs.{arc_along, arcs_along}
 use Rattle.sgb_gen.specs.VectorGraphs.{Move, vertex_among}
 use Rattle.sgb_gen.specs.inner.LocalBoards.{arcs_onward, move_arc, moves_by}
 use Rattle.sgb_gen.specs.inner.StraightLists.{GoesAroundOnce, arcs_from}
 use Rattle.sgb_gen.proofs.AroundStarts.{Falls, Leads, ahead, around_in_order, behind}
-use Rattle.sgb_gen.proofs.Destinations.{place-below}
 use Rattle.sgb_gen.proofs.MovesInOrder.{all_lead, vertices_in_order}
 use Rattle.sgb_gen.proofs.OnwardMoves.{some_length}
 use Rattle.sgb_gen.proofs.OrderedLists.{before_at}
-use Rattle.sgb_gen.proofs.Reaches.{sizes_of_sides}
+use Rattle.sgb_gen.proofs.StrideTips.{within_is}
 use Rattle.sgb_gen.proofs.TouchingMoves.{below, vector_there}
 use Rattle.sgb_gen.proofs.TurnedMoves.{in_front-parts, side_itself}
 
@@ -78,10 +77,6 @@ first_at k (pos (suc c) ∷ t) some = (0, record { within = omega arith; number 
 first_at k (negsuc c ∷ t) some = (0, record { within = omega arith; number = omega arith; entry = refl; zeros = λ i h. absurd (omega (arith, h)) })
 
 -- ---- one coordinate
-
-within_is : (n y : ℕ) (z : ℤ) → within_size n z ≡ Some y → pos y ≡ z
-within_is n y (pos a) e = grind (arith)
-within_is n y (negsuc a) e = absurd (cc)
 
 -- a step back that stays on the side, and one that goes around it
 stays_at : (w : Bool) (n a s r : ℕ) → a < n → s ≤ a → coordinate_on (record { size = n; wraps = w }) (pos a +ℤ neg_ℤ (pos s)) ≡ Some r → r + s ≡ a

@@ -51,7 +51,7 @@ no_bit k =
     ap (λ (n : ℕ). n % 2 == 1) none
 
 -- a coordinate within a side is what it is
-within_is : (n y : ℕ) (z : ℤ) → within_size n z ≡ Some y → pos y ≡ z
+pub within_is : (n y : ℕ) (z : ℤ) → within_size n z ≡ Some y → pos y ≡ z
 within_is n y (pos a) e = grind (arith)
 within_is n y (negsuc a) e = absurd (cc)
 

@@ -6,14 +6,14 @@
 //! around that side once at most (`push_around`), and by one where they go on (`push_sorted`).
 //!
 //! Displacements come in order and not backwards. So a list without a table is made oldest arc first, and turned round.
-ghost use Rattle.std.specs.Prelude.{◌≡◌, ◌<◌, [], ◌++◌, ◌+◌, ◌-◌, ◌≤◌, ℕ, List, true, false, length, map, reverse, None, Some, Contains, OnOk, OnErr, IsOkUnless};
+ghost use Rattle.std.specs.Prelude.{◌≡◌, ◌<◌, [], ◌++◌, ◌+◌, ◌-◌, ◌≤◌, ℕ, true, false, length, map, reverse, None, Some, Contains, OnOk, OnErr, IsOkUnless};
 ghost use Rattle.std.specs.Bool.{OnTrue, OnFalse};
+ghost use Rattle.std.specs.List.{range_with_len};
 ghost use Rattle.sgb_vec.specs.Boxes.{box};
 ghost use Rattle.sgb_vec.specs.Lexicographic.{IsBelow};
 ghost use Rattle.sgb_gen.specs.Boards.{moves_of_board};
 ghost use Rattle.sgb_gen.specs.LocalLists.{list_at};
 ghost use Rattle.sgb_gen.specs.inner.LocalBoards.{move_arc, arcs_onward, moves_by};
-ghost use Rattle.std.specs.List.{range_with_len};
 ghost use Rattle.sgb_gen.specs.MovedCoordinates.{parts_of};
 ghost use Rattle.sgb_gen.specs.Moves.{moves_from, sides_of, place, opposite};
 ghost use Rattle.sgb_gen.specs.Runs.{arc_along, arcs_along};
@@ -114,10 +114,7 @@ impl Board {
         ensures memory { IsOkUnless result Panic.NoRoom }
     {
         if self.directed {
-            if self.is_straight(t, back) {
-                return self.push_straight_down(x, t, links);
-            }
-            return self.push_moves_down(x, t, there, links);
+            return self.push_moves_down(x, t, links);
         }
         if leads_onward(self.wrap, t) {
             return self.push_in_order(x, t, back, links);
@@ -126,13 +123,7 @@ impl Board {
     }
 
     // Puts the arcs by the moves from `x` by `t` behind the others, the longest move first.
-    fn push_moves_down(
-        &self,
-        x: &[u32],
-        t: &Step,
-        there: &mut Vector,
-        links: &mut Links,
-    ) -> Result<(), Panic>
+    fn push_moves_down(&self, x: &[u32], t: &Step, links: &mut Links) -> Result<(), Panic>
         requires below { IsBelow x.now self.now.sizes }
         requires dimensions { length t.now ≡ length self.now.sizes }
         requires width { length x.now ≡ links.old.width }
@@ -144,10 +135,8 @@ impl Board {
             }) }
         ensures memory { IsOkUnless result Panic.NoRoom }
     {
-        let first = links.len();
-        self.push_moves(x, t, there, links)?;
-        links.reverse_from(first);
-        Ok(())
+        let farthest = self.lengths_by(x, t);
+        self.push_lengths_down(x, t, farthest, links)
     }
 
     // Puts the arcs of `x` by the edges of the displacement `t`, which leads onward, behind the others: those from `x`, the
@@ -175,23 +164,6 @@ impl Board {
     {
         self.push_straight_down(x, t, links)?;
         self.push_straight(x, back, links)
-    }
-
-    // Whether no move by the displacement `t`, whose opposite is `back`, comes home. `false` where it may.
-    fn is_straight(&self, t: &Step, back: &Step) -> bool
-        requires dimensions { length t.now ≡ length self.now.sizes }
-        requires back { back.now ≡ opposite t.now }
-        ensures { OnTrue result ((x : List ℕ) (l : ℕ) → IsBelow x self.now.sizes → 0 < l
-            → destination (sides_of self.now.sizes self.now.wrap) self.now.piece x t.now l
-            ≡ place (sides_of self.now.sizes self.now.wrap) x t.now l) }
-    {
-        if self.piece > 0 {
-            return true;
-        }
-        if leads_onward(self.wrap, t) {
-            return true;
-        }
-        leads_onward(self.wrap, back)
     }
 
     // Puts the arcs by the moves from `x` by `t` behind the others, where these never come home: one look tells how many
@@ -286,34 +258,6 @@ impl Board {
         let parts = t.parts();
         for shorter in (0..to).rev() {
             links.push_placed(sizes, self.wrap, x, parts, shorter + 1)?;
-        }
-        Ok(())
-    }
-
-    // Puts the arcs by the moves from `x` by `t` behind the others.
-    fn push_moves(
-        &self,
-        x: &[u32],
-        t: &Step,
-        there: &mut Vector,
-        links: &mut Links,
-    ) -> Result<(), Panic>
-        requires below { IsBelow x.now self.now.sizes }
-        requires dimensions { length t.now ≡ length self.now.sizes }
-        requires width { length x.now ≡ links.old.width }
-        ensures ok { OnOk result (links.new
-            ≡ record links.old {
-              arcs = links.old.arcs
-                  ++ map move_arc (moves_from (sides_of self.now.sizes self.now.wrap)
-                  self.now.piece x.now t.now);
-            }) }
-        ensures memory { IsOkUnless result Panic.NoRoom }
-    {
-        for l in 1..=self.longest_move() {
-            if !self.lands(x, t, l, there) {
-                return Ok(());
-            }
-            links.push(there.as_slice(), l)?;
         }
         Ok(())
     }

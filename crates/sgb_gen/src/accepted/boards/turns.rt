@@ -21,7 +21,8 @@ use crate::steps::Step;
 use sgb_vec::{Panic, Vector};
 
 impl Board {
-    // Puts the arcs of `x` by the edges of the displacement `t` behind the others, the last of their starts first.
+    // Puts the arcs of `x` by the edges of the displacement `t` behind the others, the last of their starts first: with no
+    // sort where those behind `x` go around once at most, as all of a leaper do but on a side shorter than its step.
     pub(super) fn push_turned(
         &self,
         x: &[u32],
@@ -102,7 +103,7 @@ impl Board {
     }
 
     // How many lengths the piece moves from `x` by `t`.
-    fn lengths_by(&self, x: &[u32], t: &Step) -> u32
+    pub(super) fn lengths_by(&self, x: &[u32], t: &Step) -> u32
         requires below { IsBelow x.now self.now.sizes }
         requires dimensions { length t.now ≡ length self.now.sizes }
         ensures { arcs_from self.now x.now t.now ≡ arcs_along self.now.sizes self.now.wrap x.now
