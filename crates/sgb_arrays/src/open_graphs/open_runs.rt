@@ -15,7 +15,9 @@ use crate::run_arcs::arcs_of_run;
 use crate::run_names::names_of_run;
 use crate::run_rows::rows_of_run;
 use crate::runs::is_there;
-use sgb_gen::{Links, Local};
+use crate::strided_rows::{count_strided, fill_strided_rows, fill_strided_tips};
+use sgb_gen::{Board, Links, Local, StridedBoard};
+use sgb_vec::Family;
 use std::alloc::Global;
 
 impl OpenGraph {
@@ -173,6 +175,13 @@ fn local_arcs_len(alloc: Global, local: &Local, first: u32, count: u32) -> Resul
             return Ok(arcs);
         }
     }
+    if let Local::Board(board) = local {
+        let links = Links::new(alloc);
+        let lists = board.lists(&links);
+        if let Some(strided) = lists.strided() {
+            return Ok(count_strided(&strided, first, count));
+        }
+    }
     arcs_of_run(alloc, local, first, count)
 }
 
@@ -238,6 +247,17 @@ fn fill_local_rows(
         (IsListed (OpenGraph.Listed local.now) × (length starts.old ≡ count + 1)) why
         × (starts.new ≡ starts.old) × (tips.new ≡ tips.old) × (lengths.new ≡ lengths.old)) }
 {
+    if let Local::Board(board) = local {
+        let links = Links::new(alloc);
+        let lists = board.lists(&links);
+        if let Some(strided) = lists.strided() {
+            if !is_there(local.size(), first, count) {
+                return Err(Wrong::Vertices);
+            }
+            let arcs = strided_arcs(board, &strided, first, count);
+            return fill_strided_rows(&strided, arcs, first, count, starts, tips, lengths);
+        }
+    }
     match rows_for(alloc, local, first, count, starts.len()) {
         Ok(rows) => rows.copy_to(starts, tips, lengths),
         Err(wrong) => Err(wrong),
@@ -269,6 +289,15 @@ fn fill_local_tips(
         Ok(rows) => rows.copy_tips_to(starts, tips),
         Err(wrong) => Err(wrong),
     }
+}
+
+fn strided_arcs(board: &Board, strided: &StridedBoard, first: u32, count: u32) -> u128 {
+    if first == 0 && count == board.family().size() {
+        if let Ok(arcs) = board.arcs_count() {
+            return arcs;
+        }
+    }
+    count_strided(strided, first, count)
 }
 
 // Puts the names of a run of a generator's graph into arrays.
