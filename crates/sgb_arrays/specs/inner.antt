@@ -15,3 +15,5 @@ pub mod Cuts
 pub mod Packed
 -- the parts of a graph that is copied
 pub mod CopiedParts
+-- the lists of a board that are had by strides
+pub mod StridedRows
