@@ -1,11 +1,10 @@
 -- Vertices one after another that no side is near: the arcs of each lead as many places on and back.
-use Rattle.std.proofs.Common.{rules, ◌≡◌, ◌∙◌, ℕ, nat_abs, get_or, zero, suc, ◌+◌, ◌-◌, ◌*◌, ◌<◌, ◌≤◌, ℤ, pos, neg_ℤ, Bool, true, false, List, [], ◌∷◌, ◌++◌, length, map, reverse, take, Some, None, refl, sym, ap, ap₂, subst, arith}
+use Rattle.std.proofs.Common.{◌≡◌, ◌∙◌, ℕ, nat_abs, get_or, zero, suc, ◌+◌, ◌-◌, ◌<◌, ◌≤◌, ℤ, pos, neg_ℤ, Bool, true, false, List, [], ◌∷◌, ◌++◌, length, map, reverse, take, Some, None, refl, sym, ap, ap₂, subst, arith}
 use Rattle.std.specs.Prelude.{Option, if◌then◌else◌}
 use Rattle.std.specs.List.{All, flat_map, slice_get}
-use Rattle.std.proofs.lemmas.Bool.{cases_lt}
 use Rattle.std.proofs.lemmas.List.Elements.{All-append, All-cons, All-map, All-nil}
-use Rattle.std.proofs.lemmas.List.{length-map, map-append, reverse-append, take_all, take_more}
-use Rattle.std.proofs.lemmas.Option.{get_or_from_slice_get, slice_get-get_or, slice_get_within}
+use Rattle.std.proofs.lemmas.List.{length-map, reverse-append, take_all, take_more}
+use Rattle.std.proofs.lemmas.Option.{get_or_from_slice_get, slice_get-get_or}
 use Rattle.sgb_vec.specs.Boxes.{box, product_of}
 use Rattle.sgb_vec.specs.Lexicographic.{IsBelow}
 use Rattle.sgb_vec.proofs.BoxPlaces.{IsBelow-length, StandsAt-from_slice_get, length-box, place_of, slice_get-place_of}
@@ -16,19 +15,19 @@ use Rattle.sgb_graph.specs.declared.fields.Link.{Link}
 use Rattle.sgb_gen.specs.Boards.{BoardData, board_vector_graph}
 use Rattle.sgb_gen.specs.LocalLists.{LocalArc}
 use Rattle.sgb_gen.specs.MovedCoordinates.{parts_of}
-use Rattle.sgb_gen.specs.Moves.{Side, opposite, place, moves_from, sides_of}
+use Rattle.sgb_gen.specs.Moves.{opposite, place, moves_from, sides_of}
 use Rattle.sgb_gen.specs.Runs.{arcs_along}
-use Rattle.sgb_gen.specs.Strides.{IsInsideVertex, StridedData, tips_inside, tips_of_stride}
+use Rattle.sgb_gen.specs.Strides.{IsInsideVertex, tips_inside, tips_of_stride}
 use Rattle.sgb_gen.specs.VectorGraphs.{described_by}
 use Rattle.sgb_gen.specs.inner.LocalBoards.{move_arc}
 use Rattle.sgb_gen.specs.inner.MovedCoordinates.{IsInside, parts_stay}
 use Rattle.sgb_gen.specs.inner.Moves.{leads_onward, longest_move}
-use Rattle.sgb_gen.specs.inner.StraightLists.{AreOnward, IsLeaper, IsRun, arcs_back, arcs_by_all, arcs_from}
+use Rattle.sgb_gen.specs.inner.StraightLists.{AreOnward, IsRun, arcs_back, arcs_by_all, arcs_from}
 use Rattle.sgb_gen.specs.inner.Strides.{IsStrided, stride_of}
 use Rattle.sgb_gen.proofs.InsideRuns.{all_runs, inside_run}
-use Rattle.sgb_gen.proofs.InsideVertices.{opposite_within, stay_inside, stay_near}
+use Rattle.sgb_gen.proofs.InsideVertices.{stay_inside, stay_near}
 use Rattle.sgb_gen.proofs.MovedCoordinates.{parts_within}
-use Rattle.sgb_gen.proofs.RunsOfLists.{at_has, next_run_first, none_first, widths_in_table}
+use Rattle.sgb_gen.proofs.RunsOfLists.{at_has, next_run_first, widths_in_table}
 use Rattle.sgb_gen.proofs.StraightMoves.{leaps_there, straight_arcs}
 use Rattle.sgb_gen.proofs.StrideTips.{IsNextStride, StayUpTo, flat_board, next_stride, said_by_table, stride_at, vertex_to}
 use Rattle.sgb_gen.proofs.Vertices.{below_in_box}

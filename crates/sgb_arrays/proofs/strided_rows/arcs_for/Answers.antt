@@ -1,7 +1,5 @@
-use Rattle.std.proofs.Common.{◌≡◌, ◌≤◌, ◌+◌, ap, length, arith, rules}
+use Rattle.std.proofs.Common.{ap, length, arith}
 use Rattle.sgb_vec.specs.Boxes.{box}
-use Rattle.sgb_arrays.specs.Runs.{IsThere}
-use Rattle.sgb_arrays.specs.inner.StridedRows.{graph_of_board}
 use Rattle.sgb_arrays.proofs.StridedPuts.{board_vertices}
 use Rattle.sgb_arrays.proofs.strided_rows.arcs_for.Goals as goal
 

@@ -1,7 +1,5 @@
-use Rattle.std.proofs.Common.{◌≡◌, ◌≤◌, ◌+◌, ap, inl, length, refl, arith, rules}
+use Rattle.std.proofs.Common.{ap, inl, length, refl, arith}
 use Rattle.sgb_vec.specs.Boxes.{box}
-use Rattle.sgb_arrays.specs.Runs.{IsThere}
-use Rattle.sgb_arrays.specs.inner.StridedRows.{graph_of_board}
 use Rattle.sgb_arrays.proofs.StridedPuts.{board_vertices}
 use Rattle.sgb_arrays.proofs.strided_rows.arcs_of_strided_run.Goals as goal
 

@@ -1,4 +1,4 @@
-use Rattle.std.proofs.Common.{◌≡◌, ◌+◌, ◌++◌, ap, length, arith, length-append}
+use Rattle.std.proofs.Common.{ap, length, arith, length-append}
 use Rattle.sgb_gen.specs.Strides.{tips_of_stride}
 use Rattle.sgb_arrays.proofs.StridedPuts.{stride_length}
 use Rattle.sgb_arrays.proofs.strided_rows.arcs_of_strides.Goals as goal

@@ -1,4 +1,4 @@
-use Rattle.std.proofs.Common.{◌≡◌, ◌≤◌, ◌<◌, ◌+◌, ◌++◌, ℕ, ap, refl, length, length-append, arith, rules}
+use Rattle.std.proofs.Common.{◌+◌, ap, refl, length, length-append, arith}
 use Rattle.sgb_graph.specs.Graphs.{chain_of}
 use Rattle.sgb_arrays.specs.Runs.{parts_of}
 use Rattle.sgb_arrays.specs.inner.StridedRows.{graph_of_board}

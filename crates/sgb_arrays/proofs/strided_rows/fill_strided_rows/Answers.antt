@@ -1,4 +1,4 @@
-use Rattle.std.proofs.Common.{◌≡◌, ◌≤◌, ◌+◌, ◌∙◌, length, arith}
+use Rattle.std.proofs.Common.{◌≤◌, ◌+◌, ◌∙◌, length, arith}
 use Rattle.sgb_vec.specs.Boxes.{box}
 use Rattle.sgb_graph.specs.Graphs.{chain_of}
 use Rattle.sgb_arrays.specs.inner.StridedRows.{graph_of_board}

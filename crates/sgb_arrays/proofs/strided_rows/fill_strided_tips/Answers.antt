@@ -1,4 +1,4 @@
-use Rattle.std.proofs.Common.{◌≡◌, ◌≤◌, ◌+◌, length, arith}
+use Rattle.std.proofs.Common.{arith}
 use Rattle.sgb_arrays.proofs.StridedPuts.{board_vertices}
 use Rattle.sgb_arrays.proofs.strided_rows.fill_strided_tips.Goals as goal
 

@@ -1,4 +1,4 @@
-use Rattle.std.proofs.Common.{◌≡◌, ◌+◌, ◌-◌, ◌*◌, arith, rules}
+use Rattle.std.proofs.Common.{◌+◌, ◌-◌, ◌*◌, arith, rules}
 use Rattle.std.proofs.lemmas.List.{length-set}
 use Rattle.sgb_arrays.proofs.StridePuts.{longest_first}
 use Rattle.sgb_arrays.proofs.StridedPuts.{value_put}

@@ -1,4 +1,4 @@
-use Rattle.std.proofs.Common.{◌≡◌, ◌+◌, ◌-◌, ◌*◌, arith, rules}
+use Rattle.std.proofs.Common.{◌+◌, ◌-◌, ◌*◌, arith, rules}
 use Rattle.std.proofs.lemmas.List.{length-set}
 use Rattle.sgb_arrays.proofs.StridedPuts.{next_put}
 use Rattle.sgb_arrays.proofs.strided_rows.put_back.Goals as goal

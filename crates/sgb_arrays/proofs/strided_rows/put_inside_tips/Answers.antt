@@ -1,4 +1,4 @@
-use Rattle.std.proofs.Common.{◌≡◌, ◌≤◌, ◌<◌, ◌+◌, ◌-◌, ap, length, refl, sym, take, arith, rules}
+use Rattle.std.proofs.Common.{◌-◌, ap, length, refl, arith, rules}
 use Rattle.std.proofs.lemmas.List.{length-set, take_all}
 use Rattle.sgb_gen.specs.Strides.{tips_inside}
 use Rattle.sgb_arrays.specs.inner.Puts.{put_from}

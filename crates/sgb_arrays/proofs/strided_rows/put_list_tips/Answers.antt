@@ -1,4 +1,4 @@
-use Rattle.std.proofs.Common.{◌≡◌, ◌≤◌, ◌<◌, ◌+◌, ◌++◌, ◌∙◌, ap, length, length-append, reverse, sym, arith, rules}
+use Rattle.std.proofs.Common.{◌∙◌, ap, length, length-append, reverse, arith, rules}
 use Rattle.sgb_gen.specs.Strides.{tips_ahead, tips_back, tips_of_stride}
 use Rattle.sgb_arrays.proofs.StridedPuts.{ahead_length, back_length, parts_put, stride_length}
 use Rattle.sgb_arrays.proofs.strided_rows.put_list_tips.Goals as goal

@@ -1,4 +1,4 @@
-use Rattle.std.proofs.Common.{◌<◌, length, arith}
+use Rattle.std.proofs.Common.{arith}
 use Rattle.sgb_arrays.proofs.StridedPuts.{ones_more}
 use Rattle.sgb_arrays.proofs.strided_rows.put_ones.Goals as goal
 

@@ -1,4 +1,4 @@
-use Rattle.std.proofs.Common.{◌≡◌, ◌<◌, length, subst, rules, arith}
+use Rattle.std.proofs.Common.{◌≡◌, subst}
 use Rattle.std.specs.Prelude.{Some, slice_get}
 use Rattle.sgb_vec.specs.Boxes.{box}
 use Rattle.sgb_arrays.proofs.StridedPuts.{found_at}
