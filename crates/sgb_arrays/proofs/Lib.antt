@@ -33,3 +33,5 @@ pub mod GivenLists
 pub mod CopiedGraphs
 -- worked examples
 pub mod Examples
+-- arcs of a board put into arrays by strides
+pub mod StridedPuts

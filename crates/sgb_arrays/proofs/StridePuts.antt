@@ -5,7 +5,7 @@ use Rattle.std.proofs.lemmas.List.{reverse-append}
 use Rattle.std.proofs.lemmas.List.FromFn.{map-range_with_len_more}
 
 -- of those of the lengths up to n that of length n comes first where the longest do
-longest_first : {X : Type 0} (f : ℕ → X) (n m : ℕ) → 0 < n → m ≡ n → reverse (map f (range_with_len 1 n)) ≡ f m ∷ reverse (map f (range_with_len 1 (n - 1)))
+pub longest_first : {X : Type 0} (f : ℕ → X) (n m : ℕ) → 0 < n → m ≡ n → reverse (map f (range_with_len 1 n)) ≡ f m ∷ reverse (map f (range_with_len 1 (n - 1)))
 longest_first f n m some same =
     let k = n - 1 in
     ap (λ i. reverse (map f (range_with_len 1 i))) {x = n} {y = k + 1} (omega (arith, some))

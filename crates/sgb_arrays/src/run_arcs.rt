@@ -101,7 +101,7 @@ fn count_arcs<'a, L: Listed<'a>>(
 }
 
 // The sum of two numbers of arcs. `NoRoom` where 128 bits do not hold it, which no list has so many arcs for.
-fn sum_of(arcs: u128, more: u128) -> Result<u128, Panic>
+pub(crate) fn sum_of(arcs: u128, more: u128) -> Result<u128, Panic>
     ensures sum { IfOk result (λ s. s ≡ arcs + more) }
     ensures memory { IsOkUnless result Panic.NoRoom }
 {

@@ -32,6 +32,8 @@ mod InsideVertices
 mod InsideRuns
 -- where they lead among the vectors: equal strides on
 mod StrideTips
+-- vertices one after another that no side is near, by strides
+mod InsideRows
 -- how far the coordinates stay that a displacement moves
 pub mod PartReaches
 -- where a move leads

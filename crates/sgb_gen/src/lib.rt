@@ -40,7 +40,9 @@ mod vector_tables;
 // What is done with a generator's graph, whichever generator it is of.
 mod visits;
 
-pub use accepted::{Board, BoardLists, Run, Runs, Simplex, Stride, Strides, Subsets, common};
+pub use accepted::{
+    Board, BoardLists, Run, Runs, Simplex, Stride, StridedBoard, Strides, Subsets, common,
+};
 pub use arc_sinks::ArcSink;
 pub use counted_places::CountedPlaces;
 pub use generators::{board, simplex, subsets};

@@ -17,6 +17,7 @@ mod counts;
 mod edges;
 mod lists;
 mod runs;
+mod strided_boards;
 mod strides;
 mod turns;
 
@@ -31,6 +32,7 @@ use sgb_graph::{Graph, Id, IdWriter};
 use sgb_vec::{BoxFamily, Family, Panic, Shape, Vector, Vectors, board_sizes};
 use std::alloc::Global;
 use std::marker::Model;
+pub use strided_boards::StridedBoard;
 pub use strides::{Stride, Strides};
 
 // The piece of a board is at most this number, and at least its negative.

@@ -36,14 +36,14 @@ pub struct Stride {
 /// What is left of the list of a board's vertex, by the vertices where its arcs lead.
 #[derive(Drop)]
 pub struct Strides<'b> {
-    board: &'b Board,
-    table: &'b DisplacementTable,
-    strides: &'b [u32],
-    x: &'b [u32],
-    vertex: u32,
-    left: usize,
+    pub(super) board: &'b Board,
+    pub(super) table: &'b DisplacementTable,
+    pub(super) strides: &'b [u32],
+    pub(super) x: &'b [u32],
+    pub(super) vertex: u32,
+    pub(super) left: usize,
     // Whether all moves of length 1 stay on the board, which is then looked at once for all of them.
-    near: bool,
+    pub(super) near: bool,
 }
 
 impl<'b> Model for Strides<'b> {
@@ -166,7 +166,7 @@ impl<'a> BoardLists<'a> {
 
 impl Board {
     // Whether no side wraps around.
-    fn is_flat(&self) -> bool
+    pub(super) fn is_flat(&self) -> bool
         ensures flat { OnTrue result (self.now.wrap ≡ pos 0) }
         ensures few { product_of self.now.sizes ≤ most_vertices }
     {

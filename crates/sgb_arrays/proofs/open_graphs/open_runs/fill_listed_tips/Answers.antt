@@ -4,7 +4,7 @@ use Rattle.std.proofs.lemmas.Result.{on_ok_weaker}
 use Rattle.sgb_arrays.specs.OpenGraphs.{IsListed, graph_open}
 use Rattle.sgb_arrays.proofs.CopiedRuns.{tips_copied, tips_refused}
 use Rattle.sgb_arrays.specs.declared.open_graphs.OpenGraph.TheVariants.{Listed}
-use Rattle.sgb_arrays.proofs.open_graphs.open_runs.fill_local_tips.Goals as goal
+use Rattle.sgb_arrays.proofs.open_graphs.open_runs.fill_listed_tips.Goals as goal
 
 pub returns-in-Ok-clause-filled : goal.returns-in-Ok-clause-filled
 returns-in-Ok-clause-filled c =
