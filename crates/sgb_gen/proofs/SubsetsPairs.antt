@@ -115,10 +115,10 @@ pairs-ended sb c wanted is =
     let one : bounded_sums 0 [] ≡ [] ∷ [] = refl in
     let vs = bounded_sums 0 [] in
     ap kept (
-      ap (λ (b : Bool). cond b 1 0) (sym is)
-      ∙ among-zeros sb c 0 [] [] refl
-      ∙ among-reverse sb c [] vs
-      ∙ omega (arith, ap (λ us. pairs_among sb c us vs) one)
+    ap (λ (b : Bool). cond b 1 0) (sym is)
+    ∙ among-zeros sb c 0 [] [] refl
+    ∙ among-reverse sb c [] vs
+    ∙ omega (arith, ap (λ us. pairs_among sb c us vs) one)
     )
 
 none_first : (sb f s c : ℕ) → 0 < f → 0 ≡ pair_cell sb [] f s c

@@ -144,13 +144,7 @@ fn take_in(table: &mut PairTable, total: usize, bound: usize)
 }
 
 // A cell with the bound: the pairs by the first entry of their first vector.
-fn count_pairs(
-    table: &PairTable,
-    bound: usize,
-    first: usize,
-    second: usize,
-    common: usize,
-) -> u64
+fn count_pairs(table: &PairTable, bound: usize, first: usize, second: usize, common: usize) -> u64
     requires { max first second + common < 20 }
     ensures { (size_bits total : ℕ) (bounds : List ℕ) → max first second + common ≤ total
         → HasTurnedPairs size_bits total ((first * 20 + second) * 20 + common + 1) bound bounds table.now

@@ -1,4 +1,4 @@
-use Rattle.std.proofs.Common.{◌≡◌, ◌+◌, ap, rules, arith, ◌∙◌}
+use Rattle.std.proofs.Common.{◌+◌, ap, rules, arith, ◌∙◌}
 use Rattle.sgb_gen.specs.inner.Descents.{row, rows}
 use Rattle.sgb_gen.specs.inner.SubsetsPairs.{kept, pairs_among}
 use Rattle.sgb_gen.proofs.SubsetsPairs.{other-counted, pairs-none, pairs-read}

@@ -1,4 +1,4 @@
-use Rattle.std.proofs.Common.{rules, arith, refl, ◌∙◌}
+use Rattle.std.proofs.Common.{rules, arith}
 use Rattle.std.proofs.lemmas.List.{length-set}
 use Rattle.sgb_gen.proofs.SubsetsPairs.{pairs-ended_all, pairs-ended_more, pairs-ended_none}
 use Rattle.sgb_gen.proofs.accepted.subsets.pairs.put_ended.Goals as goal
