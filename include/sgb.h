@@ -34,8 +34,7 @@
  * a handle that is open already, a text that is too large, and what is wrong with the arrays of sgb_make.
  *
  * Stack. A generator's call is opened with at most 64 KB of stack, any other expression with at most 96 KB and 36 KB
- * more for each pair of parentheses in one another, of which there may be 64. sgb_arcs takes at most 160 KB, all other
- * calls 64 KB.
+ * more for each pair of parentheses in one another, of which there may be 64. All other calls take at most 64 KB.
  *
  * Threads. A handle is used by one call at a time; several handles may be open, and used by many threads at once. That
  * a handle may go to another thread, under a lock, is not proved: the library keeps nothing of a thread's.

@@ -4,8 +4,8 @@
  *                             answer of sgb_open where there is no graph; else the listing of the run, and the file
  *     c_many leaks N FILE     N openings and closings of each kind, where FILE is a `.gb` file: the process is as large
  *                             as before
- *     c_many stack KB OPEN ARCS EXPR    each call in a thread of KB kilobytes, sgb_open and sgb_arcs in others: how many
- *                             bytes of its stack it touches, a line each
+ *     c_many stack KB OPEN EXPR         each call in a thread of KB kilobytes, sgb_open in one of OPEN: how many bytes of
+ *                             its stack it touches, a line each
  *     c_many threads N EXPR.. N threads, each with graphs of its own and one that they share under a lock
  *     c_many great EXPR       opens the graph: seconds of a processor, the arcs on its lists, kilobytes held at most
  *
@@ -194,7 +194,7 @@ static size_t touched(int which, size_t bytes) {
     return touched_by(in_thread, bytes);
 }
 
-static int stack(size_t bytes, size_t of_open, size_t of_arcs, const char *now) {
+static int stack(size_t bytes, size_t of_open, const char *now) {
     set_text(now);
     open_graph();
     must(sgb_file_size(&graph, &size.file), SGB_OK, "sgb_file_size");
@@ -211,7 +211,7 @@ static int stack(size_t bytes, size_t of_open, size_t of_arcs, const char *now) 
     must(answer_of, SGB_OK, "sgb_open in a thread");
     for (int which = 0; which < CALLS; which++) {
         for (int k = 0; k < 3; k++) lens_of[k] = places(which, k);
-        printf("%s %zu\n", call_names[which], touched(which, which == ARCS ? of_arcs : bytes) - least);
+        printf("%s %zu\n", call_names[which], touched(which, bytes) - least);
         if (which != INTS) must(answer_of, SGB_OK, call_names[which]);
     }
     lens_of[1] = size.listed;
@@ -295,8 +295,8 @@ int main(int words_len, char **words) {
     if (words_len < 3) fail("usage");
     input = whole(stdin, &input_len);
     int status = 2;
-    if (words_len == 6 && strcmp(words[1], "stack") == 0)
-        status = stack(strtoul(words[2], NULL, 10) << 10, strtoul(words[3], NULL, 10) << 10, strtoul(words[4], NULL, 10) << 10, words[5]);
+    if (words_len == 5 && strcmp(words[1], "stack") == 0)
+        status = stack(strtoul(words[2], NULL, 10) << 10, strtoul(words[3], NULL, 10) << 10, words[4]);
     if (words_len >= 4 && strcmp(words[1], "threads") == 0) status = threads(atoi(words[2]), words + 3, words_len - 3);
     if (words_len == 3 && strcmp(words[1], "great") == 0) status = great(words[2]);
     free(input);

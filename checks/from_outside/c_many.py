@@ -144,7 +144,7 @@ def leaks(program):
 
 def stack_said():
     """What include/sgb.h says that calls touch of their stack, in bytes: to open a generator's call, any other expression, and for
-    each pair of parentheses in it, of sgb_arcs, and of all others."""
+    each pair of parentheses in it, and of all other calls."""
     with open(HEADER, encoding="utf-8") as file:
         text = re.sub(r"\n \* ?", " ", file.read())
     return [1024 * int(number) for number in re.findall(r"([0-9]+) KB", re.search(r" Stack[.] .*? (?=Threads[.])", text)[0])]
@@ -159,6 +159,7 @@ def nested(depth, of="petersen()"):
 STACKS = [
     ("board(8,8,0,0,-1,0,0)", 1), ("board(3,3,3,0,2,7,0)", 1), ("board(2,-9,0,0,1,0,0)", 1), ("complete(50)", 1),
     ("simplex(10,-3,0,0,0,0,0)", 1), ("simplex(4,2,2,2,2,0,1)", 1), ("subsets(3,2,2,2,0,0,3,0)", 1), ("disjoint_subsets(8,3)", 1),
+    ("disjoint_subsets(12,5)", 1),
     ("petersen()", 1), ("complement(petersen(),0,0,0)", 2), ("gunion(petersen(),complete(9),0,0)", 2),
     ("intersection(complete(4),circuit(4),1,1)", 2), ("lines(complete(9),0)", 2), ("product(petersen(),complete(2),2,0)", 2),
     ("induced(complete(3),[1,2,circuit(3)],0,0,0)", 2), ("bi_complete(2,3,0)", 1), ("wheel(5,1,0)", 1), ("stdin", 0),
@@ -166,18 +167,18 @@ STACKS = [
 
 
 def stack(runs, tally):
-    """Calls in a thread with a stack of 128 KB, sgb_arcs and expressions in one another with more: they touch no more of it than
+    """Calls in a thread with a stack of 128 KB, and expressions in one another opened with more: they touch no more of it than
     sgb.h says."""
     path = many(runs, tally, "c_many", "-Wl,-z,now")
     if not path:
         return
-    generator, other, pair, arcs, all_else = stack_said()
+    generator, other, pair, all_else = stack_said()
     deep = [(nested(depth), depth) for depth in (2, 8, 32, 64)] + [("product(" * 63 + "complete(1)" + ",complete(1),0,0)" * 63, 64)]
     most = {}
     for text, depth in STACKS + deep:
         is_generator = c_library.is_generator(text)
-        allowed = {"sgb_open": generator if is_generator else other + pair * depth, "sgb_arcs": arcs}
-        words = ("stack", str(STACK), str(STACK if is_generator else 4096), "256", text)
+        allowed = {"sgb_open": generator if is_generator else other + pair * depth}
+        words = ("stack", str(STACK), str(STACK if is_generator else 4096), text)
         status, out, err = c_library.ran(path, *words, given=c_library.SHARED)
         tally.check(status == 0 and not err, path, *words, "gave", (status, out, err))
         for line in out.decode().splitlines():

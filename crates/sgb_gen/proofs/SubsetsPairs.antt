@@ -1,16 +1,16 @@
 -- Pairs of subsets counted by a table: by the first entries of both vectors.
-use Rattle.std.proofs.Common.{◌≡◌, ℕ, zero, suc, ◌+◌, ◌-◌, ◌*◌, ◌<◌, ◌≤◌, min, max, Bool, cond, ◌/◌, ◌%◌, List, [], ◌∷◌, ◌++◌, length, map, reverse, refl, sym, ap, ap₂, ◌∙◌, arith, get_or}
-use Rattle.std.proofs.lemmas.Bool.{le-ltb}
-use Rattle.std.proofs.lemmas.List.FromFn.{get_or-map-range_with_len, length-map-range_with_len}
+use Rattle.std.proofs.Common.{◌≡◌, ℕ, zero, suc, ◌+◌, ◌-◌, ◌*◌, ◌<◌, ◌≤◌, min, max, Bool, cond, ◌/◌, ◌%◌, List, [], ◌∷◌, ◌++◌, length, map, reverse, refl, sym, ap, ap₂, subst, ◌∙◌, arith, get_or, drop, replicate, set, inl, inr}
+use Rattle.std.proofs.lemmas.Bool.{cases_lt}
+use Rattle.std.proofs.lemmas.List.{drop_all, drop_more, get_or-set_same, get_or-set_other}
 use Rattle.sgb_vec.specs.Boxes.{box}
 use Rattle.sgb_vec.specs.Limits.{most_vertices}
 use Rattle.sgb_vec.specs.Sums.{bounded_sums}
 use Rattle.sgb_vec.proofs.Lists.{reverse-first}
 use Rattle.sgb_gen.specs.Subsets.{is_wanted_size}
 use Rattle.sgb_gen.specs.inner.Descents.{row, rows}
-use Rattle.sgb_gen.specs.inner.SubsetsPairs.{cell_at, cell_of, kept, pairs_among, pairs_of_sums, table_of}
+use Rattle.sgb_gen.specs.inner.SubsetsPairs.{HasPairs, HasTurnedPairs, kept, pair_cell, pairs_among, pairs_of_sums, place_of_pairs}
 use Rattle.sgb_gen.proofs.Descents.{row-within, rows-end, sums-past, sums-rows}
-use Rattle.sgb_gen.proofs.SubsetsCounts.{among-append, among-most, among-reverse, among-row}
+use Rattle.sgb_gen.proofs.SubsetsCounts.{among-append, among-most, among-reverse, among-row, among-zeros}
 
 -- ---- pairs of two lists
 
@@ -73,36 +73,174 @@ rows-of_all r b bs =
 pub pairs-all : (sb c q r b : ℕ) (bs : List ℕ) → pairs_among sb c (rows q bs 0 (min q b + 1)) (rows r bs 0 (min r b + 1)) ≡ pairs_of_sums sb (b ∷ bs) q r c
 pairs-all sb c q r b bs = grind (arith, rows-of_all, pairs-reverse_first, reverse, pairs-reverse_second)
 
--- ---- the table
+-- ---- the places of the table
 
--- a cell that is within what the table is for
-pub cell-within : (sb total : ℕ) (bs : List ℕ) (q r c : ℕ) → q + c ≤ total → r ≤ total → cell_of sb total bs q r c ≡ kept (pairs_of_sums sb bs q r c)
-cell-within sb total bs q r c first second =
-    ap (λ (past : Bool). cond past 0 (kept (pairs_of_sums sb bs q r c))) (le-ltb total (max r (q + c)) (omega (arith, first, second)))
+pub place-low : (f s c : ℕ) → c < 10 → (f * 20 + s) * 10 + c ≡ place_of_pairs f s c
+place-low f s c low = grind (arith)
 
--- where a cell stands
-pub cell-there : (sb total : ℕ) (bs : List ℕ) (q r c d : ℕ) → q + c < 20 → r < 20 → get_or (table_of sb total bs) ((q * 20 + r) * 20 + c) d ≡ cell_of sb total bs q r c
-unfolding table_of
-cell-there sb total bs q r c d first second =
-    let place : ℕ = (q * 20 + r) * 20 + c in
-    get_or-map-range_with_len (cell_at sb total bs) 0 8000 place place d (omega (arith, first, second)) (omega arith)
-    ∙ ap (λ n. cell_of sb total bs n (place / 20 % 20) (place % 20)) {x = place / 400} {y = q} (omega (arith, first, second))
-    ∙ ap (λ n. cell_of sb total bs q n (place % 20)) {x = place / 20 % 20} {y = r} (omega (arith, first, second))
-    ∙ ap (cell_of sb total bs q r) {x = place % 20} {y = c} (omega (arith, first, second))
+pub place-high : (f s c : ℕ) → 10 ≤ c → 4000 + (f * 10 + s) * 10 + (c - 10) ≡ place_of_pairs f s c
+place-high f s c high = grind (arith)
 
-pub table-length : (sb total : ℕ) (bs : List ℕ) → length (table_of sb total bs) ≡ 8000
-unfolding table_of
-table-length sb total bs = length-map-range_with_len (cell_at sb total bs) 0 8000
+-- no two cells have one place
+place-apart : (f s c g t d : ℕ) → max f s + c < 20 → max g t + d < 20 → place_of_pairs f s c ≡ place_of_pairs g t d → (f * 20 + s) * 20 + c ≡ (g * 20 + t) * 20 + d
+place-apart f s c g t d one other same =
+    elim (cases_lt c 10) [
+      | inl low ↦
+          elim (cases_lt d 10) [
+            | inl also ↦ omega (arith, one, other, same, low, also, place-low f s c low, place-low g t d also)
+            | inr not ↦ omega (arith, one, other, same, low, not, place-low f s c low, place-high g t d not)
+          ]
+      | inr high ↦
+          elim (cases_lt d 10) [
+            | inl not ↦ omega (arith, one, other, same, high, not, place-high f s c high, place-low g t d not)
+            | inr also ↦ omega (arith, one, other, same, high, also, place-high f s c high, place-high g t d also)
+          ]
+    ]
 
-pub cell-found : (sb total : ℕ) (bs : List ℕ) (x y q r c shared found : ℕ) → x ≤ q → y ≤ r → q + c ≤ total → r ≤ total → shared ≡ min x y
-    → found ≡ cell_of sb total bs (q - x) (r - y) (c + shared) → found ≡ kept (pairs_of_sums sb bs (q - x) (r - y) (c + min x y))
-cell-found sb total bs x y q r c shared found first second room other lesser is =
-    cc (is, lesser, cell-within sb total bs (q - x) (r - y) (c + min x y) (omega (arith, first, room)) (omega (arith, other)))
+-- what a turn is of
+first_of : (n f s c : ℕ) → n ≡ (f * 20 + s) * 20 + c → s < 20 → c < 20 → n / 400 ≡ f
+first_of n f s c is second common = omega (arith, is, second, common)
 
-pub last-some : (sb total q r c : ℕ) → 0 < q + r → 0 ≡ cell_of sb total [] q r c
-last-some sb total zero r c some = grind (arith, max, pairs-none, sums-past)
-last-some sb total (suc q) r c some = grind (arith, max, sums-past)
+second_of : (n f s c : ℕ) → n ≡ (f * 20 + s) * 20 + c → s < 20 → c < 20 → n / 20 % 20 ≡ s
+second_of n f s c is second common = omega (arith, is, second, common)
 
-pub last-zero : (sb total q r c : ℕ) (wanted : Bool) → q + r ≡ 0 → c ≤ total → is_wanted_size sb c ≡ wanted → kept (cond wanted 1 0) ≡ cell_of sb total [] q r c
+common_of : (n f s c : ℕ) → n ≡ (f * 20 + s) * 20 + c → s < 20 → c < 20 → n % 20 ≡ c
+common_of n f s c is second common = omega (arith, is, second, common)
+
+-- ---- no bounds
+
+pub pairs-ended : (sb c : ℕ) (wanted : Bool) → is_wanted_size sb c ≡ wanted → kept (cond wanted 1 0) ≡ pair_cell sb [] 0 0 c
 unfolding bounded_sums box
-last-zero sb total q r c wanted none within is = grind (arith, cell-within)
+pairs-ended sb c wanted is =
+    let one : bounded_sums 0 [] ≡ [] ∷ [] = refl in
+    let vs = bounded_sums 0 [] in
+    ap kept (
+    ap (λ (b : Bool). cond b 1 0) (sym is)
+    ∙ among-zeros sb c 0 [] [] refl
+    ∙ among-reverse sb c [] vs
+    ∙ omega (arith, ap (λ us. pairs_among sb c us vs) one)
+    )
+
+none_first : (sb f s c : ℕ) → 0 < f → 0 ≡ pair_cell sb [] f s c
+none_first sb f s c some = sym (ap (λ us. kept (pairs_among sb c us (bounded_sums s []))) (sums-past f [] (omega (arith, some))))
+
+none_second : (sb f s c : ℕ) → 0 < s → 0 ≡ pair_cell sb [] f s c
+none_second sb f s c some =
+    pairs-none sb c (bounded_sums f []) ∙ sym (ap (λ vs. kept (pairs_among sb c (bounded_sums f []) vs)) (sums-past s [] (omega (arith, some))))
+
+-- the cells so far
+pub record HasEndedPairs (sb n : ℕ) (table : List ℕ) : Type 0 where
+  pub done : (c : ℕ) → c < n → c < 20 → get_or table (place_of_pairs 0 0 c) 0 ≡ pair_cell sb [] 0 0 c
+  pub left : (f s c : ℕ) → max f s + c < 20 → n ≤ (f * 20 + s) * 20 + c → get_or table (place_of_pairs f s c) 0 ≡ 0
+
+zeros : (n i : ℕ) → ◌≡◌ {A = ℕ} (get_or (replicate n 0) i 0) 0
+zeros zero i = refl
+zeros (suc n) zero = refl
+zeros (suc n) (suc i) = zeros n i
+
+pub pairs-ended_none : (sb n : ℕ) (table : List ℕ) → table ≡ replicate n 0 → HasEndedPairs sb 0 table
+pairs-ended_none sb n table is = record {
+  done = λ c low few. absurd (omega (arith, low));
+  left = λ f s c few high. ap (λ xs. get_or xs (place_of_pairs f s c) 0) is ∙ zeros n (place_of_pairs f s c);
+}
+
+pub pairs-ended_more : (sb n place count : ℕ) (table : List ℕ) → n < 20 → place < length table → place ≡ place_of_pairs 0 0 n → count ≡ pair_cell sb [] 0 0 n → HasEndedPairs sb n table → HasEndedPairs sb (n + 1) (set table place count)
+pairs-ended_more sb n place count table small within place_is is so = record {
+  done = λ c low few.
+      elim (cases_lt c n) [
+        | inl earlier ↦
+            get_or-set_other table place (place_of_pairs 0 0 c) count 0 (λ same. omega (arith, place-apart 0 0 c 0 0 n (omega (arith, few)) (omega (arith, small)) (same ∙ place_is), earlier))
+            ∙ so.done c earlier few
+        | inr late ↦
+            let here : n ≡ c = omega (arith, low, late) in
+            ap (λ i. get_or (set table place count) i 0) (sym (place_is ∙ ap (place_of_pairs 0 0) here))
+            ∙ get_or-set_same table place count 0 within
+            ∙ is
+            ∙ ap (pair_cell sb [] 0 0) here
+      ];
+  left = λ f s c few high.
+      get_or-set_other table place (place_of_pairs f s c) count 0 (λ same. omega (arith, place-apart f s c 0 0 n few (omega (arith, small)) (same ∙ place_is), high))
+      ∙ so.left f s c few (omega (arith, high));
+}
+
+pub pairs-ended_all : (sb total n : ℕ) (table : List ℕ) → n ≡ total + 1 → total < 20 → HasEndedPairs sb n table → HasPairs sb total [] table
+pairs-ended_all sb total n table all small so zero zero c within = so.done c (omega (arith, all, within)) (omega (arith, small, within))
+pairs-ended_all sb total n table all small so zero (suc s) c within =
+    so.left zero (suc s) c (omega (arith, small, within)) (omega (arith, all, small)) ∙ none_second sb zero (suc s) c (omega arith)
+pairs-ended_all sb total n table all small so (suc f) s c within =
+    so.left (suc f) s c (omega (arith, small, within)) (omega (arith, all, small)) ∙ none_first sb (suc f) s c (omega arith)
+
+-- ---- one bound more
+
+pub pairs-turned_none : (sb total n bound : ℕ) (bounds table : List ℕ) → n ≡ (total + 1) * 20 * 20 → total < 20 → HasPairs sb total bounds table → HasTurnedPairs sb total n bound bounds table
+pairs-turned_none sb total n bound bounds table all small has = record {
+  before = λ f s c within low. has f s c within;
+  from = λ f s c within high. absurd (omega (arith, all, small, within, high));
+}
+
+pub pairs-turned_all : (sb total n bound : ℕ) (bounds table : List ℕ) → n ≤ 0 → HasTurnedPairs sb total n bound bounds table → HasPairs sb total (bound ∷ bounds) table
+pairs-turned_all sb total n bound bounds table none so f s c within = so.from f s c within (omega (arith, none))
+
+-- a turn of no cell
+pub pairs-turned_past : (sb total n bound : ℕ) (bounds table : List ℕ) → total < 20 → total < max ((n - 1) / 400) ((n - 1) / 20 % 20) + (n - 1) % 20 → 0 < n → HasTurnedPairs sb total n bound bounds table → HasTurnedPairs sb total (n - 1) bound bounds table
+pairs-turned_past sb total n bound bounds table small past some so = record {
+  before = λ f s c within low. so.before f s c within (omega (arith, low));
+  from = λ f s c within high.
+      elim (cases_lt (n - 1) ((f * 20 + s) * 20 + c)) [
+        | inl later ↦ so.from f s c within (omega (arith, later))
+        | inr here ↦
+            let is : n - 1 ≡ (f * 20 + s) * 20 + c = omega (arith, high, here) in
+            let second : s < 20 = omega (arith, within, small) in
+            let common : c < 20 = omega (arith, within, small) in
+            absurd (omega (arith, past, within, first_of (n - 1) f s c is second common, second_of (n - 1) f s c is second common, common_of (n - 1) f s c is second common))
+      ];
+}
+
+-- a turn of a cell
+pub pairs-turned_more : (sb total n bound place count f s c : ℕ) (bounds table : List ℕ) → total < 20 → max f s + c ≤ total → n - 1 ≡ (f * 20 + s) * 20 + c → 0 < n → place < length table → place ≡ place_of_pairs f s c
+    → count ≡ pair_cell sb (bound ∷ bounds) f s c
+    → HasTurnedPairs sb total n bound bounds table → HasTurnedPairs sb total (n - 1) bound bounds (set table place count)
+pairs-turned_more sb total n bound place count f s c bounds table small inside turn some within place_is is so = record {
+  before = λ g t d few low.
+      get_or-set_other table place (place_of_pairs g t d) count 0
+      (λ same. omega (arith, place-apart g t d f s c (omega (arith, few, small)) (omega (arith, inside, small)) (same ∙ place_is), turn, low))
+      ∙ so.before g t d few (omega (arith, low));
+  from = λ g t d few high.
+      elim (cases_lt (n - 1) ((g * 20 + t) * 20 + d)) [
+        | inl later ↦
+            get_or-set_other table place (place_of_pairs g t d) count 0
+            (λ same. omega (arith, place-apart g t d f s c (omega (arith, few, small)) (omega (arith, inside, small)) (same ∙ place_is), turn, later))
+            ∙ so.from g t d few (omega (arith, later))
+        | inr here ↦
+            let also : n - 1 ≡ (g * 20 + t) * 20 + d = omega (arith, high, here) in
+            let first_is : f ≡ g = omega (arith, turn, also, few, inside, small) in
+            let second_is : s ≡ t = omega (arith, turn, also, few, inside, small) in
+            let common_is : c ≡ d = omega (arith, turn, also, few, inside, small) in
+            let there : place ≡ place_of_pairs g t d = place_is ∙ cc (first_is, second_is, common_is) in
+            let cell : pair_cell sb (bound ∷ bounds) f s c ≡ pair_cell sb (bound ∷ bounds) g t d = cc (first_is, second_is, common_is) in
+            ap (λ i. get_or (set table place count) i 0) (sym there)
+            ∙ get_or-set_same table place count 0 within
+            ∙ is
+            ∙ cell
+      ];
+}
+
+-- the cell of two entries
+pub pairs-read : (sb total c f s x y shared place bound : ℕ) (bounds table : List ℕ) → max f s + c ≤ total → x ≤ f → y ≤ s → shared ≡ c + min x y → place ≡ place_of_pairs (f - x) (s - y) shared
+    → HasTurnedPairs sb total ((f * 20 + s) * 20 + c + 1) bound bounds table
+    → get_or table place 0 ≡ kept (pairs_of_sums sb bounds (f - x) (s - y) (c + min x y))
+pairs-read sb total c f s x y shared place bound bounds table within first second shared_is place_is so =
+    ap (λ p. get_or table p 0) (place_is ∙ ap (place_of_pairs (f - x) (s - y)) shared_is)
+    ∙ so.before (f - x) (s - y) (c + min x y) (omega (arith, within, first, second)) (omega (arith, within, first, second))
+
+-- ---- all bounds
+
+pub pairs-none_in : (sb total k : ℕ) (bounds table : List ℕ) → length bounds ≤ k → HasPairs sb total [] table → HasPairs sb total (drop k bounds) table
+pairs-none_in sb total k bounds table all has = subst (λ bs. HasPairs sb total bs table) (sym (drop_all k bounds all)) has
+
+pub pairs-one_in : (sb total k bound : ℕ) (bounds table : List ℕ) → 0 < k → k ≤ length bounds → bound ≡ get_or bounds (k - 1) 0 → HasPairs sb total (bound ∷ drop k bounds) table → HasPairs sb total (drop (k - 1) bounds) table
+pairs-one_in sb total k bound bounds table some within bound_is has =
+    let next : k - 1 + 1 ≡ k = omega (arith, some) in
+    let first : drop (k - 1) bounds ≡ bound ∷ drop k bounds =
+    drop_more bounds (k - 1) 0 (omega (arith, some, within)) ∙ ap₂ (λ h n. h ∷ drop n bounds) (sym bound_is) next in
+    subst (λ bs. HasPairs sb total bs table) (sym first) has

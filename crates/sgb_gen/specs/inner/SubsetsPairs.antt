@@ -1,6 +1,5 @@
 -- How many ordered pairs of subsets have a wanted size in common, and the table by which they are counted.
-use Rattle.std.specs.Prelude.{ℕ, ◌+◌, ◌-◌, ◌/◌, ◌%◌, ◌^◌, min, max, nat_lt, List, [], ◌∷◌, map, if◌then◌else◌}
-use Rattle.std.specs.List.{range_with_len}
+use Rattle.std.specs.Prelude.{◌≡◌, ℕ, ◌+◌, ◌-◌, ◌*◌, ◌^◌, ◌<◌, ◌≤◌, min, max, nat_lt, List, [], ◌∷◌, slice_index, if◌then◌else◌}
 use Rattle.sgb_vec.specs.Sums.{bounded_sums}
 use Rattle.sgb_gen.specs.inner.SubsetsCounts.{wanted_among}
 
@@ -18,15 +17,21 @@ pairs_of_sums size_bits bounds first second common =
 abbrev pub kept : ℕ → ℕ
 kept count = min count (2 ^ 64 - 1)
 
--- what a table for sums up to `total` has for two sums and what is in common before: nothing where these are too great
-abbrev pub cell_of : ℕ → ℕ → List ℕ → ℕ → ℕ → ℕ → ℕ
-cell_of size_bits total bounds first second common =
-    if nat_lt total (max second (first + common)) then 0 else kept (pairs_of_sums size_bits bounds first second common)
+-- what a cell has for two sums and what is in common before
+abbrev pub pair_cell : ℕ → List ℕ → ℕ → ℕ → ℕ → ℕ
+pair_cell size_bits bounds first second common = kept (pairs_of_sums size_bits bounds first second common)
 
--- the cell at a place of the table, which has room for sums below 20
-abbrev pub cell_at : ℕ → ℕ → List ℕ → ℕ → ℕ
-cell_at size_bits total bounds place = cell_of size_bits total bounds (place / 400) (place / 20 % 20) (place % 20)
+-- where it stands: those with less than 10 in common before come first, and then the others, whose sums are below 10
+abbrev pub place_of_pairs : ℕ → ℕ → ℕ → ℕ
+place_of_pairs first second common =
+    if nat_lt common 10 then (first * 20 + second) * 10 + common else 4000 + (first * 10 + second) * 10 + (common - 10)
 
--- the table of the vectors within the bounds
-unfoldable pub table_of : ℕ → ℕ → List ℕ → List ℕ
-table_of size_bits total bounds = map (cell_at size_bits total bounds) (range_with_len 0 8000)
+-- the table of the vectors within the bounds, with room for sums below 20
+abbrev pub HasPairs : ℕ → ℕ → List ℕ → List ℕ → Type 0
+HasPairs size_bits total bounds table =
+    (first second common : ℕ) → max first second + common ≤ total → slice_index table (place_of_pairs first second common) ≡ pair_cell size_bits bounds first second common
+
+-- from a turn on the cells are those with one bound more, which stands before the others
+pub record HasTurnedPairs (size_bits total turn bound : ℕ) (bounds table : List ℕ) : Type 0 where
+  pub before : (first second common : ℕ) → max first second + common ≤ total → (first * 20 + second) * 20 + common < turn → slice_index table (place_of_pairs first second common) ≡ pair_cell size_bits bounds first second common
+  pub from : (first second common : ℕ) → max first second + common ≤ total → turn ≤ (first * 20 + second) * 20 + common → slice_index table (place_of_pairs first second common) ≡ pair_cell size_bits (bound ∷ bounds) first second common

@@ -1,27 +1,34 @@
 //! The number of moves of many subsets whose sum is small, by the pairs of vectors with a wanted size in common. A table
 //! has how many there are of two sums, and with how many elements in common before; it begins with no bounds, and each of
-//! the bounds, from the last to the first, makes the next table of it.
-ghost use Rattle.std.specs.Prelude.{◌≡◌, ◌+◌, ◌*◌, ◌^◌, ◌≤◌, ◌<◌, ◌∷◌, [], ℕ, List, min, length, if◌then◌else◌};
+//! the bounds, from the last to the first, is taken in, in the same table: there is no room for two on a small stack.
+//!
+//! Neither sum and what is in common before add to more than all, so where 10 or more are in common both sums are below 10.
+ghost use Rattle.std.specs.Prelude.{◌≡◌, ◌+◌, ◌*◌, ◌≤◌, ◌<◌, ◌∷◌, [], ℕ, List, min, max, length, replicate, if◌then◌else◌};
 ghost use Rattle.std.specs.Bool.{OnTrue};
 ghost use Rattle.sgb_vec.specs.Limits.{most_vertices};
 ghost use Rattle.sgb_gen.specs.Subsets.{is_wanted_size, moves_of_subsets, subsets_vectors};
 ghost use Rattle.sgb_gen.specs.inner.Descents.{row, rows};
-ghost use Rattle.sgb_gen.specs.inner.SubsetsPairs.{cell_of, kept, pairs_among, table_of};
+ghost use Rattle.sgb_gen.specs.inner.SubsetsPairs.{HasPairs, HasTurnedPairs, kept, pair_cell, pairs_among, place_of_pairs};
 
 use super::{Subsets, is_wanted};
-use arrayvec::ArrayVec;
 use sgb_vec::Family;
 
 // A table has room for sums below this.
 const SIDE: usize = 20;
 
-// The cells of a table: two sums, and what is in common before.
-const CELLS: usize = SIDE * SIDE * SIDE;
+// Where more are in common before, both sums are below this.
+const HALF: usize = SIDE / 2;
+
+// The cells where fewer are in common before: two sums, and what is in common.
+const FIRST_CELLS: usize = SIDE * SIDE * HALF;
+
+// All cells.
+const CELLS: usize = FIRST_CELLS + HALF * HALF * HALF;
 
 // More vectors than these are never walked.
 const MOST_WALKED: u32 = 8_000;
 
-type PairTable = ArrayVec<u64, CELLS>;
+type PairTable = [u64; CELLS];
 
 impl Subsets {
     // Whether the moves are counted by pairs: where the vectors are many, and the table has room for their sum.
@@ -41,7 +48,8 @@ impl Subsets {
         (self.pairs_count() + self.loops_count()) / 2
     }
 
-    // How many pairs of vectors have a wanted size in common.
+    // How many pairs of vectors have a wanted size in common. Its table stands on the stack for this call alone.
+    #[inline(never)]
     fn pairs_count(&self) -> u64
         requires small { self.now.sum.total < 20 }
         ensures count { result ≡ pairs_among self.now.size_bits 0 (subsets_vectors self.now)
@@ -50,11 +58,13 @@ impl Subsets {
     {
         let total = self.family.total() as usize;
         let bounds = self.sizes();
-        let mut table = last_table(self.size_bits, total);
+        let mut table = [0; CELLS];
+        put_ended(&mut table, self.size_bits, total);
         for k in (0..bounds.len()).rev() {
-            table = table_before(table.as_slice(), total, bounds[k] as usize);
+            take_in(&mut table, total, bounds[k] as usize);
         }
-        cell(table.as_slice(), total, total, 0)
+        let last = place_of_pairs(total, total, 0);
+        table[last]
     }
 
     // How many vectors have a wanted size in common with themselves: all of them or none.
@@ -80,112 +90,94 @@ fn most_walked(total: u32, bounds: &[u32]) -> u32 {
     most.min(MOST_WALKED)
 }
 
-// The table of no bounds.
-fn last_table(size_bits: u128, total: usize) -> PairTable
-    ensures { result.items ≡ table_of size_bits total [] }
+// Makes an empty table that of no bounds: there is one vector, which adds to 0, and its pair with itself.
+fn put_ended(table: &mut PairTable, size_bits: u128, total: usize)
+    requires empty { table.old ≡ replicate 5000 0 }
+    requires small { total < 20 }
+    ensures { HasPairs size_bits total [] table.new }
 {
-    let mut table = PairTable::new();
-    for place in 0..CELLS {
-        table.push(last_cell(
-            size_bits,
-            total,
-            place / (SIDE * SIDE),
-            place / SIDE % SIDE,
-            place % SIDE,
-        ));
+    for common in 0..total + 1 {
+        let place = place_of_pairs(0, 0, common);
+        table[place] = count_ended(size_bits, common);
     }
-    table
 }
 
-// A cell of it: with no bounds there is one vector, which has no entry and adds to 0.
-fn last_cell(size_bits: u128, total: usize, first: usize, second: usize, common: usize) -> u64
-    requires few { first + second + common < 2 ^ 32 }
-    ensures { result ≡ cell_of size_bits total [] first second common }
+// A cell of it, where nothing is left to be placed.
+fn count_ended(size_bits: u128, common: usize) -> u64
+    ensures { result ≡ pair_cell size_bits [] 0 0 common }
 {
-    if first + second > 0 {
-        return 0;
-    }
-    if common > total {
-        return 0;
-    }
     if is_wanted(size_bits, common as u64) {
         return 1;
     }
     0
 }
 
-// The table with one bound more, which stands before the others.
-fn table_before(table: &[u64], total: usize, bound: usize) -> PairTable
-    requires cells { length table.now ≡ 8000 }
-    requires small { total < 20 }
-    requires bound { bound < 2 ^ 32 }
-    ensures { (size_bits : ℕ) (bounds : List ℕ) → table.now ≡ table_of size_bits total bounds
-        → result.items ≡ table_of size_bits total (bound ∷ bounds) }
+// Where the table has these two sums, with what is in common before.
+fn place_of_pairs(first: usize, second: usize, common: usize) -> usize
+    requires { max first second + common < 20 }
+    ensures value { result ≡ place_of_pairs first second common }
+    ensures few { result < 5000 }
 {
-    let mut longer = PairTable::new();
-    for place in 0..CELLS {
-        longer.push(cell_before(
-            table,
-            total,
-            bound,
-            place / (SIDE * SIDE),
-            place / SIDE % SIDE,
-            place % SIDE,
-        ));
+    if common < HALF {
+        return (first * SIDE + second) * HALF + common;
     }
-    longer
+    FIRST_CELLS + (first * HALF + second) * HALF + (common - HALF)
 }
 
-// A cell of it: the pairs by the first entry of their first vector.
-fn cell_before(
-    table: &[u64],
-    total: usize,
-    bound: usize,
-    first: usize,
-    second: usize,
-    common: usize,
-) -> u64
-    requires cells { length table.now ≡ 8000 }
-    requires small { total < 20 }
-    requires few { first + common < 2 ^ 32 }
-    ensures { (size_bits : ℕ) (bounds : List ℕ) → table.now ≡ table_of size_bits total bounds
-        → result ≡ cell_of size_bits total (bound ∷ bounds) first second common }
+// Takes one bound more in, which stands before the others. A cell is made of itself and of some with lesser sums, so those with
+// the greatest sums are turned first.
+fn take_in(table: &mut PairTable, total: usize, bound: usize)
+    requires { total < 20 }
+    ensures { (size_bits : ℕ) (bounds : List ℕ) → HasPairs size_bits total bounds table.old
+        → HasPairs size_bits total (bound ∷ bounds) table.new }
 {
-    if second.max(first + common) > total {
-        return 0;
+    for turn in (0..(total + 1) * SIDE * SIDE).rev() {
+        let first = turn / (SIDE * SIDE);
+        let second = turn / SIDE % SIDE;
+        let common = turn % SIDE;
+        let most = first.max(second) + common;
+        if most <= total {
+            let place = place_of_pairs(first, second, common);
+            table[place] = count_pairs(table, bound, first, second, common);
+        }
     }
+}
+
+// A cell with the bound: the pairs by the first entry of their first vector.
+fn count_pairs(table: &PairTable, bound: usize, first: usize, second: usize, common: usize) -> u64
+    requires { max first second + common < 20 }
+    ensures { (size_bits total : ℕ) (bounds : List ℕ) → max first second + common ≤ total
+        → HasTurnedPairs size_bits total ((first * 20 + second) * 20 + common + 1) bound bounds table.now
+        → result ≡ pair_cell size_bits (bound ∷ bounds) first second common }
+{
     let mut counted: u64 = 0;
     for entry in 0..first.min(bound) + 1 {
-        counted = counted.saturating_add(count_row(
-            table, total, bound, first, entry, second, common,
-        ));
+        counted = counted.saturating_add(count_row(table, bound, first, entry, second, common));
     }
     counted
 }
 
 // The pairs whose first vector begins with this entry, by the first entry of the second one.
 fn count_row(
-    table: &[u64],
-    total: usize,
+    table: &PairTable,
     bound: usize,
     first: usize,
     entry: usize,
     second: usize,
     common: usize,
 ) -> u64
-    requires cells { length table.now ≡ 8000 }
-    requires small { total < 20 }
     requires entry { entry ≤ first }
-    requires first { first + common ≤ total }
-    requires second { second ≤ total }
-    ensures { (size_bits : ℕ) (bounds : List ℕ) → table.now ≡ table_of size_bits total bounds
+    requires small { max first second + common < 20 }
+    ensures { (size_bits total : ℕ) (bounds : List ℕ) → max first second + common ≤ total
+        → HasTurnedPairs size_bits total ((first * 20 + second) * 20 + common + 1) bound bounds table.now
         → result ≡ kept (pairs_among size_bits common (row first bounds entry)
         (rows second bounds 0 (min second bound + 1))) }
 {
     let mut counted: u64 = 0;
     for other in 0..second.min(bound) + 1 {
         let shared = common + lesser(entry, other);
-        counted = counted.saturating_add(cell(table, first - entry, second - other, shared));
+        let place = place_of_pairs(first - entry, second - other, shared);
+        counted = counted.saturating_add(table[place]);
     }
     counted
 }
@@ -195,15 +187,4 @@ fn lesser(x: usize, y: usize) -> usize
     ensures { result ≡ min x y }
 {
     x.min(y)
-}
-
-// What the table has for these sums.
-fn cell(table: &[u64], first: usize, second: usize, common: usize) -> u64
-    requires cells { length table.now ≡ 8000 }
-    requires first { first + common < 20 }
-    requires second { second < 20 }
-    ensures { (size_bits total : ℕ) (bounds : List ℕ) → table.now ≡ table_of size_bits total bounds
-        → result ≡ cell_of size_bits total bounds first second common }
-{
-    table[(first * SIDE + second) * SIDE + common]
 }

@@ -1,16 +1,27 @@
-use Rattle.std.proofs.Common.{rules}
+use Rattle.std.proofs.Common.{rules, ◌≡◌, ◌≤◌, drop, length, get_or, refl, ap, arith}
+use Rattle.sgb_vec.specs.Limits.{most_vertices}
+use Rattle.sgb_gen.specs.Subsets.{subsets_vectors}
 use Rattle.sgb_gen.proofs.SubsetsMovePairs.{pairs-found}
-use Rattle.sgb_gen.proofs.SubsetsPairs.{table-length}
+use Rattle.sgb_gen.proofs.SubsetsPairs.{pairs-none_in, pairs-one_in}
 use Rattle.sgb_gen.proofs.accepted.subsets.Subsets.pairs_count.Goals as goal
 
-pub table_before-table-requires-clause-cells : goal.table_before-table-requires-clause-cells
-table_before-table-requires-clause-cells c = search (rules, table-length)
+pub loop-k-init : goal.loop-k-init
+loop-k-init c = search (rules, pairs-none_in)
 
-pub cell-requires-clause-cells : goal.cell-requires-clause-cells
-cell-requires-clause-cells c = search (rules, table-length)
+pub loop-k-preserved : goal.loop-k-preserved
+loop-k-preserved c =
+    let bounds = c.sizes-bounds.result.now in
+    pairs-one_in c.args.self.now.size_bits c.total-total.result c.loop-k.k _ bounds c.take_in.new.table (omega arith) (omega arith) refl
+    (c.take_in.ensures c.args.self.now.size_bits (drop c.loop-k.k bounds) c.loop-k.invariant)
 
 pub returns-clause-count : goal.returns-clause-count
-returns-clause-count c = search (rules, pairs-found)
+returns-clause-count c =
+    let total_is : c.total-total.result ≡ c.args.self.now.sum.total = search rules in
+    let few : length (subsets_vectors c.args.self.now) ≤ most_vertices = search rules in
+    (pairs-found c.args.self.now c.total-total.result c.loop-k.k _ c.sizes-bounds.result.now c.loop-k.table total_is c.sizes-bounds.ensures (omega arith) few c.loop-k.invariant (ap (λ i. get_or c.loop-k.table i 0) c.place_of_pairs-last.ensures.value)).0
 
 pub returns-clause-few : goal.returns-clause-few
-returns-clause-few c = search (rules, pairs-found)
+returns-clause-few c =
+    let total_is : c.total-total.result ≡ c.args.self.now.sum.total = search rules in
+    let few : length (subsets_vectors c.args.self.now) ≤ most_vertices = search rules in
+    (pairs-found c.args.self.now c.total-total.result c.loop-k.k _ c.sizes-bounds.result.now c.loop-k.table total_is c.sizes-bounds.ensures (omega arith) few c.loop-k.invariant (ap (λ i. get_or c.loop-k.table i 0) c.place_of_pairs-last.ensures.value)).1
