@@ -1,14 +1,13 @@
 -- A reader of numbers in a radix.
-use Rattle.std.proofs.lemmas.Int.Digits.{digits_value-lt}
-use native.Mathlib.Nat.{pow-le-pow_right}
-use Rattle.std.proofs.Common.{◌^◌, lt_of_lt_of_le, ◌≡◌, ℕ, zero, suc, ◌<◌, ◌≤◌, ◌⊎◌, true, false, List, [], ◌∷◌, ◌++◌, length, Option, Some, Ok, Err, refl, sym, ◌∙◌, ap, subst, inl, inr, arith}
+use Rattle.std.proofs.Common.{◌≡◌, ℕ, zero, suc, ◌<◌, ◌≤◌, ◌⊎◌, true, false, List, [], ◌∷◌, ◌++◌, length, Option, Some, None, Ok, Err, refl, sym, ◌∙◌, ap, inl, inr, arith}
+use Rattle.std.specs.Prelude.{drop, if◌then◌else◌, nat_lt, ok_or}
 use Rattle.std.specs.Char.{digit_value, is_digit}
 use Rattle.std.specs.Str.Parse.{AllDigits, digits_value}
 use Rattle.std.proofs.Math.Seq.{drop-append_seam}
-use Rattle.std.proofs.lemmas.Bool.{cases_lt}
+use Rattle.std.proofs.lemmas.Bool.{cases_lt, lt-ltb}
 use Rattle.std.proofs.lemmas.List.{nil_from_length}
 use Rattle.sgb_text.specs.Numbers.{IsNumber}
-use Rattle.sgb_vec.specs.Digits.{leading_digits}
+use Rattle.sgb_vec.specs.Digits.{leading_digits, leading_number}
 use Rattle.sgb_vec.proofs.NamedNumbers.{first_byte}
 use Rattle.sgb_expr.specs.inner.Readings.{number_of_digits, number_at}
 use Rattle.sgb_text.proofs.Readers.{next, IsFound, Wrong, Reads, no_ok, ok_same}
@@ -129,13 +128,10 @@ reads_number radix most some room = record {
   some = (48 ∷ [], 0, zero_is_number radix most some room);
 }
 
--- the digits with which a text begins write a number below a power of the radix
-pub record Written (radix most : ℕ) (digits : List ℕ) : Type 0 where
-  pub all : AllDigits radix digits
-  pub small : digits_value radix digits < radix ^ most
+-- the number is the one of the first digits
+number_of_first : (radix : ℕ) (digits text : List ℕ) → number_of_digits radix digits text ≡ ok_or (if nat_lt 0 (length digits) then Some (digits_value radix digits, drop (length digits) text) else None) (length text)
+number_of_first radix [] text = refl
+number_of_first radix (digit ∷ digits) text = rw (lt-ltb 0 (length (digit ∷ digits)) (omega arith)) refl
 
-pub leading_written : (radix most : ℕ) (text digits : List ℕ) → 0 < radix → digits ≡ leading_digits radix most text → Written radix most digits
-leading_written radix most text digits some e =
-    let l = leading radix most text in
-    subst (λ (ds : List ℕ). Written radix most ds) (sym (e ∙ l.are))
-    (record { all = l.all; small = lt_of_lt_of_le (digits_value-lt radix l.digits l.all) (pow-le-pow_right some l.short) })
+pub number_is_leading : (radix most : ℕ) (text : List ℕ) → number_at radix most text ≡ ok_or (leading_number radix most text) (length text)
+number_is_leading radix most text = number_of_first radix (leading_digits radix most text) text

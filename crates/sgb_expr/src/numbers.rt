@@ -6,7 +6,7 @@ ghost use Rattle.sgb_text.proofs.Readings.{fixed_at};
 ghost use Rattle.sgb_expr.specs.inner.Readings.{bits_at, integer_at, number_at, integers_at, separator_before};
 
 use crate::wrong::Mismatch;
-use sgb_vec::{digits_value, leading_digits};
+use sgb_vec::leading_number;
 
 // A number has at most this many digits.
 const MOST_DIGITS: usize = 18;
@@ -51,11 +51,7 @@ fn number(text: &[u8], radix: u32, most: usize) -> Result<(u128, &[u8]), Mismatc
     ensures read { Finds (λ x. (x.0, x.1.now)) result (number_at radix most text.now) }
     ensures bound { IfOk result (λ x. x.0 < radix ^ most) }
 {
-    let digits = leading_digits(text, radix, most);
-    if digits.is_empty() {
-        return Err(Mismatch { left: text.len() });
-    }
-    Ok((digits_value(digits, radix), &text[digits.len()..]))
+    leading_number(text, radix, most).ok_or(Mismatch { left: text.len() })
 }
 
 /// The integer with which the text begins, of 1 to 18 digits, or where it begins none.
