@@ -1,4 +1,4 @@
-use Rattle.std.proofs.Common.{codes, pos}
+use Rattle.std.proofs.Common.{append-nil, codes, pos}
 use Rattle.sgb_vec.specs.Names.{name_of_vector}
 use Rattle.sgb.specs.inner.Locals.{local_line}
 use Rattle.sgb.proofs.CutOff.{exit_write}
@@ -14,8 +14,5 @@ returns-in_err-make_room-clause-given g c =
 
 pub returns-clause-given : goal.returns-clause-given
 returns-clause-given g c =
-    line_given g.W.Sink.written g.W.Sink.has_failed c.args.page.now _ c.args.out.now _ (record { tip = c.args.tip.now; len = pos c.args.len }) _
-    (record {
-      output = held_three _ _ _ _ _ (codes "  -> ") (name_of_vector c.args.tip.now) _ _ _ _ c.in_ok-make_room.ensures.paged.output c.begin_arc.ensures.put c.push_other.ensures.text c.end_counted_arc.ensures (line-parts _ _);
-      sound = c.in_ok-make_room.ensures.paged.sound;
-    }) tt
+    rw (append-nil (local_line (record { tip = c.args.tip.now; len = pos c.args.len })))
+    (held_three _ _ _ _ _ (codes "  -> ") (name_of_vector c.args.tip.now) _ _ _ _ c.in_ok-make_room.ensures.paged.output c.begin_arc.ensures.put c.push_other.ensures.text c.end_counted_arc.ensures (line-parts _ _))
