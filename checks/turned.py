@@ -74,7 +74,7 @@ ENDLESS = [
     (r"sgb_graph\.Draws\.", r"\w+ \d+: seed and ", "a start value in the place of a count"),
 ]
 
-USE = re.compile(r"^(?:pub |ghost )?use Rattle\.([\w.]+)\.\{([^}]*)\}\s*$", re.M)
+USE = re.compile(r"^(?:pub |ghost )?use (?:Rattle\.)?([\w.]+)\.\{([^}]*)\}\s*$", re.M)
 USE_AS = re.compile(r"^(?:pub |ghost )?use Rattle\.[\w.]+ as \w+\s*$", re.M)
 HEAD = re.compile(r"(?:(?:abbrev|unfoldable|mutual|pub|data|record)\s+)*([^\s:(){}]+)")
 BEGINS = re.compile(r"(?:abbrev|unfoldable|mutual|pub|data|record|syntax|law)\b|[^\s(){},;:]+ :(?:\s|$)")
@@ -82,6 +82,7 @@ WORD = re.compile(r"[^\s(){}\[\],;:.\"]+")
 TOKEN = re.compile(r"\"(?:\\.|[^\"\\])*\"|[(){}\[\],;]|[^\s(){}\[\],;\"]+")
 ERROR = re.compile(r"^\S*?proofs/(\w+)\.antt:(\d+):\d+: error: (.*)$")
 DEPENDS = re.compile(r"\d+ declarations? that depends? on |.*which was (?:rejected|not admitted)")
+OTHER_LIBRARIES = ("Prim.", "mathlib.")
 NUMERAL = re.compile(r"\d[\d_]*$")
 PRELUDE = {"nat_lt", "nat_le", "reverse", "not", "true", "false", "min", "max", "take", "drop", "map", "pos", "negsuc",
            "◌<◌", "◌≤◌", "◌+◌", "◌-◌", "◌/◌", "◌%◌", "◌&&◌", "◌||◌"}
@@ -650,7 +651,7 @@ def copies(universe, chunk, text, needs, number):
             for place, need in map(source_of, needs):
                 if need not in module.brought:
                     uses[place].append(need)
-        lines = [f"use Rattle.{place}.{{{', '.join(names)}}}".replace("{-", "{ -") for place, names in uses.items()] + module.aliases
+        lines = [f"use {'' if place.startswith(OTHER_LIBRARIES) else 'Rattle.'}{place}.{{{', '.join(names)}}}".replace("{-", "{ -") for place, names in uses.items()] + module.aliases
         owners = [None] * len(lines)
         for c in chunks:
             body = (text if c is chunk else c.text).split("\n")
