@@ -59,6 +59,11 @@ ALIKE = {
     ("sgb_graph.Growth.with_edge", "with_edge 1: u and v exchanged after after_lower"): "an edge has no direction",
     ("sgb_graph.Growth.with_event", "with_event 2: e.from and e.to exchanged after with_edge"): "an edge has no direction",
     ("sgb_graph.Events.HasArcsOf", "lists 4: ≤ for < in `(v : ℕ) → v < length g.vertices → cha`"): "past the last vertex both lists are empty",
+    ("sgb_gen.Moves.is_elsewhere", "is_elsewhere 2: y and x exchanged after same_vector"): "it has no order",
+    ("sgb_gen.VectorGraphs.vertex_among", "vertex_among 1: w and v exchanged after same_vector"): "it has no order",
+    ("sgb_gen.Subsets.moves_to_place", "moves_to_place 1: u and v exchanged after common_size"): "it has no order",
+    ("sgb_gen.Moves.reach", "reach 1: reversed"): "it has one entry or none",
+    ("sgb_gen.Displacements.vectors_of_norm", "vectors_of_norm 1: 2 for 1 in `(box (replicate d (p + 1)))`"): "no entry is above the norm",
 }
 
 # definitions of which some turn is seen by no example, with the reason
