@@ -59,6 +59,11 @@ ALIKE = {
     ("sgb_graph.Growth.with_edge", "with_edge 1: u and v exchanged after after_lower"): "an edge has no direction",
     ("sgb_graph.Growth.with_event", "with_event 2: e.from and e.to exchanged after with_edge"): "an edge has no direction",
     ("sgb_graph.Events.HasArcsOf", "lists 4: ≤ for < in `(v : ℕ) → v < length g.vertices → cha`"): "past the last vertex both lists are empty",
+    ("sgb_gen.Moves.is_elsewhere", "is_elsewhere 2: y and x exchanged after same_vector"): "it has no order",
+    ("sgb_gen.VectorGraphs.vertex_among", "vertex_among 1: w and v exchanged after same_vector"): "it has no order",
+    ("sgb_gen.Subsets.moves_to_place", "moves_to_place 1: u and v exchanged after common_size"): "it has no order",
+    ("sgb_gen.Moves.reach", "reach 1: reversed"): "it has one entry or none",
+    ("sgb_gen.Displacements.vectors_of_norm", "vectors_of_norm 1: 2 for 1 in `(box (replicate d (p + 1)))`"): "no entry is above the norm",
 }
 
 # definitions of which some turn is seen by no example, with the reason
@@ -74,7 +79,7 @@ ENDLESS = [
     (r"sgb_graph\.Draws\.", r"\w+ \d+: seed and ", "a start value in the place of a count"),
 ]
 
-USE = re.compile(r"^(?:pub |ghost )?use Rattle\.([\w.]+)\.\{([^}]*)\}\s*$", re.M)
+USE = re.compile(r"^(?:pub |ghost )?use (?:Rattle\.)?([\w.]+)\.\{([^}]*)\}\s*$", re.M)
 USE_AS = re.compile(r"^(?:pub |ghost )?use Rattle\.[\w.]+ as \w+\s*$", re.M)
 HEAD = re.compile(r"(?:(?:abbrev|unfoldable|mutual|pub|data|record)\s+)*([^\s:(){}]+)")
 BEGINS = re.compile(r"(?:abbrev|unfoldable|mutual|pub|data|record|syntax|law)\b|[^\s(){},;:]+ :(?:\s|$)")
@@ -82,6 +87,7 @@ WORD = re.compile(r"[^\s(){}\[\],;:.\"]+")
 TOKEN = re.compile(r"\"(?:\\.|[^\"\\])*\"|[(){}\[\],;]|[^\s(){}\[\],;\"]+")
 ERROR = re.compile(r"^\S*?proofs/(\w+)\.antt:(\d+):\d+: error: (.*)$")
 DEPENDS = re.compile(r"\d+ declarations? that depends? on |.*which was (?:rejected|not admitted)")
+OTHER_LIBRARIES = ("Prim.", "mathlib.")
 NUMERAL = re.compile(r"\d[\d_]*$")
 PRELUDE = {"nat_lt", "nat_le", "reverse", "not", "true", "false", "min", "max", "take", "drop", "map", "pos", "negsuc",
            "◌<◌", "◌≤◌", "◌+◌", "◌-◌", "◌/◌", "◌%◌", "◌&&◌", "◌||◌"}
@@ -650,7 +656,7 @@ def copies(universe, chunk, text, needs, number):
             for place, need in map(source_of, needs):
                 if need not in module.brought:
                     uses[place].append(need)
-        lines = [f"use Rattle.{place}.{{{', '.join(names)}}}".replace("{-", "{ -") for place, names in uses.items()] + module.aliases
+        lines = [f"use {'' if place.startswith(OTHER_LIBRARIES) else 'Rattle.'}{place}.{{{', '.join(names)}}}".replace("{-", "{ -") for place, names in uses.items()] + module.aliases
         owners = [None] * len(lines)
         for c in chunks:
             body = (text if c is chunk else c.text).split("\n")

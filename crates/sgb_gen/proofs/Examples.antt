@@ -1,5 +1,7 @@
 -- Worked examples of the generators, evaluated.
 
+-- bits of wrap, common sizes, pairs of places, refusals
+pub mod Bits
 -- how they show a graph
 pub mod Listings
 -- boards
