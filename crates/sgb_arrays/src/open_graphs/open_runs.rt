@@ -196,7 +196,7 @@ fn arcs_of_local_run(alloc: Global, local: &Local, first: u32, count: u32) -> Re
     arcs_of_run(alloc, local, first, count)
 }
 
-// How many arcs are on all lists of a generator's graph: as many as it counts, which is told without the lists.
+// How many arcs are on all lists of a generator's graph: as many as it counts, where this is told without the lists.
 fn all_arcs_len(alloc: Global, local: &Local) -> Option<u128>
     ensures { IfSome result (λ m. m
         ≡ length (parts_of (chain_of (graph_open (OpenGraph.Listed local.now))) 0
@@ -208,14 +208,15 @@ fn all_arcs_len(alloc: Global, local: &Local) -> Option<u128>
     }
 }
 
-// How many arcs a generator counts: those of subsets by a table, or by a walk over all of them, in which no list is made.
+// How many arcs a generator counts: those of subsets where a table of pairs tells them, since a walk may take longer than the
+// lists.
 fn arcs_counted(alloc: Global, local: &Local) -> Option<u128>
     ensures { IfSome result (λ m. m ≡ (graph_open (OpenGraph.Listed local.now)).m) }
 {
     match local {
         Local::Board(board) => board.arcs_count().ok(),
         Local::Simplex(simplex) => simplex.arcs_count(&Links::new(alloc)).ok(),
-        Local::Subsets(subsets) => Some(subsets.arcs_count()),
+        Local::Subsets(subsets) => subsets.arcs_by_table(),
     }
 }
 

@@ -3,7 +3,7 @@
 //! to the first. So each edge is found once, from the later one of its ends.
 //!
 //! A walk takes minutes for a thousand million vectors.
-ghost use Rattle.std.specs.Prelude.{◌≡◌, ◌+◌, ◌≤◌, ◌∷◌, length, reverse, sum, if◌then◌else◌};
+ghost use Rattle.std.specs.Prelude.{◌≡◌, ◌+◌, ◌≤◌, ◌∷◌, length, reverse, sum, if◌then◌else◌, IfSome};
 ghost use Rattle.sgb_graph.specs.Made.{graph_described};
 ghost use Rattle.sgb_vec.specs.Limits.{most_vertices};
 ghost use Rattle.sgb_vec.specs.Sums.{bounded_sums};
@@ -29,6 +29,18 @@ impl Subsets {
             return u128::from(moves);
         }
         u128::from(moves) * 2
+    }
+
+    /// The number of arcs, where a table of pairs tells it: the same as `arcs_count`. `None` where the vectors would be walked,
+    /// which may take longer than their lists.
+    pub fn arcs_by_table(&self) -> Option<u128>
+        ensures { IfSome result (λ m.
+            m ≡ (graph_described (described_by (subsets_vector_graph self.now))).m) }
+    {
+        if !self.has_many_pairs() {
+            return None;
+        }
+        Some(self.arcs_count())
     }
 
     // The number of moves: by pairs where the vectors are many and their sum is small, else by a walk.
