@@ -3,10 +3,8 @@ ghost use Rattle.std.specs.Prelude.{◌≡◌, ◌≤◌, ◌+◌, ◌++◌, dec
 ghost use Rattle.sgb_file.specs.Devices.{AppendsUnlessFailed, change, IsPut};
 ghost use Rattle.sgb_requests.specs.Faults.{fault_line, status_of};
 
-use arrayvec::ArrayVec;
-use itoa::Buffer;
 use sgb_file::{Failed, Sink, put_all};
-use sgb_vec::Panic;
+use sgb_vec::{Filled, Panic};
 use thiserror::Error;
 
 // How the program is called, and what comes after that.
@@ -114,19 +112,9 @@ fn put_number<E: Sink>(
     ensures { IsPut (before.now ++ decimal number ++ after.now)
         (change E.written E.has_failed errors.old errors.new) result }
 {
-    let line = number_line(before, number, after);
-    put_all(errors, line.as_slice())
-}
-
-// The line of a number in decimal between two texts. The number has at most 10 digits.
-fn number_line(before: &[u8], number: u32, after: &[u8]) -> ArrayVec<u8, MOST_BYTES>
-    requires { length before.now + length after.now ≤ 54 }
-    ensures { result.items ≡ before.now ++ decimal number ++ after.now }
-{
-    let mut digits = Buffer::new();
-    let mut line = ArrayVec::new();
-    let _before = line.try_extend_from_slice(before);
-    let _digits = line.try_extend_from_slice(digits.format(number).as_bytes());
-    let _after = line.try_extend_from_slice(after);
-    line
+    let mut line: Filled<MOST_BYTES> = Filled::new();
+    line.push_text(before);
+    line.push_count(number);
+    line.push_text(after);
+    put_all(errors, line.bytes())
 }

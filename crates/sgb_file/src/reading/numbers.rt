@@ -1,18 +1,16 @@
 //! The numbers of a `.gb` file, and what stands for a vertex or an arc record (GB_SAVE, fill_field).
 //!
-//! A number that `plain` does not read in one pass takes 128 bits and two passes: one sees that all are digits, the
-//! other makes the value.
+//! A number that `plain` does not read in one pass takes 128 bits and two passes.
 ghost use Rattle.std.specs.Prelude.{◌≡◌, ◌≤◌, ◌<◌, ◌^◌, IfSome};
-ghost use Rattle.std.specs.List.{list_all};
 ghost use Rattle.sgb_file.specs.Fields.{most_number_digits};
-ghost use Rattle.sgb_file.specs.inner.FieldValues.{integer_of, is_decimal_digit, most_integer_digits, number_below, number_of, record_number_of, ref_of};
+ghost use Rattle.sgb_file.specs.inner.FieldValues.{integer_of, most_integer_digits, number_below, number_of, record_number_of, ref_of};
 ghost use Rattle.sgb_file.specs.inner.Found.{negative_of, positive_of};
 // For the search alone.
 ghost use Rattle.std.specs.Prelude.{length};
 
 use super::heads::Counts;
 use sgb_graph::Ref;
-use sgb_vec::digits_value;
+use sgb_vec::leading_number;
 
 // A number of the file's own has at most this many digits.
 pub(super) const MOST_NUMBER_DIGITS: usize = 18;
@@ -35,17 +33,8 @@ fn number_up_to(most: usize, text: &[u8]) -> Option<u128>
     ensures value { result ≡ number_of most text.now }
     ensures bound { IfSome result (λ n. n < 10 ^ most) }
 {
-    if text.is_empty() || text.len() > most || !are_digits(text) {
-        return None;
-    }
-    Some(digits_value(text, 10))
-}
-
-// Whether the byte is a decimal digit.
-fn is_digit(byte: u8) -> bool
-    ensures { result ≡ is_decimal_digit byte }
-{
-    b'0' <= byte && byte <= b'9'
+    let (number, rest) = leading_number(text, 10, most)?;
+    if rest.is_empty() { Some(number) } else { None }
 }
 
 // The number below a limit that a text of 1 to 18 digits writes.
@@ -126,11 +115,4 @@ fn great_number_of(text: &[u8]) -> Option<u128>
     ensures bound { IfSome result (λ n. n < 10 ^ 20) }
 {
     number_up_to(MOST_INTEGER_DIGITS, text)
-}
-
-// Whether all bytes are decimal digits.
-fn are_digits(text: &[u8]) -> bool
-    ensures { result ≡ list_all is_decimal_digit text.now }
-{
-    text.iter().all(|byte| is_digit(*byte))
 }

@@ -9,7 +9,7 @@ ghost use Rattle.sgb_file.specs.inner.Layouts.{IsFilled, IsLaid, IsPlaced, lines
 ghost use Rattle.sgb_file.specs.Saving.{most_file_line_bytes};
 ghost use Rattle.sgb_file.specs.inner.SavedLines.{fits_on};
 
-use super::lines::{LineSoFar, MOST_LINE_BYTES};
+use super::lines::{Line, MOST_LINE_BYTES, checksum_after, push_piece, put_line, replace_last};
 use super::short_lines::ShortLines;
 use crate::devices::{Failed, Sink, put_all};
 use itoa::{Buffer, Integer};
@@ -19,15 +19,19 @@ use std::marker::Model;
 #[derive(Drop)]
 pub(super) struct Layout {
     checksum: u32,
-    line: LineSoFar,
+    line: Line,
 }
 
 impl Model for Layout {
+    ghost use Rattle.std.specs.Prelude.{◌≤◌, length};
     ghost use Rattle.sgb_file.specs.inner.Layouts.{LayoutState};
+    ghost use Rattle.sgb_file.specs.Saving.{most_file_line_bytes};
 
     ghost Value = { LayoutState };
 
     ghost view = { λ layout. record { checksum = layout.checksum; line = layout.line } };
+
+    ghost invariant = { λ layout. length layout.line ≤ most_file_line_bytes };
 }
 
 impl Layout {
@@ -38,7 +42,7 @@ impl Layout {
     {
         Layout {
             checksum: 0,
-            line: LineSoFar::new(),
+            line: Line::new(),
         }
     }
 
@@ -71,8 +75,8 @@ impl Layout {
             (stage W.written W.has_failed sink.old self.old)
             (stage W.written W.has_failed sink.new self.new) result }
     {
-        self.checksum = self.line.checksum_after(self.checksum);
-        self.line.put(sink)
+        self.checksum = checksum_after(&self.line, self.checksum);
+        put_line(&mut self.line, sink)
     }
 
     // Lays out a piece in three parts. Most pieces fit on the line.
@@ -91,7 +95,7 @@ impl Layout {
             (stage W.written W.has_failed sink.new self.new) result }
     {
         if self.has_room(front, body, back) {
-            self.line.push_piece(front, body, back);
+            push_piece(&mut self.line, front, body, back);
             return Ok(());
         }
         self.place_anew(sink, front, body, back)
@@ -185,7 +189,7 @@ impl Layout {
             self.fill_up(sink, first)?;
             rest = others;
         }
-        self.line.push(rest);
+        self.line.push_text(rest);
         Ok(())
     }
 
@@ -203,7 +207,7 @@ impl Layout {
             (stage W.written W.has_failed sink.new self.new) result }
     {
         let room = self.room();
-        self.line.push(&bytes[..room]);
+        self.line.push_text(&bytes[..room]);
         self.fill_byte(sink, bytes[room])
     }
 
@@ -216,9 +220,9 @@ impl Layout {
             self.line.push_byte(byte);
             return Ok(());
         }
-        let last = self.line.replace_last(b'\\');
+        let last = replace_last(&mut self.line, b'\\');
         self.end_line(sink)?;
-        self.line.push(&[last, byte]);
+        self.line.push_text(&[last, byte]);
         Ok(())
     }
 }

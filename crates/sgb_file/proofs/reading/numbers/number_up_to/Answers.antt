@@ -1,12 +1,12 @@
 use Rattle.std.proofs.Common.{rules}
-use Rattle.sgb_file.proofs.NumberReading.{all_digits, value_below}
+use Rattle.sgb_file.proofs.NumberReading.{read_none, read_part, read_whole}
 use Rattle.sgb_file.proofs.reading.numbers.number_up_to.Goals as goal
 
-pub digits_value-requires-clause-numeral : goal.digits_value-requires-clause-numeral
-digits_value-requires-clause-numeral c = search (rules, all_digits)
+pub returns-in_err-number-clause-value : goal.returns-in_err-number-clause-value
+returns-in_err-number-clause-value c = search (rules, read_none)
 
-pub digits_value-requires-clause-fits : goal.digits_value-requires-clause-fits
-digits_value-requires-clause-fits c = search (rules, value_below)
+pub returns-then-is_empty-clause-value : goal.returns-then-is_empty-clause-value
+returns-then-is_empty-clause-value c = search (rules, read_whole)
 
-pub returns-clause-bound : goal.returns-clause-bound
-returns-clause-bound c = search (rules, value_below)
+pub returns-else-is_empty-clause-value : goal.returns-else-is_empty-clause-value
+returns-else-is_empty-clause-value c = search (rules, read_part)

@@ -17,4 +17,4 @@ loop-rest-preserved g c =
 pub returns : goal.returns
 returns g c =
     filling-last c.args.bytes.now c.loop-rest.rest.now _ _ _ c.loop-rest.invariant (omega (arith, c.room.ensures, c.loop-rest-test.false))
-    (record { written = refl; failed = refl; checksum = ap (λ l. l.checksum) c.self-2.view_is }) (grind (arith, c.push.ensures, c.self-2.view_is))
+    (record { written = refl; failed = refl; checksum = ap (λ l. l.checksum) c.self-2.view_is }) (grind (arith, c.push_text.ensures.put, c.self-2.view_is))
