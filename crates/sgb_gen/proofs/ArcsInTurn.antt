@@ -4,8 +4,9 @@ use Rattle.std.specs.List.{slice_get}
 use Rattle.std.specs.Result.{IsErrAnd}
 use Rattle.std.proofs.lemmas.List.{drop_more}
 use Rattle.std.proofs.lemmas.Option.{get_or_from_slice_get, slice_get_within}
-use Rattle.sgb_gen.specs.ArcSinks.{AreGiven, AreTakenInTurn}
+use Rattle.sgb_gen.specs.ArcSinks.{AreGiven}
 use Rattle.sgb_gen.specs.LocalLists.{LocalArc}
+use Rattle.sgb_gen.specs.inner.ArcSinks.{AreTakenInTurn}
 
 -- of all arcs, these are left; the others were taken
 abbrev pub TakenSoFar : {R S : Type 0} → (R → S → List LocalArc → R → S → Type 0) → (all left : List LocalArc) → R → S → R → S → Type 0

@@ -12,6 +12,7 @@ pub list_ended : {T : Type 0} (put result : Result T Panic) (made before after :
     → OnOk put (before ≡ made) → OnOk put (after ≡ before) → made.arcs ≡ arcs → OnOk result (after.arcs ≡ arcs)
 list_ended x0 result made before after arcs same put kept are = grind (arith)
 
+-- the same, by what was put
 pub list_ended_as : {T : Type 0} (put result : Result T Panic) (before after : LinksData) (arcs : List LocalArc) → result ≡ put → OnOk put (after ≡ before) → OnOk put (before.arcs ≡ arcs)
     → OnOk result (after.arcs ≡ arcs)
 list_ended_as put result before after arcs same kept are = grind (arith)
@@ -22,6 +23,7 @@ pub list_kept : {T : Type 0} (before mid : LinksData) (arcs : List LocalArc) (pu
 list_kept before mid arcs (Ok x) none given = ap (λ l. l.arcs) given ∙ ap (λ l. l ++ arcs) none
 list_kept before mid arcs (Err f) none given = tt
 
+-- and that is the only fault
 pub memory_told : {T : Type 0} (before mid : LinksData) (arcs : List LocalArc) (put : Result T Panic)
     → AreGiven {R = LinksData} {S = ℕ} {F = Panic} (λ old _ given new _. new ≡ with_arcs old given) (λ _ _ _ _ _ f. f ≡ NoRoom) before 0 arcs mid 0 put → IsOkUnless put NoRoom
 memory_told before mid arcs (Ok x) given = tt

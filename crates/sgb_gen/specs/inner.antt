@@ -8,6 +8,8 @@ pub mod Boards
 pub mod EntryBounds
 -- the displacements after one of them
 pub mod LaterDisplacements
+-- arcs that are taken in turn
+pub mod ArcSinks
 -- the list of a vector, from the moves that touch it
 pub mod LocalArcs
 -- the list of a vector of a board, by displacements

@@ -1,7 +1,8 @@
 //! Arcs that are handed out one by one, so that no list of them is kept.
 ghost use Rattle.std.specs.Prelude.{◌≡◌, ℕ, List, [], ◌∷◌, pos, length, OnOk};
-ghost use Rattle.sgb_gen.specs.ArcSinks.{AreGiven, AreTakenInTurn};
+ghost use Rattle.sgb_gen.specs.ArcSinks.{AreGiven};
 ghost use Rattle.sgb_gen.specs.LocalLists.{LocalArc};
+ghost use Rattle.sgb_gen.specs.inner.ArcSinks.{AreTakenInTurn};
 
 /// Takes the arcs of a list, one after another: `R` is the room that it keeps, `S` where it puts them.
 pub trait ArcSink<R, S> {

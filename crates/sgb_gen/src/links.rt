@@ -52,7 +52,6 @@ pub struct Links {
 impl Model for Links {
     ghost use Rattle.std.specs.Prelude.{◌≡◌, ◌*◌, length};
     ghost use Rattle.sgb_gen.specs.inner.LocalArcs.{arcs_in};
-    ghost use Rattle.sgb_gen.specs.ArcSinks.{AreGiven};
     ghost use Rattle.sgb_gen.specs.LocalLists.{LinksData};
 
     ghost Value = { LinksData };

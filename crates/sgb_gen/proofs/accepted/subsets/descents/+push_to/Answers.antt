@@ -1,7 +1,7 @@
 use Rattle.std.proofs.Common.{◌≡◌, ◌+◌, ◌-◌, [], ◌∷◌, ◌++◌, length, set, min, refl, sym, ap, ap₂, ◌∙◌, inl, inr, arith}
 use Rattle.std.proofs.lemmas.List.{length-set}
 use Rattle.std.proofs.lemmas.Result.{on_ok_weaker}
-use Rattle.sgb_gen.specs.inner.Descents.{arcs_under, down_to, front_of, rows}
+use Rattle.sgb_gen.specs.inner.Descents.{arcs_under, down_to, front_of}
 use Rattle.sgb_gen.proofs.ArcsInTurn.{exit_part, given_as, given_last, so_far_begun, so_far_more, took_none}
 use Rattle.sgb_gen.proofs.DescentArcs.{HasEnded, ended-zero, ended-part, to-more, under-unwanted, unwanted-to}
 use Rattle.sgb_gen.proofs.DescentSteps.{front-kept, front-placed, front-shorter, others-add}

@@ -1,5 +1,4 @@
-use Rattle.std.proofs.Common.{◌≡◌, ◌+◌, ◌-◌, ◌++◌, length, take, drop, reverse, refl, arith, get_or, cond, [], ◌∷◌, set, pos, List}
-use Rattle.sgb_vec.specs.Sums.{bounded_sums}
+use Rattle.std.proofs.Common.{◌-◌, length, refl, arith, get_or}
 use Rattle.sgb_vec.proofs.SumMembers.{IsWithin-length}
 use Rattle.sgb_gen.proofs.ArcsInTurn.{exit_part, so_far_all, so_far_more}
 use Rattle.sgb_gen.proofs.LastEntries.{none-left, units-more}
