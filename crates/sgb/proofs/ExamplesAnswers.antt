@@ -101,11 +101,11 @@ past = (inr (λ e. absurd cc, (2, refl, omega arith)), inr (λ e. absurd cc, (2,
 -- not so after a, after one, or from the start, where no vertex is too
 pub before_last : IsPast (codes "a" ∷ codes "b" ∷ []) (resume.After (codes "a")) → ⊥
 before_last (inl e) = absurd cc
-before_last (inr (other, k, is, all)) = absurd (not_both k is all)
+before_last (inr (other, (k, is, all))) = absurd (not_both k is all)
 
 pub one_left : IsPast (codes "a" ∷ codes "b" ∷ []) (resume.Skip 1) → ⊥
 one_left (inl e) = absurd cc
-one_left (inr (other, k, is, all)) = absurd (not_both k is all)
+one_left (inr (other, (k, is, all))) = absurd (not_both k is all)
 
 pub none_left : IsPast [] resume.Whole → ⊥
 none_left (inl e) = absurd cc

@@ -431,30 +431,39 @@ impl<'n, W: Sink> ArcSink<Page, W> for ArcLines<'n> {
     // A page that took some lines and then others took both, and what cuts the others off cuts off both.
     ghost laws = { λ s. record {
       none = λ page out. ([], sym (append-nil page), Appends-nil (W.written out));
-      more = λ xs ys page old mid out _ new p q. (p.0 ++ q.0, append_assoc p.0 q.0 _
-          ∙ ap (λ text. p.0 ++ text) q.1 ∙ sym (append_assoc p.0 mid (flat_map local_line ys))
-          ∙ ap (λ text. text ++ flat_map local_line ys) p.1
-          ∙ append_assoc page (flat_map local_line xs) (flat_map local_line ys)
-          ∙ ap (λ text. page ++ text) (sym (flat_map-append local_line xs ys)),
-          Appends-trans (W.written old) (W.written out) (W.written new) p.0 q.0 p.2 q.2);
-      cut_after = λ xs ys page old mid out _ new f p q. (record {
-        output = subst (AppendsPrefix (W.written old) (W.written new))
-            (sym (append_assoc p.0 mid (flat_map local_line ys))
+      more = λ xs ys page old mid out _ new p q. (
+        p.0 ++ q.0,
+        append_assoc p.0 q.0 _
+            ∙ ap (λ text. p.0 ++ text) q.1 ∙ sym (append_assoc p.0 mid (flat_map local_line ys))
             ∙ ap (λ text. text ++ flat_map local_line ys) p.1
             ∙ append_assoc page (flat_map local_line xs) (flat_map local_line ys)
-            ∙ ap (λ text. page ++ text) (sym (flat_map-append local_line xs ys)))
-            (prefix_after (W.written old) (W.written out) (W.written new) p.0
-            (mid ++ flat_map local_line ys) p.2 q.0.output);
-        cause = q.0.cause;
-      }, q.1);
-      cut_more = λ xs ys page old _ new f q. (record {
-        output = subst (AppendsPrefix (W.written old) (W.written new))
-            (append_assoc page (flat_map local_line xs) (flat_map local_line ys)
-            ∙ ap (λ text. page ++ text) (sym (flat_map-append local_line xs ys)))
-            (prefix_more (W.written old) (W.written new) (page ++ flat_map local_line xs)
-            (flat_map local_line ys) q.0.output);
-        cause = q.0.cause;
-      }, q.1);
+            ∙ ap (λ text. page ++ text) (sym (flat_map-append local_line xs ys)),
+        Appends-trans (W.written old) (W.written out) (W.written new) p.0 q.0 p.2 q.2,
+      );
+      cut_after = λ xs ys page old mid out _ new f p q. (
+        record {
+          output = subst (AppendsPrefix (W.written old) (W.written new))
+              (sym (append_assoc p.0 mid (flat_map local_line ys))
+              ∙ ap (λ text. text ++ flat_map local_line ys) p.1
+              ∙ append_assoc page (flat_map local_line xs) (flat_map local_line ys)
+              ∙ ap (λ text. page ++ text) (sym (flat_map-append local_line xs ys)))
+              (prefix_after (W.written old) (W.written out) (W.written new) p.0
+              (mid ++ flat_map local_line ys) p.2 q.0.output);
+          cause = q.0.cause;
+        },
+        q.1,
+      );
+      cut_more = λ xs ys page old _ new f q. (
+        record {
+          output = subst (AppendsPrefix (W.written old) (W.written new))
+              (append_assoc page (flat_map local_line xs) (flat_map local_line ys)
+              ∙ ap (λ text. page ++ text) (sym (flat_map-append local_line xs ys)))
+              (prefix_more (W.written old) (W.written new) (page ++ flat_map local_line xs)
+              (flat_map local_line ys) q.0.output);
+          cause = q.0.cause;
+        },
+        q.1,
+      );
     } };
 
     #[inline(always)]
