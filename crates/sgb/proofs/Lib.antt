@@ -9,12 +9,8 @@ pub mod DrawnNumbers
 pub mod Endings
 -- answers on small graphs
 pub mod ExamplesAnswers
--- numbers of few digits
-pub mod FewDigits
 -- names of vectors that are kept
 pub mod KeptNames
--- bytes that are moved a word at once
-mod MovedWords
 -- parts of a listing
 pub mod Listings
 -- listings from a generator's vectors

@@ -5,7 +5,7 @@ use Rattle.std.proofs.lemmas.Fmt.{decimal_digit}
 use Rattle.std.proofs.lemmas.List.{at_drop_more, drop_at, length-take-le, set-append_right, take_at, take_more}
 use Rattle.sgb_vec.specs.Names.{name_of_vector}
 use Rattle.sgb.specs.inner.Texts.{entries_text}
-use Rattle.sgb.proofs.FewDigits.{two_digits}
+use Rattle.sgb_vec.proofs.FewDigits.{two_digits}
 use Rattle.sgb.proofs.NameEntries.{name-more, name-parts}
 
 -- what stands before the digit of an entry

@@ -9,8 +9,6 @@ mod arc_lines;
 pub mod families;
 // `.gb` files.
 pub(crate) mod files;
-// Texts put together in place.
-mod filled;
 // Random numbers.
 pub(crate) mod flips;
 // Names of vectors that are kept.

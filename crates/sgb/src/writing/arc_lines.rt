@@ -4,7 +4,7 @@ ghost use Rattle.std.specs.Fmt.{signed_decimal};
 // For the search alone.
 ghost use Rattle.std.specs.Prelude.{[], ◌∷◌};
 
-use super::filled::Filled;
+use sgb_vec::Filled;
 
 /// Begins the line of an arc: what stands before the name of the vertex where it leads.
 #[inline(always)]

@@ -15,13 +15,12 @@ ghost use Rattle.sgb.specs.Texts.{name_line};
 ghost use Rattle.sgb.specs.inner.Pages.{IsPaged, page_bytes};
 ghost use Rattle.sgb.specs.inner.Texts.{entries_text, entry_text};
 
-use super::filled::Filled;
 use super::numerals::Numerals;
 use super::pages::{Page, make_room};
 use sgb_file::Sink;
 use sgb_gen::Runs;
 use sgb_requests::Fault;
-use sgb_vec::Vector;
+use sgb_vec::{Filled, Vector};
 use std::marker::Model;
 
 // A name has at most this many bytes, with room for one entry more.
@@ -89,8 +88,8 @@ impl KeptName {
         requires { length self.old ≤ most_dimensions }
         ensures { self.new ≡ self.old ++ entry ∷ [] }
     {
-        self.text
-            .push_entry(&self.numerals, self.vector.len() > 0, entry);
+        self.numerals
+            .push_entry(&mut self.text, self.vector.len() > 0, entry);
         self.vector.push(entry);
         self.ends.push(self.text.len() as u32);
     }
@@ -182,7 +181,7 @@ impl KeptName {
         let from = equal_from_start(vector, other);
         let to = equal_to_end(vector, other, from);
         page.push_start_of(&self.text, self.end_of(from));
-        page.push_entries(&self.numerals, other, from, to);
+        self.numerals.push_entries(page, other, from, to);
         page.push_rest_of(&self.text, self.end_of(to));
     }
 
@@ -215,7 +214,7 @@ impl KeptName {
         ensures short { length page.new ≤ length page.old + 11 * (to + 1 - from) }
     {
         page.push_part_of(&self.text, self.end_of(from), self.end_of(to));
-        page.push_entry(&self.numerals, to > 0, entry);
+        self.numerals.push_entry(page, to > 0, entry);
     }
 }
 

@@ -3,12 +3,13 @@
 //! That saves a tenth of the time of a knights' listing: how many digits a number has is then no branch. Ten thousand
 //! of them would be 50 KB, more than a page and the rest leave of the first cache; a greater number is put digit by
 //! digit.
-ghost use Rattle.std.specs.Prelude.{◌≡◌, ◌≤◌, ◌<◌, length, take, IfSome};
+ghost use Rattle.std.specs.Prelude.{◌≡◌, ◌≤◌, ◌<◌, ◌+◌, ◌*◌, ◌-◌, ◌++◌, decimal, drop, length, nat_lt, take, IfSome};
 ghost use Rattle.sgb.specs.inner.Numerals.{IsNumeral};
+ghost use Rattle.sgb.specs.inner.Texts.{entries_text, entry_text};
 // For the search alone.
-ghost use Rattle.std.specs.Prelude.{decimal};
+ghost use Rattle.std.specs.Prelude.{[], ◌∷◌};
 
-use super::filled::Filled;
+use sgb_vec::Filled;
 use std::marker::Model;
 
 // The texts of so many numbers are kept, those from 0 on.
@@ -44,11 +45,59 @@ impl Numerals {
         Numerals { kept }
     }
 
-    /// The text of a number, where it is kept.
-    pub(super) fn get(&self, number: u32) -> Option<&Numeral>
+    // The text of a number, where it is kept.
+    fn get(&self, number: u32) -> Option<&Numeral>
         ensures { IfSome result (λ numeral. IsNumeral number numeral.now) }
     {
         self.kept.get(number as usize)
+    }
+
+    /// Appends an entry of a vector, after a dot where it is not the first: at most 11 bytes.
+    pub(super) fn push_entry<const N: usize>(
+        &self,
+        text: &mut Filled<N>,
+        dotted: bool,
+        entry: u32,
+    )
+        requires { length text.old + 11 ≤ N }
+        ensures text { text.new ≡ text.old ++ entry_text dotted entry }
+        ensures short { length text.new ≤ length text.old + 11 }
+    {
+        if dotted {
+            text.push_byte(b'.');
+        }
+        self.push_count(text, entry);
+    }
+
+    // Appends a number in decimal, at most 10 bytes. The text of a small one is known.
+    fn push_count<const N: usize>(&self, text: &mut Filled<N>, number: u32)
+        requires { length text.old + 10 ≤ N }
+        ensures text { text.new ≡ text.old ++ decimal number }
+        ensures short { length text.new ≤ length text.old + 10 }
+    {
+        match self.get(number) {
+            Some(numeral) => text.push_short_word(&numeral.0[..], usize::from(numeral.1)),
+            None => text.push_count(number),
+        }
+    }
+
+    /// Appends the entries of a vector from place `from` on and before `to`, as they stand in its name.
+    pub(super) fn push_entries<const N: usize>(
+        &self,
+        text: &mut Filled<N>,
+        vector: &[u32],
+        from: usize,
+        to: usize,
+    )
+        requires places { (from ≤ to) × (to ≤ length vector.now) }
+        requires room { length text.old + 11 * (to - from) ≤ N }
+        ensures text { text.new ≡ text.old
+            ++ entries_text (nat_lt 0 from) (take (to - from) (drop from vector.now)) }
+        ensures short { length text.new ≤ length text.old + 11 * (to - from) }
+    {
+        for place in from..to {
+            self.push_entry(text, place > 0, vector[place]);
+        }
     }
 }
 

@@ -11,10 +11,10 @@ ghost use Rattle.sgb.specs.inner.Texts.{most_line_bytes};
 // For the search alone.
 ghost use Rattle.std.specs.Prelude.{◌<◌, ◌-◌, ◌++◌, take};
 
-use super::filled::Filled;
 use super::write_bytes;
 use sgb_file::Sink;
 use sgb_requests::Fault;
+use sgb_vec::Filled;
 
 // A page of output has this many bytes: more than the buffer of std's BufWriter, so that a page goes past it.
 const PAGE_BYTES: usize = 32_768;

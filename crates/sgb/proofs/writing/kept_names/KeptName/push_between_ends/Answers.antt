@@ -30,7 +30,7 @@ returns c =
         c.push_entries.ensures.short,
         ap length c.push_start_of.ensures,
         ap length c.push_rest_of.ensures,
-        length-append c.push_entries.new.self (drop c.end_of-2.result text),
+        length-append c.push_entries.new.text (drop c.end_of-2.result text),
         length-drop c.end_of-2.result text,
         within,
         order.0,

@@ -1,6 +1,0 @@
-use Rattle.std.proofs.Common.{rules}
-use Rattle.sgb.proofs.FewDigits.{more_digits}
-use Rattle.sgb.proofs.writing.filled.Filled.push_few_digits.Goals as goal
-
-pub returns-else-number-lt100-clause-text : goal.returns-else-number-lt100-clause-text
-returns-else-number-lt100-clause-text g c = search (rules, more_digits)

@@ -1,7 +1,0 @@
-use Rattle.std.proofs.Common.{rules}
-use Rattle.std.proofs.lemmas.List.{length-drop, length-take-le}
-use Rattle.sgb.proofs.MovedWords.{word_front, word_put}
-use Rattle.sgb.proofs.writing.filled.Filled.push_word.Goals as goal
-
-pub returns : goal.returns
-returns g c = search (rules, length-take-le, length-drop, word_put, word_front)
