@@ -49,8 +49,7 @@ answer_from (Err p) answer = Err (fault.Panic p)
 
 -- the moves of a piece on a board of three rows and four columns
 abbrev pub moves_of : ℤ → Generator
-moves_of step =
-    generator.Board (record { n1 = pos 3; n2 = pos 4; n3 = pos 0; n4 = pos 0; piece = step; wrap = pos 0; directed = false })
+moves_of step = generator.Board (record { n1 = pos 3; n2 = pos 4; n3 = pos 0; n4 = pos 0; piece = step; wrap = pos 0; directed = false })
 
 -- the moves of queens: those of rooks and those of bishops [QUEEN]
 unfoldable pub queen_moves : Expression

@@ -16,8 +16,7 @@ name_lines names k = flat_map name_line (drop k names)
 
 -- the line of an arc: where it leads, and its length
 unfoldable pub arc_line : List (List ℕ) → Link → List ℕ
-arc_line names link =
-    codes "  -> " ++ slice_index_or names link.tip [] ++ codes ", length " ++ signed_decimal link.len ++ codes "\n"
+arc_line names link = codes "  -> " ++ slice_index_or names link.tip [] ++ codes ", length " ++ signed_decimal link.len ++ codes "\n"
 
 -- the block of vertex v: its line, and those of its arcs in the order of its list
 unfoldable pub block : GraphData → ℕ → List ℕ

@@ -23,8 +23,7 @@ IsNumberBelow limit text k = IsNumberText text k × (k < limit)
 
 -- the text of an integer of 64 bits: at most 20 digits, or a `-` and such digits
 abbrev pub IsIntegerText : List ℕ → ℤ → Type 0
-IsIntegerText text i =
-    Or (As pos (IsNumber 10 20)) (After (codes "-") (As (λ n. neg_ℤ (pos n)) (IsNumber 10 20))) text i × FitsSigned w64 i
+IsIntegerText text i = Or (As pos (IsNumber 10 20)) (After (codes "-") (As (λ n. neg_ℤ (pos n)) (IsNumber 10 20))) text i × FitsSigned w64 i
 
 -- the text of one of n vertices: `V` and its number; or `0`, or `1`
 abbrev pub IsRefText : ℕ → List ℕ → Ref → Type 0

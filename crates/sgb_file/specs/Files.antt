@@ -101,5 +101,4 @@ IsClosed records following =
 
 -- the text is a file of the graph: its records stand there, a line with their checksum comes next, and its lists are sound
 abbrev pub IsFileOf : GraphData → List ℕ → Type 0
-IsFileOf g text =
-    (records following : List (List ℕ)) × HasRecords text g records following × IsClosed records following × IsTrue (is_sound g)
+IsFileOf g text = (records following : List (List ℕ)) × HasRecords text g records following × IsClosed records following × IsTrue (is_sound g)

@@ -20,8 +20,7 @@ local_arc vectors link = record { tip = get_or vectors link.tip []; len = link.l
 
 -- the list of x in the graph of these vectors whose events are these moves: the arcs at its vertex, those of later moves first
 unfoldable pub list_at : Bool → List (List ℕ) → List Move → List ℕ → List LocalArc
-list_at directed vectors moves x =
-    map (local_arc vectors) (list_of directed (map (event_among vectors) moves) (vertex_among vectors x))
+list_at directed vectors moves x = map (local_arc vectors) (list_of directed (map (event_among vectors) moves) (vertex_among vectors x))
 
 -- the list of x in a graph of vectors
 abbrev pub list_in : VectorGraph → List ℕ → List LocalArc

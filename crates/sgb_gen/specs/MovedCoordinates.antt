@@ -20,5 +20,4 @@ part_at sizes wrap x l p =
 -- a vector in which they stand where they lead
 abbrev pub parts_put : List ℕ → ℤ → List ℕ → ℕ → List (ℕ × ℤ) → List ℕ → List ℕ
 parts_put sizes wrap x l [] there = there
-parts_put sizes wrap x l (p ∷ parts) there =
-    parts_put sizes wrap x l parts (set there p.0 (unwrap_or (part_at sizes wrap x l p) 0))
+parts_put sizes wrap x l (p ∷ parts) there = parts_put sizes wrap x l parts (set there p.0 (unwrap_or (part_at sizes wrap x l p) 0))

@@ -6,8 +6,7 @@ use Rattle.sgb_gen.specs.declared.params.SubsetsParams.{SubsetsParams}
 
 -- a board of one dimension
 abbrev pub line : ℤ → ℤ → ℤ → Bool → BoardParams
-line n piece wrap directed =
-    record { n1 = n; n2 = pos 0; n3 = pos 0; n4 = pos 0; piece = piece; wrap = wrap; directed = directed }
+line n piece wrap directed = record { n1 = n; n2 = pos 0; n3 = pos 0; n4 = pos 0; piece = piece; wrap = wrap; directed = directed }
 
 -- complete(n): an edge between any two vertices
 abbrev pub complete : ℤ → BoardParams
@@ -31,8 +30,7 @@ cycle n = line n (pos 1) (pos 1) true
 
 -- disjoint_subsets(n,k): the subsets of k of n elements, with an edge between any two that are disjoint
 abbrev pub disjoint_subsets : ℤ → ℤ → SubsetsParams
-disjoint_subsets n k =
-    record { n = k; n0 = pos 1; n1 = pos 1 -ℤ n; n2 = pos 0; n3 = pos 0; n4 = pos 0; size_bits = 1; directed = false }
+disjoint_subsets n k = record { n = k; n0 = pos 1; n1 = pos 1 -ℤ n; n2 = pos 0; n3 = pos 0; n4 = pos 0; size_bits = 1; directed = false }
 
 -- petersen(): the Petersen graph
 abbrev pub petersen : SubsetsParams

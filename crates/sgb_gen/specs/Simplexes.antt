@@ -30,8 +30,7 @@ pub record Places : Type 0 where
 
 -- the pairs of places j < k of a vector of n entries, in lexicographic order
 abbrev pub pairs_of_places : ℕ → List Places
-pairs_of_places n =
-    flat_map (λ j. map (λ k. record { lower = j; higher = k }) (range_with_len (j + 1) (n - (j + 1)))) (range_with_len 0 n)
+pairs_of_places n = flat_map (λ j. map (λ k. record { lower = j; higher = k }) (range_with_len (j + 1) (n - (j + 1)))) (range_with_len 0 n)
 
 -- a unit of v can go from one place to another: there is one, and room for it below the bound
 abbrev pub can_move_unit : List ℕ → List ℕ → ℕ → ℕ → Bool
@@ -61,8 +60,7 @@ moves_of_simplex s = flat_map (moves_to s.sum.bounds) (simplex_vectors s)
 
 -- its graph, as one of vectors
 abbrev pub simplex_vector_graph : SimplexData → VectorGraph
-simplex_vector_graph s =
-    record { id = simplex_id s; directed = s.directed; vectors = simplex_vectors s; moves = moves_of_simplex s }
+simplex_vector_graph s = record { id = simplex_id s; directed = s.directed; vectors = simplex_vectors s; moves = moves_of_simplex s }
 
 -- the graph of simplex(n,n0,n1,n2,n3,n4,directed), or why it is refused
 abbrev pub simplex : SimplexParams → Result Description Panic

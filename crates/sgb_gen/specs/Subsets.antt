@@ -41,8 +41,7 @@ moves_to_place size_bits vectors i = let v = slice_index_or vectors i [] in
 
 -- their id: subsets(n,n0,n1,n2,n3,n4,0xH,directed)
 unfoldable pub subsets_id : SubsetsData → List ℕ
-subsets_id s =
-    call_text (codes "subsets") (map signed_decimal s.params ++ (hexadecimal_text s.size_bits ∷ flag_text s.directed ∷ []))
+subsets_id s = call_text (codes "subsets") (map signed_decimal s.params ++ (hexadecimal_text s.size_bits ∷ flag_text s.directed ∷ []))
 
 -- their vertices: the vectors of the bounded sum
 abbrev pub subsets_vectors : SubsetsData → List (List ℕ)
@@ -55,8 +54,7 @@ moves_of_subsets s = let vectors = subsets_vectors s in
 
 -- their graph, as one of vectors
 abbrev pub subsets_vector_graph : SubsetsData → VectorGraph
-subsets_vector_graph s =
-    record { id = subsets_id s; directed = s.directed; vectors = subsets_vectors s; moves = moves_of_subsets s }
+subsets_vector_graph s = record { id = subsets_id s; directed = s.directed; vectors = subsets_vectors s; moves = moves_of_subsets s }
 
 -- the graph of subsets(n,n0,n1,n2,n3,n4,size_bits,directed), or why it is refused
 abbrev pub subsets : SubsetsParams → Result Description Panic

@@ -19,8 +19,7 @@ use Rattle.sgb_ops.specs.Boards.{pair_of_vertices}
 
 -- the entries of these numbers of copies, or why they are refused: one is negative; then they are too many vertices
 abbrev pub accepted_parts : ℤ → ℤ → Result (List Entry) Panic
-accepted_parts (pos n1) (pos n2) =
-    if nat_lt most_vertices (n1 + n2) then Err VeryBad else Ok (entry.Copies n1 ∷ entry.Copies n2 ∷ [])
+accepted_parts (pos n1) (pos n2) = if nat_lt most_vertices (n1 + n2) then Err VeryBad else Ok (entry.Copies n1 ∷ entry.Copies n2 ∷ [])
 accepted_parts _ _ = Err Bad
 
 -- bi_complete(n1, n2, directed): the board of two vertices, with n1 copies of the one and n2 of the other, and n1 in the

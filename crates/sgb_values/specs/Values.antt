@@ -26,8 +26,7 @@ most_input = 2 ^ 30
 
 -- the value of `stdin` where standard input has these bytes: what they are read as; too many are refused
 abbrev pub IsStdinValue : List ℕ → Result GraphData Panic → Type 0
-IsStdinValue input value =
-    ((length input ≤ most_input) × IsRestoredAs input value) ⊎ ((most_input < length input) × (value ≡ Err Syntax))
+IsStdinValue input value = ((length input ≤ most_input) × IsRestoredAs input value) ⊎ ((most_input < length input) × (value ≡ Err Syntax))
 
 -- two values, where the first's refusal comes before the second's
 abbrev pub both : {T U : Type 0} → Result T Panic → Result U Panic → Result (T × U) Panic
