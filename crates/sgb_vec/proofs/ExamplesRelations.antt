@@ -43,13 +43,13 @@ text_too_long is = let many : 4_096 ≤ 4_095 = is.short in absurd (omega (arith
 -- ---- vectors below sizes and within bounds, and vectors that names may stand for
 
 pub below : IsBelow (0 ∷ 2 ∷ []) (1 ∷ 3 ∷ [])
-below = (omega arith, (omega arith, record { }))
+below = (omega arith, (omega arith, record {}))
 
 pub not_below : IsBelow (1 ∷ []) (1 ∷ []) → ⊥
 not_below is = absurd (omega (arith, is.0))
 
 pub within : IsWithin (1 ∷ 2 ∷ []) (1 ∷ 3 ∷ [])
-within = (omega arith, (omega arith, record { }))
+within = (omega arith, (omega arith, record {}))
 
 pub not_within : IsWithin (2 ∷ []) (1 ∷ []) → ⊥
 not_within is = absurd (omega (arith, is.0))
