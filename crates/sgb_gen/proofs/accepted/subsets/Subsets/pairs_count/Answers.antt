@@ -18,10 +18,10 @@ pub returns-clause-count : goal.returns-clause-count
 returns-clause-count c =
     let total_is : c.total-total.result ≡ c.args.self.now.sum.total = search rules in
     let few : length (subsets_vectors c.args.self.now) ≤ most_vertices = search rules in
-    (pairs-found c.args.self.now c.total-total.result c.loop-k.k _ c.sizes-bounds.result.now c.loop-k.table total_is c.sizes-bounds.ensures (omega arith) few c.loop-k.invariant (ap (λ i. get_or c.loop-k.table i 0) c.place_of_pairs-last.ensures.value)).0
+    (pairs-found c.args.self.now c.total-total.result c.loop-k.k _ c.sizes-bounds.result.now c.loop-k.table total_is c.sizes-bounds.ensures.same (omega arith) few c.loop-k.invariant (ap (λ i. get_or c.loop-k.table i 0) c.place_of_pairs-last.ensures.value)).0
 
 pub returns-clause-few : goal.returns-clause-few
 returns-clause-few c =
     let total_is : c.total-total.result ≡ c.args.self.now.sum.total = search rules in
     let few : length (subsets_vectors c.args.self.now) ≤ most_vertices = search rules in
-    (pairs-found c.args.self.now c.total-total.result c.loop-k.k _ c.sizes-bounds.result.now c.loop-k.table total_is c.sizes-bounds.ensures (omega arith) few c.loop-k.invariant (ap (λ i. get_or c.loop-k.table i 0) c.place_of_pairs-last.ensures.value)).1
+    (pairs-found c.args.self.now c.total-total.result c.loop-k.k _ c.sizes-bounds.result.now c.loop-k.table total_is c.sizes-bounds.ensures.same (omega arith) few c.loop-k.invariant (ap (λ i. get_or c.loop-k.table i 0) c.place_of_pairs-last.ensures.value)).1
