@@ -225,7 +225,7 @@ def clusters(program):
         expression = "board(30,30,0,0,1,0,0)"
         whole = shell.run(f'sgb list "{expression}"')[1]
         shell.write("sbatch", '#!/bin/sh\nprintf "%s\\n" "$@" > handed\n', 0o755)
-        for given, number, words in [("disjoint_subsets(30,6)", "3", "the part"), (expression, "12", "part")]:
+        for given, number, words in [("board(3000000,0,0,0,-1,1,0)", "3", "the part"), (expression, "12", "part")]:
             told = shell.run(f'examples/parts/memory.py "{given}"')[1].strip()
             job = f'examples/parts/slurm.sh "{given}" {number} "{words}"'
             tally.same(job, shell.run(job), (0, "", ""))
