@@ -7,7 +7,7 @@
 # make outside    checks the built program from outside: refused memory, failing devices, broken files, tour, examples
 # make conformance  holds the program against a table of graphs and refusals
 # make graphbase GRAPHBASE=FOLDER  holds it against the published library in FOLDER: gb_graph.h .. and libgb.a
-# make gallery    makes the pictures of docs/gallery.md and compares them with those that are kept
+# make gallery    makes the pictures of docs/GALLERY.md and compares them with those that are kept
 # make calls      refuses memory to library calls: what stood before stands after, about a minute
 # make library    calls of the libraries with values from outside, many of them as tables, about two minutes
 # make test       what runs without a proof, on programs and a library that are built unproved, in some five minutes

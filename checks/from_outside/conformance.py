@@ -222,7 +222,7 @@ def all_checks(document, shell_of):
     """Each check with its name; `document` makes one of a page's commands, `shell_of` a folder in which they run."""
     yield "conformance table", table
     yield "document conformance/README.md", document("conformance/README.md", 3)
-    yield "document docs/gallery.md", document("docs/gallery.md", 12)
+    yield "document docs/GALLERY.md", document("docs/GALLERY.md", 12)
     yield "document docs/COOKBOOK.md", document("docs/COOKBOOK.md", 14)
     yield "cookbook", cookbook
     yield "document docs/ERRORS.md", document("docs/ERRORS.md", 30)

@@ -11,18 +11,9 @@
 
 #include "gb_basic.h"
 #include "gb_flip.h"
+#include "gb_looked.h"
 #include "gb_save.h"
 #include "sgb.h"
-
-static long looked, wrong;
-static char path[4096];
-
-static void is(int right, const char *what, long k) {
-    looked++;
-    if (right) return;
-    wrong++;
-    printf("not right: %s, %ld\n", what, k);
-}
 
 static void is_text(const char *seen, const char *wanted, const char *what) {
     looked++;

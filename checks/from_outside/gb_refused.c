@@ -8,17 +8,8 @@
 #include "gb_graph.h"
 
 #include "gb_basic.h"
+#include "gb_looked.h"
 #include "gb_save.h"
-
-static long looked, wrong;
-static char path[4096];
-
-static void is(int right, const char *what, long k) {
-    looked++;
-    if (right) return;
-    wrong++;
-    printf("not right: %s, %ld\n", what, k);
-}
 
 static long left = LONG_MAX; /* how many calls for memory are granted */
 

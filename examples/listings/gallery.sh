@@ -1,5 +1,5 @@
 #!/bin/sh
-# Makes the pictures of docs/gallery.md by the commands of that page, and compares them with those in docs/gallery/.
+# Makes the pictures of docs/GALLERY.md by the commands of that page, and compares them with those in docs/gallery/.
 #
 #   examples/listings/gallery.sh [-u] [PROGRAM]     -u keeps what is made in docs/gallery/
 #
@@ -15,7 +15,7 @@ there=$(mktemp -d)
 trap 'rm -rf "$there"' EXIT
 ln -s "$program" "$there/sgb"
 ln -s "$top/examples" "$there/examples"
-sed -n 's/^    \$ //p' "$top/docs/gallery.md" > "$there/commands"
+sed -n 's/^    \$ //p' "$top/docs/GALLERY.md" > "$there/commands"
 
 status=0
 count=0
@@ -34,7 +34,7 @@ while IFS= read -r command; do
     if [ -n "$keep" ]; then cp "$there/$name" "$top/docs/gallery/$name"
     elif ! cmp "$there/$name" "$top/docs/gallery/$name" >&2; then status=1
     fi
-    grep -q "(gallery/$name)" "$top/docs/gallery.md" || { echo "gallery.sh: the page does not show $name" >&2; status=1; }
+    grep -q "(gallery/$name)" "$top/docs/GALLERY.md" || { echo "gallery.sh: the page does not show $name" >&2; status=1; }
 done < "$there/commands"
 for picture in "$top"/docs/gallery/*.svg; do
     [ -e "$there/${picture##*/}" ] || { echo "gallery.sh: no command makes ${picture##*/}" >&2; status=1; }
