@@ -49,8 +49,7 @@ NeedsNoMemory (request.Save e) = IsRefusedAtOnce (expression_of e)
 NeedsNoMemory request.Queen = ⊥
 NeedsNoMemory (request.Flip p) = Unit {0}
 
--- a request whose answer takes no memory was answered in full where the output sink is sound: with its output, or with the line
--- and the status of its refusal
+-- a request whose answer takes no memory was answered in full where the output is sound: its output, or its refusal's line and status
 abbrev pub IsCertain : {S : Type 0} → Request → Left S → Type 0
 IsCertain r l = NeedsNoMemory r → l.out.told.failed ≡ false → (stdin : Result GraphData Panic) → IsGiven (outcome_of (answer_of r stdin)) l
 

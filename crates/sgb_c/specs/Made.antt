@@ -18,9 +18,8 @@ abbrev pub of_both : {T : Type 0} → (GraphData → GraphData → T) → Option
 of_both f (Some g) (Some h) = Some (f g h)
 of_both f _ _ = None
 
--- Making a graph answers this number, where this is what the definition says of the operands, if all are open: that it is done,
--- and the handle holds a graph that is described; or the refusal, or that memory ran out, and the handle holds none; or that an
--- operand is not open; or that another graph is open, which stays.
+-- Making a graph answers this number, where this is what the definition says of the operands, if all are open: done, and the handle
+-- holds what is described; or the refusal or want of memory, and it holds none; or one is not open; or one is held, which stays.
 abbrev pub IsMade : Option (Result Description Panic) → (old new : Option GraphData) → ℕ → Type 0
 IsMade value (Some g) new number = (number ≡ number_of answer.AlreadyOpen) × (new ≡ Some g)
 IsMade None None new number = (number ≡ number_of answer.NotOpen) × (new ≡ None)
@@ -28,9 +27,8 @@ IsMade (Some value) None new number =
     ((number ≡ number_of answer.Done) × ((g : GraphData) × IsAnswerOf value (Ok g) × (new ≡ Some g)))
     ⊎ (((p : Panic) × (number ≡ number_of (answer.Panic p)) × IsAnswerOf value (Err p)) × (new ≡ None))
 
--- Making a graph of arrays answers this number, where this is wrong with them, or they tell this graph: that it is done, and the
--- handle holds that graph; or what is wrong, or that memory ran out where nothing is, and the handle holds none; or that another
--- graph is open, which stays.
+-- Making a graph of arrays answers this number, where this is wrong with them, or they tell this graph: done, and the handle holds
+-- it; or what is wrong, or want of memory where nothing is, and the handle holds none; or another graph is held, which stays.
 abbrev pub IsGiven : Option Unmade → GraphData → (old new : Option GraphData) → ℕ → Type 0
 IsGiven fault g (Some h) new number = (number ≡ number_of answer.AlreadyOpen) × (new ≡ Some h)
 IsGiven fault g None new number = ((number ≡ number_of answer.Done) × (fault ≡ None) × (new ≡ Some g))

@@ -43,8 +43,7 @@ pub record CutSourceState : Type 0 where
   pub left : ℕ
   pub failed : Bool
 
--- a sink that is cut short: the bytes taken, how many it takes at once and in all from here on, whether a flush
--- fails, and whether it has failed
+-- a sink cut short: the bytes taken, how many it takes at once and in all from here on, whether a flush fails, whether it has failed
 pub record CutSinkState : Type 0 where
   pub taken : List ℕ
   pub each : ℕ

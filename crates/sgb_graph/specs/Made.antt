@@ -33,8 +33,7 @@ abbrev pub number_after : ℕ → List Link → Option ℕ
 number_after k [] = None
 number_after k (l ∷ links) = if l.number == k then first_number links else number_after k links
 
--- the graph that is described: its vertices, each with the first record of its list, and the records of its events, each with the
--- next one in the list of the vertex where it starts
+-- the graph that is described: its vertices, each with the first record of its list, and its events' records, each with the next one
 abbrev pub graph_described : Description → GraphData
 graph_described d = record {
   id = d.id;

@@ -13,8 +13,7 @@ use Rattle.sgb.specs.Runs.{Input, IsReportedAs, IsRunFrom, Left}
 use Rattle.sgb_values.specs.Values.{IsValueOn}
 use Rattle.sgb_levels.specs.Lines.{IsLevelsAnswer}
 
--- what the words ask for, of which the first is the program's name: the expression that the only other one is read as; any
--- other number of words is an invalid command line
+-- what the words ask for after the program's name: the expression that the only one is read as; any other number of them is invalid
 abbrev pub AskFor : List (List ℕ) → Result Expr Fault → Type 0
 AskFor (name ∷ text ∷ []) read = IsReadAs text read
 AskFor words read = read ≡ Err fault.Usage
@@ -36,8 +35,7 @@ IsRefused f l = IsReportedAs (refusal_line f) (status_of f) l
 abbrev pub AreLevelsOn : List ℕ → Expression → Result (List ℕ) Fault → Type 0
 AreLevelsOn input e answer = (value : Result GraphData Panic) × IsValueOn input e value × IsLevelsAnswer value answer
 
--- The distances in this expression's graph were written: standard input holds a text, the one that it tells, there is an answer
--- on it, and it was given, or the run was stopped, as runs of `sgb` are.
+-- the distances in this expression's graph were written: standard input holds a text, with an answer, and this is a run with it
 abbrev pub AreLevelsWritten : {S : Type 0} → Expression → Input → Left S → Type 0
 AreLevelsWritten e source l = (held : List ℕ) × IfSome source.bytes (λ bytes. held ≡ bytes)
     × (a : Result (List ℕ) Fault) × AreLevelsOn held e a × IsRunFrom (has_stdin e && source.failed) a l

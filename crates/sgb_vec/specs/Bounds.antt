@@ -31,8 +31,7 @@ simplex_by_stop n entries s e = if nat_lt (most_dimensions + 1) (count_by_stop 1
       sizes = map (λ b. min b n) (repeated s (count_by_stop 1 s e));
     }))
 
--- the parameters n, n0, n1, n2, n3, n4 of a simplex normalised, with its bounds; or why they are refused: a
--- negative n first, then too many dimensions, then n above 1,000,000,000
+-- a simplex's parameters normalised, with its bounds; or why they are refused: n below 0; then too many dimensions; then n above 10^9
 abbrev pub simplex_of : ℤ → ℤ → ℤ → ℤ → ℤ → ℤ → Result Normalized Panic
 simplex_of (negsuc n) n0 n1 n2 n3 n4 = Err Bad
 simplex_of (pos n) n0 n1 n2 n3 n4 = let entries = first_parameter n0 ∷ n1 ∷ n2 ∷ n3 ∷ n4 ∷ [] in

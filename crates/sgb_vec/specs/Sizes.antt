@@ -37,8 +37,7 @@ pub record Normalized : Type 0 where
   pub params : List ℤ
   pub sizes : List ℕ
 
--- the parameters and sizes, where s stands before the stop e of the entries: s repeated to d sizes where e is -d; where no
--- entry stands there, GraphBase's default, 8 by 8
+-- the parameters and sizes, where s stands before the stop e of the entries: s repeated, to d sizes where e is -d; of none 8 by 8
 abbrev pub board_by_stop : List ℤ → List ℕ → ℤ → Result Normalized Panic
 board_by_stop entries [] e = Ok (record { params = pos 8 ∷ pos 8 ∷ pos 0 ∷ pos 0 ∷ []; sizes = 8 ∷ 8 ∷ [] })
 board_by_stop entries (n ∷ s) e = let sizes = repeated (n ∷ s) (count_by_stop 0 (n ∷ s) e) in
