@@ -19,7 +19,7 @@ of_both f (Some g) (Some h) = Some (f g h)
 of_both f _ _ = None
 
 -- Making a graph answers this number, where this is what the definition says of the operands, if all are open: done, and the handle
--- holds what is described; or the refusal or want of memory, and it holds none; or one is not open; or one is held, which stays.
+-- holds what is described; or the refusal, or no memory, and it holds none; or an operand is not open; or one is held, which stays.
 abbrev pub IsMade : Option (Result Description Panic) → (old new : Option GraphData) → ℕ → Type 0
 IsMade value (Some g) new number = (number ≡ number_of answer.AlreadyOpen) × (new ≡ Some g)
 IsMade None None new number = (number ≡ number_of answer.NotOpen) × (new ≡ None)

@@ -22,8 +22,8 @@ pub fn leading_number(text: &[u8], radix: u32, most: usize) -> Option<(u128, &[u
     Some((digits_value(digits, radix), &text[digits.len()..]))
 }
 
-/// The digits in the radix, 2 to 36, that the text begins with, `most` of them at the most.
-pub fn leading_digits(text: &[u8], radix: u32, most: usize) -> &[u8]
+// The digits in the radix that the text begins with, `most` of them at the most.
+fn leading_digits(text: &[u8], radix: u32, most: usize) -> &[u8]
     requires low { 2 ≤ radix }
     requires high { radix ≤ 36 }
     ensures { result.now ≡ leading_digits radix most text.now }
@@ -37,8 +37,8 @@ pub fn leading_digits(text: &[u8], radix: u32, most: usize) -> &[u8]
     longest
 }
 
-/// The number that these digits in the radix, 2 to 36, write. It has to be below 2^128; leading zeros are allowed.
-pub fn digits_value(digits: &[u8], radix: u32) -> u128
+// The number that these digits in the radix write. It has to be below 2^128; leading zeros are allowed.
+fn digits_value(digits: &[u8], radix: u32) -> u128
     requires low { 2 ≤ radix }
     requires high { radix ≤ 36 }
     requires numeral { IsNumeral radix digits.now }

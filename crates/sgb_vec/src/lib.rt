@@ -31,7 +31,7 @@ mod texts;
 mod vectors;
 
 pub use boxes::BoxFamily;
-pub use digits::{digits_value, leading_digits, leading_number};
+pub use digits::leading_number;
 pub use families::{Family, Vector};
 pub use filled::Filled;
 pub use laws::{boxes_are_families, names_read_back, sums_are_families};
