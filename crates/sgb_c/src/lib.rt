@@ -1,6 +1,5 @@
-//! The library for C: graphs by the official names of the Stanford GraphBase, as arrays that the caller hands in. Its
-//! exports are the calls of `include/sgb.h`; each calls a function of the libraries below, and states its clauses again. A
-//! graph is held by a handle until it is closed. Arrays are of a run of its vertices: so many one after another.
+//! The library for C, whose exports are the calls of `include/sgb.h`: each calls a function of the libraries below, and states its
+//! clauses again. A graph is held by a handle until it is closed. Arrays are of a run of its vertices: so many one after another.
 #![tactic(auto)]
 
 ghost use Rattle.std.specs.Prelude.{◌≡◌, ◌⊎◌, ◌≤◌, ◌+◌, ◌-◌, ◌^◌, length, map, min, None};
@@ -61,8 +60,7 @@ pub struct Sizes {
     pub id: u64,
 }
 
-/// Opens the graph that a text names, where `input` is what its `stdin` reads. That of a generator's call is not built: its
-/// accepted parameters are kept.
+/// Opens the graph that a text names, where `input` is what its `stdin` reads. That of a generator's call is not built.
 #[unsafe(no_mangle)]
 pub extern "C" fn sgb_open(alloc: Global, text: &[u8], input: &[u8], graph: &mut GraphHandle) -> u64
     ensures opened { IsOpened text.now input.now (graph_in graph.old) (graph_in graph.new) result }
@@ -137,8 +135,7 @@ pub extern "C" fn sgb_arcs(alloc: Global, graph: &mut GraphHandle, arcs: &mut u6
     }
 }
 
-/// How many arcs are on the lists of a run of the graph that is open, which are its `count` vertices from `first` on: 2^64 - 1 also
-/// where there are more.
+/// How many arcs are on the lists of a run of the graph, its `count` vertices from `first` on: 2^64 - 1 where there are more, too.
 #[unsafe(no_mangle)]
 pub extern "C" fn sgb_rows_size(
     alloc: Global,
@@ -375,8 +372,7 @@ pub extern "C" fn sgb_file(alloc: Global, graph: &mut GraphHandle, bytes: &mut [
     }
 }
 
-/// Random numbers, as GB_FLIP draws them when it is started from this value, after so many that are left out. No memory is
-/// taken.
+/// Random numbers, as GB_FLIP draws them when it is started from this value, after so many that are left out.
 #[unsafe(no_mangle)]
 pub extern "C" fn sgb_draws(start: i64, skip: u64, out: &mut [u32])
     ensures { out.new ≡ plain_draws (seed_of start) skip (length out.old) }
@@ -384,8 +380,7 @@ pub extern "C" fn sgb_draws(start: i64, skip: u64, out: &mut [u32])
     fill_draws(start, skip, out);
 }
 
-/// Uniform random numbers below `m`, as GB_FLIP draws them when it is started from this value, after so many plain draws
-/// that are left out. No memory is taken.
+/// Uniform random numbers below `m`, as GB_FLIP draws them from this value on, after so many plain draws that are left out.
 #[unsafe(no_mangle)]
 pub extern "C" fn sgb_uniform_draws(start: i64, skip: u64, m: u32, out: &mut [u32]) -> u64
     ensures { ((result ≡ number_of Answer.Done) × (1 ≤ m) × (m ≤ modulus)
