@@ -22,17 +22,15 @@ two_digits n more few = search (rules, decimal_step, decimal_digit)
 pub pair_after : (n : ℕ) → 100 ≤ n → n < 2 ^ 32 → decimal (n / 100) ++ ((48 + n % 100 / 10) ∷ (48 + n % 100 % 10) ∷ []) ≡ decimal n
 pair_after n more few = search (rules, decimal_step, append_assoc)
 
--- a byte was put after the bytes that are kept
-pub byte_put : (s : ShortText) (bytes : List ℕ) (len byte place value new : ℕ) → record { text = take len bytes; value = value } ≡ s
-    → length bytes ≡ 4096
-    → length s.text + 1 ≤ 4096 → len ≤ 4096 → place ≡ place_of byte → new ≡ (2 * value + place) % 2 ^ 64
-    → record { text = take (len + 1) (set bytes (len % 4096) byte); value = new } ≡ put_after s (byte ∷ [])
-unfolding put_after value_from
-byte_put s bytes len byte place value new view all room most p v = grind (arith, length-take, mod-eq_of_lt, take_more_set)
-
 -- bytes with a value
 abbrev pub kept_text : List ℕ → ℕ → ShortText
 kept_text text value = record { text = text; value = value }
+
+-- a byte was put after the others
+pub byte_put : (s : ShortText) (text : List ℕ) (byte place new : ℕ) → text ≡ s.text ++ byte ∷ [] → place ≡ place_of byte
+    → new ≡ (2 * s.value + place) % 2 ^ 64 → kept_text text new ≡ put_after s (byte ∷ [])
+unfolding put_after value_from
+byte_put s text byte place new e p v = grind (arith, e, p, v)
 
 -- bytes after bytes
 pub put-append : (s : ShortText) (xs ys : List ℕ) → put_after (put_after s xs) ys ≡ put_after s (xs ++ ys)

@@ -243,7 +243,22 @@ impl<const N: usize> Filled<N> {
         ensures text { self.new ≡ self.old ++ byte ∷ [] }
         ensures len { length self.new ≡ length self.old + 1 }
     {
-        self.bytes[self.len] = byte;
+        let end = self.end();
+        self.bytes[end] = byte;
         self.len += 1;
+    }
+
+    // The place of the next byte. By the remainder, which changes nothing, the compiler knows that only the bytes are written
+    // over, and keeps at hand what else stands beside the text; of another `N` than a power of two it would cost more.
+    #[inline(always)]
+    fn end(&self) -> usize
+        requires { length self.now < N }
+        ensures { result ≡ length self.now }
+    {
+        if N.is_power_of_two() {
+            self.len % N
+        } else {
+            self.len
+        }
     }
 }

@@ -13,6 +13,7 @@ ghost use Rattle.sgb_file.specs.inner.ShortLines.{AreShort, AreShortFields, fiel
 ghost use Rattle.std.specs.Prelude.{◌*◌};
 
 use crate::checksums::{place_of, remainder, value_with};
+use sgb_vec::Filled;
 use std::marker::Model;
 
 // So many bytes of lines are put together.
@@ -21,25 +22,19 @@ const MOST_BYTES: usize = 4_096;
 // A line that is put together and its newline have at most this many.
 const MOST_LINE_BYTES: usize = 60;
 
-// Lines put together in place, and a value: the checksum after them is its remainder. Contracts
-// see the bytes as a list.
+// Lines put together in place, and a value: the checksum after them is its remainder.
 #[derive(Drop)]
 pub(super) struct ShortLines {
-    bytes: [u8; 4096],
-    // How many of them are the lines'.
-    len: usize,
+    lines: Filled<MOST_BYTES>,
     value: u64,
 }
 
 impl Model for ShortLines {
-    ghost use Rattle.std.specs.Prelude.{length, take, ◌≡◌, ◌≤◌};
     ghost use Rattle.sgb_file.specs.inner.ShortLines.{ShortText};
 
     ghost Value = { ShortText };
 
-    ghost view = { λ lines. record { text = take lines.len lines.bytes; value = lines.value } };
-
-    ghost invariant = { λ lines. (lines.len ≤ 4096) × (length lines.bytes ≡ 4096) };
+    ghost view = { λ lines. record { text = lines.lines; value = lines.value } };
 }
 
 impl ShortLines {
@@ -48,8 +43,7 @@ impl ShortLines {
         ensures { result.text ≡ [] }
     {
         ShortLines {
-            bytes: [b' '; 4096],
-            len: 0,
+            lines: Filled::new(),
             value: 0,
         }
     }
@@ -58,7 +52,7 @@ impl ShortLines {
     pub(super) fn begin(&mut self, checksum: u32)
         ensures { self.new ≡ record { text = []; value = checksum } }
     {
-        self.len = 0;
+        self.lines.cut(0);
         self.value = u64::from(checksum);
     }
 
@@ -66,14 +60,14 @@ impl ShortLines {
     pub(super) fn has_room(&self) -> bool
         ensures { OnTrue result (length self.now.text + 60 ≤ 4096) }
     {
-        self.len <= MOST_BYTES - MOST_LINE_BYTES
+        self.lines.len() <= MOST_BYTES - MOST_LINE_BYTES
     }
 
     // The bytes of the lines.
     pub(super) fn bytes(&self) -> &[u8]
         ensures { result.now ≡ self.now.text }
     {
-        &self.bytes[..self.len]
+        self.lines.bytes()
     }
 
     // The checksum after the lines, where none is under way.
@@ -300,8 +294,7 @@ impl ShortLines {
         self.push_placed(byte, place_of(byte));
     }
 
-    // Appends a byte with its place. By the remainder, which changes nothing, the compiler knows that
-    // only the bytes are written over, and keeps the other fields at hand.
+    // Appends a byte with its place.
     #[inline(always)]
     fn push_placed(&mut self, byte: u8, place: u8)
         requires place { place ≡ place_of byte }
@@ -309,8 +302,7 @@ impl ShortLines {
         ensures put { self.new ≡ put_after self.old (byte ∷ []) }
         ensures len { length self.new.text ≡ length self.old.text + 1 }
     {
-        self.bytes[self.len % MOST_BYTES] = byte;
-        self.len += 1;
+        self.lines.push_byte(byte);
         self.value = value_with(self.value, place);
     }
 
