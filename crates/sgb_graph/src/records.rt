@@ -171,7 +171,9 @@ impl Records {
             ≡ record self.old { items = self.old.items ++ arc_record v after len ∷ [] }) }
         ensures err { OnErr result (self.new ≡ self.old) }
     {
-        self.plain.push(PlainRecord::new(Ref::At(v), after, len))?;
+        self.plain.reserve(1)?;
+        self.plain
+            .push_reserved(PlainRecord::new(Ref::At(v), after, len));
         Ok(())
     }
 
@@ -195,9 +197,9 @@ impl Records {
     {
         self.plain.reserve(2)?;
         self.plain
-            .push(PlainRecord::new(Ref::At(high), after_lower, len))?;
+            .push_reserved(PlainRecord::new(Ref::At(high), after_lower, len));
         self.plain
-            .push(PlainRecord::new(Ref::At(low), after_higher, len))?;
+            .push_reserved(PlainRecord::new(Ref::At(low), after_higher, len));
         Ok(())
     }
 }

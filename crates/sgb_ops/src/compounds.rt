@@ -1,7 +1,6 @@
 //! Pieces of the ids of results, and names made of names.
 //!
-//! A name that is made of names takes one allocation: its bytes are put together in a vector, which the text keeps
-//! where it is not short.
+//! A name that is made of names is put together where it stays: a short one takes no memory of its own.
 ghost use Rattle.std.specs.Prelude.{◌≡◌, ◌≤◌, ◌+◌, ◌++◌, [], ◌∷◌, All, length, take, IfOk, IsOkUnless, IsTrue};
 ghost use Rattle.std.specs.Fmt.{signed_decimal};
 ghost use Rattle.sgb_graph.specs.IdTexts.{flag_text, is_id_text};
@@ -54,7 +53,7 @@ pub(crate) fn joined_name(
         ++ take most_second second.now) }
     ensures memory { IsOkUnless result Panic.NoRoom }
 {
-    name_of_parts(
+    Text::of_parts(
         alloc,
         front(first.bytes(), most_first),
         separator,
@@ -71,30 +70,7 @@ pub(crate) fn ended_name(alloc: Global, name: &Text, most: usize, end: &[u8]) ->
     ensures ok { IfOk result (λ text. text ≡ take most name.now ++ end.now) }
     ensures memory { IsOkUnless result Panic.NoRoom }
 {
-    name_of_parts(alloc, b"", front(name.bytes(), most), end)
-}
-
-/// Three texts, one after another.
-///
-/// `NoRoom` when out of memory, and nothing else.
-pub(crate) fn name_of_parts(
-    alloc: Global,
-    first: &[u8],
-    second: &[u8],
-    third: &[u8],
-) -> Result<Text, Panic>
-    requires short { length first.now + length second.now + length third.now ≤ most_bytes }
-    requires first { All IsTextByte first.now }
-    requires second { All IsTextByte second.now }
-    requires third { All IsTextByte third.now }
-    ensures ok { IfOk result (λ text. text ≡ first.now ++ second.now ++ third.now) }
-    ensures memory { IsOkUnless result Panic.NoRoom }
-{
-    let mut bytes = Vec::with_capacity(alloc, first.len() + second.len() + third.len())?;
-    bytes.extend_from_slice(first)?;
-    bytes.extend_from_slice(second)?;
-    bytes.extend_from_slice(third)?;
-    Text::from_bytes(bytes)
+    Text::of_parts(alloc, b"", front(name.bytes(), most), end)
 }
 
 // At most the first `most` bytes.

@@ -2,8 +2,8 @@
 //!
 //! A text of at most 16 bytes stands where it is kept: that spares an allocation for each name, and a look elsewhere
 //! when it is read. A longer one takes eight bytes more than it would as a `Vec`.
-ghost use Rattle.std.specs.Prelude.{◌≡◌, ◌+◌, ◌≤◌, ◌++◌, ◌↔◌, length, decimal, IsTrue, IsOk, IfOk, OnOk, OnErr, IsErrOf, IsOkUnless};
-ghost use Rattle.sgb_vec.specs.Limits.{most_dimensions};
+ghost use Rattle.std.specs.Prelude.{◌≡◌, ◌+◌, ◌≤◌, ◌++◌, ◌↔◌, All, length, decimal, IsTrue, IfOk, OnOk, OnErr, IsErrOf, IsOkUnless};
+ghost use Rattle.sgb_vec.specs.Limits.{most_bytes, most_dimensions};
 ghost use Rattle.sgb_vec.specs.Names.{name_of_vector, IsTextByte, IsText};
 
 use crate::panics::Panic;
@@ -53,20 +53,22 @@ impl Text {
         Ok(Text { bytes })
     }
 
-    /// The string of these bytes, which it keeps where they are, unless they are few: it takes no memory.
+    /// The string of three texts, one after another. They are put together where they stay.
     ///
-    /// `Syntax` where they are no string, as for `new`, and nothing else.
-    pub fn from_bytes(bytes: Vec<u8>) -> Result<Text, Panic>
-        ensures ok { IfOk result (λ text. (text ≡ bytes.items) × IsText bytes.items) }
-        ensures refused { IsErrOf result Panic.Syntax ↔ ¬ IsText bytes.items }
-        ensures err { IsText bytes.items → IsOk result }
+    /// `NoRoom` when out of memory, and nothing else.
+    pub fn of_parts(alloc: Global, first: &[u8], second: &[u8], third: &[u8]) -> Result<Text, Panic>
+        requires short { length first.now + length second.now + length third.now ≤ most_bytes }
+        requires first { All IsTextByte first.now }
+        requires second { All IsTextByte second.now }
+        requires third { All IsTextByte third.now }
+        ensures ok { IfOk result (λ text. text ≡ first.now ++ second.now ++ third.now) }
+        ensures memory { IsOkUnless result Panic.NoRoom }
     {
-        if !is_text(&bytes) {
-            return Err(Panic::Syntax);
-        }
-        Ok(Text {
-            bytes: SmallVec::from_vec(bytes),
-        })
+        let mut bytes = SmallVec::with_capacity(alloc, first.len() + second.len() + third.len())?;
+        bytes.extend_from_slice(first)?;
+        bytes.extend_from_slice(second)?;
+        bytes.extend_from_slice(third)?;
+        Ok(Text { bytes })
     }
 
     /// The bytes of the string.

@@ -10,7 +10,7 @@ ghost use Rattle.sgb_ops.specs.inner.Entries.{own_names};
 ghost use Rattle.std.specs.Prelude.{◌<◌};
 
 use super::entries::Entry;
-use crate::compounds::{ended_name, joined_name, name_of_parts};
+use crate::compounds::{ended_name, joined_name};
 use crate::operands::{push_joined_names, push_name};
 use sgb_graph::{Graph, Names};
 use sgb_vec::{Panic, Text, name_of};
@@ -62,7 +62,7 @@ fn merged_name(alloc: Global, k: u32) -> Result<Text, Panic>
     ensures memory { IsOkUnless result Panic.NoRoom }
 {
     let number = name_of(alloc, &[k])?;
-    name_of_parts(alloc, b"", b"-", number.bytes())
+    Text::of_parts(alloc, b"", b"-", number.bytes())
 }
 
 // Appends the names of the vertices that are not merged.
