@@ -1,6 +1,7 @@
 -- Worked examples of the definitions, evaluated by the check.
 pub mod Operands
 pub mod Pieces
+pub mod Ends
 pub mod Compounds
 pub mod Pairs
 pub mod Lines

@@ -1,6 +1,8 @@
 -- Words and what they ask, by evaluation of clap's own definitions; and the requests that plain words make.
 use Rattle.std.proofs.Common.{◌≡◌, List, [], ◌∷◌, map, Option, Some, None, Ok, refl, inl, inr, codes, arith}
+use Rattle.std.specs.Char.{digit_value}
 use Rattle.std.specs.Fmt.{digits}
+use Rattle.std.specs.Prelude.{◌<◌, Result, Err}
 use Rattle.std.specs.Option.{option_map_or}
 use Rattle.clap.specs.Faults.{defaults_fault, flags_fault, walk_fault}
 use Rattle.clap.specs.Kinds.{Kinds}
@@ -13,12 +15,15 @@ use Rattle.sgb_text.specs.Numbers.{IsNumber}
 use Rattle.sgb_expr.specs.Numbers.{most_digits}
 use Rattle.sgb_vec.specs.declared.panics.Panic.TheVariants.{Late, NoRoom}
 use Rattle.sgb_requests.specs.Faults.{fault_line, fault_of_kind, fault_of_unread, status_of}
+use Rattle.sgb_requests.specs.PlainWords.{AreOptions, IsFlipReadBy, IsPlain, IsQueenRead, IsReadBy}
 use Rattle.sgb_requests.specs.Reading.{IsFlipReadAs, IsReadAs}
-use Rattle.sgb_requests.specs.Requests.{IsCommandLineReadAs, IsInvalidCommandLine, IsRequest, IsResumeOf}
+use Rattle.sgb_requests.specs.Requests.{IsAskedOf, IsCommandLineReadAs, IsInvalidCommandLine, IsRefusedCommandLine, IsRequest, IsResumeOf}
 use Rattle.sgb_expr.specs.declared.expressions.Expr.{Expr}
 use Rattle.sgb_expr.specs.declared.expressions.Unread.TheVariants as unread
 use Rattle.sgb_expr.specs.declared.flips.FlipParams.{FlipParams}
+use Rattle.sgb_requests.specs.declared.faults.Fault.{Fault}
 use Rattle.sgb_requests.specs.declared.faults.Fault.TheVariants as fault
+use Rattle.sgb_requests.specs.declared.requests.Request.{Request}
 use Rattle.sgb_requests.specs.declared.requests.Request.TheVariants as request
 use Rattle.sgb_requests.specs.declared.requests.Resume.{Resume}
 use Rattle.sgb_requests.specs.declared.requests.Resume.TheVariants.{Whole, Skip, After}
@@ -38,6 +43,7 @@ plain_forms =
     (codes "sgb" ∷ codes "names" ∷ codes "petersen()" ∷ [])
     ∷ (codes "sgb" ∷ codes "list" ∷ codes "board(2,2,0,0,1,0,0)" ∷ codes "--after" ∷ codes "0.1" ∷ [])
     ∷ (codes "sgb" ∷ codes "names" ∷ codes "petersen()" ∷ codes "--skip" ∷ codes "007" ∷ [])
+    ∷ (codes "sgb" ∷ codes "list" ∷ codes "stdin" ∷ codes "--skip" ∷ codes "3" ∷ [])
     ∷ (codes "sgb" ∷ codes "save" ∷ codes "stdin" ∷ []) ∷ (codes "sgb" ∷ codes "queen" ∷ [])
     ∷ (codes "sgb" ∷ codes "flip" ∷ codes "flip(1,0,5,0)" ∷ []) ∷ []
 
@@ -45,6 +51,7 @@ plain_asked : map asked_of plain_forms
     ≡ asks (codes "names") (Some (codes "petersen()")) None None
     ∷ asks (codes "list") (Some (codes "board(2,2,0,0,1,0,0)")) (Some (codes "0.1")) None
     ∷ asks (codes "names") (Some (codes "petersen()")) None (Some (codes "007"))
+    ∷ asks (codes "list") (Some (codes "stdin")) None (Some (codes "3"))
     ∷ asks (codes "save") (Some (codes "stdin")) None None
     ∷ asks (codes "queen") None None None
     ∷ asks (codes "flip") (Some (codes "flip(1,0,5,0)")) None None ∷ []
@@ -62,6 +69,11 @@ hyphens :
 unfolding walked bundle_met walk_fault flags_fault defaults_fault
 hyphens = (refl, refl)
 
+-- no expression
+expression_wanted : fault_of command_line (codes "sgb" ∷ codes "names" ∷ []) ≡ kind.MissingRequiredArgument ∷ []
+unfolding walked bundle_met walk_fault flags_fault defaults_fault
+expression_wanted = refl
+
 -- no command, or both options
 abbrev both_options : List Text
 both_options = codes "sgb" ∷ codes "names" ∷ codes "petersen()" ∷ codes "--after" ∷ codes "0" ∷ codes "--skip" ∷ codes "1" ∷ []
@@ -77,6 +89,89 @@ not_both (After name) never = never
 invalid : IsInvalidCommandLine (codes "sgb" ∷ []) × IsInvalidCommandLine both_options
 unfolding walked bundle_met walk_fault flags_fault defaults_fault
 invalid = (inl (inr refl), inr (codes "names", rows_of both_options, codes "petersen()", (record { taken = refl; entered = refl }, refl), not_both))
+
+-- no number
+abbrev no_count : List Text
+no_count = codes "sgb" ∷ codes "names" ∷ codes "petersen()" ∷ codes "--skip" ∷ codes "x" ∷ []
+
+not_number : (resume : Resume) → IsResumeOf None (Some (codes "x")) resume → ⊥
+not_number Whole never = never
+not_number (Skip k) number = let bad : digit_value 120 < 10 = number.numeral.1.0 in absurd (omega (arith, bad))
+not_number (After name) never = never
+
+invalid_count : IsInvalidCommandLine no_count
+unfolding walked bundle_met walk_fault flags_fault defaults_fault
+invalid_count = inr (codes "names", rows_of no_count, codes "petersen()", (record { taken = refl; entered = refl }, refl), not_number)
+
+-- `10` is ten
+ten : IsNumber 10 most_digits (codes "10") 10
+ten = record { numeral = (omega arith, (omega arith, (omega arith, tt))); short = omega arith; writes = refl }
+
+skipped : IsResumeOf None (Some (codes "10")) (Skip 10)
+skipped = ten
+
+-- the text after the command is read, or refused as too large
+abbrev from_ten : List Text
+from_ten = codes "sgb" ∷ codes "names" ∷ codes "stdin" ∷ codes "--skip" ∷ codes "10" ∷ []
+
+names_from_ten : (read : Result Expr Fault) → IsReadAs (codes "stdin") read → IsAskedOf from_ten (codes "names") (Skip 10) read
+unfolding walked bundle_met walk_fault flags_fault defaults_fault
+names_from_ten read is = (rows_of from_ten, codes "stdin", (record { taken = refl; entered = refl }, refl), ten, is)
+
+abbrev after_name : List Text
+after_name = codes "sgb" ∷ codes "list" ∷ codes "stdin" ∷ codes "--after" ∷ codes "0.1" ∷ []
+
+list_after_name : (read : Result Expr Fault) → IsReadAs (codes "stdin") read → IsAskedOf after_name (codes "list") (After (codes "0.1")) read
+unfolding walked bundle_met walk_fault flags_fault defaults_fault
+list_after_name read is = (rows_of after_name, codes "stdin", (record { taken = refl; entered = refl }, refl), refl, is)
+
+listings_asked : (e : Expr) → IsReadAs (codes "stdin") (Ok e) → IsRequest from_ten (request.Names e (Skip 10)) × IsRequest after_name (request.List e (After (codes "0.1")))
+listings_asked e is = (names_from_ten (Ok e) is, list_after_name (Ok e) is)
+
+listings_refused : IsReadAs (codes "stdin") (Err fault.TooLarge) → IsRefusedCommandLine from_ten fault.TooLarge × IsRefusedCommandLine after_name fault.TooLarge
+listings_refused is = (inl (Skip 10, inl (names_from_ten (Err fault.TooLarge) is)), inl (After (codes "0.1"), inr (list_after_name (Err fault.TooLarge) is)))
+
+abbrev save_words : List Text
+save_words = codes "sgb" ∷ codes "save" ∷ codes "stdin" ∷ []
+
+save_asked : (e : Expr) → IsReadAs (codes "stdin") (Ok e) → IsRequest save_words (request.Save e)
+unfolding walked bundle_met walk_fault flags_fault defaults_fault
+save_asked e is = (rows_of save_words, codes "stdin", (record { taken = refl; entered = refl }, refl), is)
+
+save_refused : IsReadAs (codes "stdin") (Err fault.TooLarge) → IsRefusedCommandLine save_words fault.TooLarge
+unfolding walked bundle_met walk_fault flags_fault defaults_fault
+save_refused is = inr (inl (rows_of save_words, codes "stdin", (record { taken = refl; entered = refl }, refl), is))
+
+queen_asked : IsRequest (codes "sgb" ∷ codes "queen" ∷ []) request.Queen
+unfolding walked bundle_met walk_fault flags_fault defaults_fault
+queen_asked = (rows_of (codes "sgb" ∷ codes "queen" ∷ []), record { taken = refl; entered = refl })
+
+abbrev flip_words : List Text
+flip_words = codes "sgb" ∷ codes "flip" ∷ codes "flip(1,0,5,0)" ∷ []
+
+flip_asked : (p : FlipParams) → IsFlipReadAs (codes "flip(1,0,5,0)") (Ok p) → IsRequest flip_words (request.Flip p)
+unfolding walked bundle_met walk_fault flags_fault defaults_fault
+flip_asked p is = (rows_of flip_words, codes "flip(1,0,5,0)", (record { taken = refl; entered = refl }, refl), is)
+
+flip_refused : IsFlipReadAs (codes "flip(1,0,5,0)") (Err fault.TooLarge) → IsRefusedCommandLine flip_words fault.TooLarge
+unfolding walked bundle_met walk_fault flags_fault defaults_fault
+flip_refused is = inr (inr (rows_of flip_words, codes "flip(1,0,5,0)", (record { taken = refl; entered = refl }, refl), is))
+
+-- the words of the options
+options_written : AreOptions (codes "--after" ∷ codes "0.1" ∷ []) (After (codes "0.1")) × AreOptions (codes "--skip" ∷ codes "10" ∷ []) (Skip 10)
+options_written = ((letter 48 refl, refl), (codes "10", ten, refl))
+
+-- a word that begins with `-` is not plain
+hyphen_inside : IsPlain (codes "a-b")
+hyphen_inside = letter 97 refl
+
+hyphen_first : IsPlain (codes "-a") → ⊥
+hyphen_first plain = plain refl
+
+-- out of memory any words may be refused
+no_room : (make : Expr → Request) (text : Text) (words : List Text) →
+    IsReadBy make text (Err (fault.Panic NoRoom)) × IsFlipReadBy text (Err (fault.Panic NoRoom)) × IsQueenRead (Err (fault.Panic NoRoom)) × IsRefusedCommandLine words (fault.Panic NoRoom)
+no_room make text words = (inr refl, inr refl, refl, refl)
 
 -- ---- by the law
 

@@ -1,13 +1,13 @@
 -- Values of expressions on small graphs, worked out by hand.
-use Rattle.std.specs.Prelude.{◌≡◌, ℕ, ℤ, pos, negsuc, true, false, List, [], ◌∷◌, length, Result, Ok, Err, map, codes, refl}
-use Rattle.std.proofs.Common.{inl}
-use Rattle.std.proofs.lemmas.Bool.{leb-true}
+use Rattle.std.specs.Prelude.{◌≡◌, ◌≤◌, ◌<◌, ℕ, ℤ, pos, negsuc, true, false, List, [], ◌∷◌, length, Result, Ok, Err, map, codes, refl}
+use Rattle.std.proofs.Common.{inl, inr, sym, subst, arith}
+use Rattle.std.proofs.lemmas.Bool.{leb-true, ltb-true}
 use Rattle.std.specs.Fmt.{digits}
 use Rattle.sgb_vec.specs.Boxes.{box}
 use Rattle.sgb_vec.specs.Names.{name_of_vector}
 use Rattle.sgb_vec.specs.Sizes.{repeated}
 use Rattle.sgb_vec.specs.declared.panics.Panic.{Panic}
-use Rattle.sgb_vec.specs.declared.panics.Panic.TheVariants.{Bad, VeryBad, Early}
+use Rattle.sgb_vec.specs.declared.panics.Panic.TheVariants.{Bad, VeryBad, Early, Syntax}
 use Rattle.sgb_graph.specs.Events.{list_from}
 use Rattle.sgb_graph.specs.Graphs.{GraphData, numbers_from}
 use Rattle.sgb_graph.specs.Ids.{compound_id, double_compound_id}
@@ -19,12 +19,13 @@ use Rattle.sgb_ops.specs.Merged.{merged}
 use Rattle.sgb_ops.specs.Taken.{each_edge_once}
 use Rattle.sgb_ops.specs.declared.induced_graphs.entries.Entry.TheVariants as entry
 use Rattle.sgb_file.specs.FileLines.{text_of_lines}
+use Rattle.sgb_file.specs.Refused.{HasNoOpening, IsRestoredAs}
 use Rattle.sgb_file.proofs.Examples.GraphFiles.{one_cell, one_cell_lines}
 use Rattle.sgb_file.proofs.Examples.Restoring.{no_file_read, one_cell_read}
 use Rattle.sgb_expr.specs.Expression.{Expression, BiComplete, Complement, EntryThen, Generated, Graph, Gunion, Induced, Intersection, Lines, NoEntries, Number, OfGraph, OfGraphs, OfNumbers, Product, Stdin, Wheel}
 use Rattle.sgb_gen.specs.declared.params.Generator.{Generator}
 use Rattle.sgb_gen.specs.declared.params.Generator.TheVariants as generator
-use Rattle.sgb_values.specs.FirstRefusals.{IsRefusedFirst}
+use Rattle.sgb_values.specs.FirstRefusals.{IsInputRefused, IsRefusedFirst}
 use Rattle.sgb_values.specs.Values.{IsStdinValue, most_input, numbered_entry, value_of, values_of}
 
 -- board(n1,n2,0,0,piece,0,0)
@@ -39,6 +40,35 @@ cell_is_stdin = inl (leb-true (length (text_of_lines one_cell_lines)) most_input
 
 pub no_file_is_stdin : IsStdinValue (codes "0\n") (Err Early)
 no_file_is_stdin = inl (leb-true 2 most_input refl, no_file_read)
+
+-- 1 GiB is read
+pub input_limit : most_input ≡ 1_073_741_824
+input_limit = refl
+
+pub longest_input : (input : List ℕ) (value : Result GraphData Panic) → length input ≡ 1_073_741_824 → IsRestoredAs input value → IsStdinValue input value
+longest_input input value many is = inl (subst (λ n. n ≤ most_input) (sym many) (leb-true 1_073_741_824 most_input refl), is)
+
+pub read_as_it_is : (input : List ℕ) → length input ≡ 1_073_741_824 → IsStdinValue input (Err Syntax) → IsRestoredAs input (Err Syntax)
+read_as_it_is input many (inl (short, is)) = is
+read_as_it_is input many (inr (long, same)) = absurd (omega (arith, long, many, input_limit))
+
+-- and one byte more is not, whatever it is
+longer : (input : List ℕ) → length input ≡ 1_073_741_825 → most_input < length input
+longer input many = subst (λ n. most_input < n) (sym many) (ltb-true most_input 1_073_741_825 refl)
+
+pub too_long_input : (input : List ℕ) → length input ≡ 1_073_741_825 → IsStdinValue input (Err Syntax) × IsInputRefused input Syntax
+too_long_input input many = (inr (longer input many, refl), inl (longer input many, refl))
+
+-- before a record is read: for no first line, and not for the length of 1 GiB
+pub no_file_refused : IsInputRefused (codes "0\n") Early
+no_file_refused = inr (leb-true 2 most_input refl, no_file_read, refl)
+
+pub longest_refused : (input : List ℕ) → length input ≡ 1_073_741_824 → HasNoOpening input → IsInputRefused input Early
+longest_refused input many none = inr (subst (λ n. n ≤ most_input) (sym many) (leb-true 1_073_741_824 most_input refl), none, refl)
+
+pub not_for_length : (input : List ℕ) → length input ≡ 1_073_741_824 → IsInputRefused input Syntax → ⊥
+not_for_length input many (inl (long, same)) = absurd (omega (arith, long, many, input_limit))
+not_for_length input many (inr (short, none, other)) = absurd cc
 
 -- ---- values
 
@@ -90,9 +120,9 @@ abbrev ids : List Expression → List (List ℕ)
 ids values = map (λ e. id_of (value_of (Ok one_cell) e)) values
 
 pub one_operand :
-    ids (OfGraph (Complement true false false) Stdin ∷ OfGraph (Complement false true true) Stdin ∷ OfGraph (Lines true) Stdin ∷ OfGraph (Lines false) Stdin
+    ids (OfGraph (Complement true false false) Stdin ∷ OfGraph (Complement false true false) Stdin ∷ OfGraph (Lines true) Stdin ∷ OfGraph (Lines false) Stdin
     ∷ Induced Stdin (EntryThen (Number (pos 1)) NoEntries) true false false ∷ Induced Stdin (EntryThen (Number (pos 1)) NoEntries) false true false ∷ Induced Stdin (EntryThen (Number (pos 1)) NoEntries) false false true ∷ [])
-    ≡ codes "complement(board(1,0,0,0,1,0,0),1,0,0)" ∷ codes "complement(board(1,0,0,0,1,0,0),0,1,1)"
+    ≡ codes "complement(board(1,0,0,0,1,0,0),1,0,0)" ∷ codes "complement(board(1,0,0,0,1,0,0),0,1,0)"
     ∷ codes "lines(board(1,0,0,0,1,0,0),1)" ∷ codes "lines(board(1,0,0,0,1,0,0),0)"
     ∷ codes "induced(board(1,0,0,0,1,0,0),,1,0,0)" ∷ codes "induced(board(1,0,0,0,1,0,0),,0,1,0)" ∷ codes "induced(board(1,0,0,0,1,0,0),,0,0,1)" ∷ []
 unfolding digits numbers_from list_from each_edge_once merged compound_id

@@ -1,5 +1,5 @@
 -- Copies of vertices, graphs in their places, and the entries that are accepted.
-use Rattle.std.specs.Prelude.{◌≡◌, pos, negsuc, false, true, [], ◌∷◌, Ok, Err, codes, refl}
+use Rattle.std.specs.Prelude.{◌≡◌, pos, negsuc, false, true, [], ◌∷◌, map, Ok, Err, codes, refl}
 use Rattle.std.specs.Fmt.{digits}
 use Rattle.sgb_vec.specs.Boxes.{box}
 use Rattle.sgb_vec.specs.Names.{name_of_vector}
@@ -15,10 +15,12 @@ use Rattle.sgb_graph.specs.Ids.{compound_id}
 use Rattle.sgb_ops.specs.Taken.{each_edge_once}
 use Rattle.sgb_ops.specs.Merged.{merged}
 use Rattle.sgb_ops.specs.declared.induced_graphs.entries.Entry.TheVariants as entry
+use Rattle.sgb_ops.specs.Copies.{own_copies}
 use Rattle.sgb_ops.specs.Entries.{accepted_entries, names_by_entries}
 use Rattle.sgb_ops.specs.Induced.{induced_events, induced_of}
-use Rattle.sgb_ops.specs.BiComplete.{bi_complete_of}
-use Rattle.sgb_ops.specs.Wheel.{wheel_of}
+use Rattle.sgb_ops.specs.Boards.{pair_of_vertices}
+use Rattle.sgb_ops.specs.BiComplete.{accepted_parts, bi_complete_of}
+use Rattle.sgb_ops.specs.Wheel.{accepted_middle, accepted_rim, wheel_of}
 use Rattle.sgb_ops.proofs.Examples.Operands.{event, complete_2, complete_3, circuit_4, cycle_3, path_3, loop_1, blocks, arcs, title}
 
 -- as many vertices as a graph can have, and one more; an entry too many
@@ -42,6 +44,10 @@ pub merged_names : names_by_entries (codes "a" ∷ codes "b" ∷ codes "c" ∷ [
     ≡ codes "-1" ∷ codes "-2" ∷ codes "-3" ∷ codes "a" ∷ codes "c" ∷ codes "c'" ∷ []
 unfolding digits
 merged_names = refl
+
+-- two merged vertices come before the copies; who is merged has no copies of its own
+pub copies_of_its_own : map (own_copies (entry.Copies 2 ∷ entry.Merged 2 ∷ entry.Copies 1 ∷ [])) (0 ∷ 1 ∷ 2 ∷ []) ≡ (2 ∷ 3 ∷ []) ∷ [] ∷ (4 ∷ []) ∷ []
+copies_of_its_own = refl
 
 -- a circuit whose vertices 0 and 2 are merged: their edges keep their order
 pub circuit_with_merged :
@@ -90,6 +96,11 @@ pub cycle_at_an_edge : induced_events complete_2 (entry.Copies 1 ∷ entry.Graph
 unfolding numbers_from list_from
 cycle_at_an_edge = refl
 
+-- two copies of a loop: with loops three edges
+pub loops_wanted : arcs (induced_of loop_1 (entry.Copies 2 ∷ []) true false false) ≡ 6
+unfolding numbers_from list_from each_edge_once merged
+loops_wanted = refl
+
 -- the flags in the id
 pub titles_with_flags :
     (title (induced_of complete_2 (entry.Copies 1 ∷ entry.Copies 1 ∷ []) true false false) ≡ codes "induced(board(2,0,0,0,-1,0,0),,1,0,0)")
@@ -103,6 +114,12 @@ pub bi_complete_one_way :
     × (title (bi_complete_of (pos 2) (pos 3) true) ≡ codes "bi_complete(2,3,1)")
 unfolding digits numbers_from list_from each_edge_once merged box repeated name_of_vector displacements vectors_of_norm board_moves board_id family_graph compound_id
 bi_complete_one_way = (refl, refl)
+
+-- the board of both, and as many vertices as a graph can have
+pub most_parts :
+    (pair_of_vertices true ≡ record { n1 = pos 2; n2 = pos 0; n3 = pos 0; n4 = pos 0; piece = pos 1; wrap = pos 0; directed = true })
+    × (accepted_parts (pos 999_999_999) (pos 1) ≡ Ok (entry.Copies 999_999_999 ∷ entry.Copies 1 ∷ []))
+most_parts = (refl, refl)
 
 -- bi_complete(2,-1,0)
 pub bi_complete_second_negative : bi_complete_of (pos 2) (negsuc 0) false ≡ Err Bad
@@ -123,6 +140,14 @@ wheel_one_way = (refl, refl)
 pub wheel_of_two : arcs (wheel_of (pos 2) (pos 1) false) ≡ 6
 unfolding digits box name_of_vector numbers_from list_from each_edge_once merged repeated displacements vectors_of_norm board_moves board_id family_graph
 wheel_of_two = refl
+
+-- the most vertices in the middle, and one more; and the rim, a circle
+pub middle_and_rim :
+    (accepted_middle (pos 1_000_000_000) ≡ Ok (entry.Copies 1_000_000_000))
+    × (accepted_middle (pos 1_000_000_001) ≡ Err VeryBad)
+    × (title (accepted_rim (pos 3) (pos 1) false) ≡ codes "board(3,0,0,0,1,1,0)")
+unfolding digits box repeated name_of_vector displacements vectors_of_norm board_moves board_id family_graph
+middle_and_rim = (refl, refl, refl)
 
 -- a negative middle is refused before a rim that is too great
 pub wheel_negative_first : wheel_of (pos 1_000_000_001) (negsuc 0) false ≡ Err Bad

@@ -1,7 +1,9 @@
 -- Line graphs.
-use Rattle.std.specs.Prelude.{◌≡◌, ℕ, pos, true, false, [], ◌∷◌, Option, Some, None, Err, codes, refl}
+use Rattle.std.specs.Prelude.{◌≡◌, ℕ, pos, true, false, List, [], ◌∷◌, map, length, nat_lt, if◌then◌else◌, Option, Some, None, Ok, Err, codes, refl}
+use Rattle.std.proofs.Common.{ap}
 use Rattle.std.specs.Fmt.{digits}
-use Rattle.sgb_vec.specs.declared.panics.Panic.TheVariants.{Invalid}
+use Rattle.sgb_vec.specs.Limits.{most_vertices}
+use Rattle.sgb_vec.specs.declared.panics.Panic.TheVariants.{Invalid, VeryBad}
 use Rattle.sgb_graph.specs.Graphs.{GraphData, numbers_from}
 use Rattle.sgb_graph.specs.Events.{list_from}
 use Rattle.sgb_graph.specs.Ids.{compound_id}
@@ -10,7 +12,8 @@ use Rattle.sgb_graph.specs.declared.fields.Ref.{Ref}
 use Rattle.sgb_graph.specs.declared.fields.Ref.TheVariants.{At, One, Null}
 use Rattle.sgb_graph.specs.declared.fields.Util.TheVariants.{Nothing}
 use Rattle.sgb_ops.specs.Taken.{each_edge_once}
-use Rattle.sgb_ops.specs.Lines.{line_graph_of}
+use Rattle.sgb_ops.specs.declared.line_graphs.line.Line.{Line}
+use Rattle.sgb_ops.specs.Lines.{accepted_lines, line_graph_of, meets}
 use Rattle.sgb_ops.proofs.Examples.Operands.{complete_3, cycle_3, rider_3, loop_1, blocks, arcs, names, title}
 
 -- lines(complete(3),0)
@@ -87,3 +90,31 @@ pub numbers_of_arcs :
     × (line_graph_of (pair 4 None (Some 0) (At 1) (At 1)) false ≡ Err Invalid)
 unfolding digits numbers_from each_edge_once
 numbers_of_arcs = (refl, refl, refl)
+
+-- of two edges one lacks its other record
+abbrev half : GraphData
+half = record (pair 4 (Some 0) (Some 1) (At 1) (At 0)) {
+  records =
+      record { tip = At 1; next = Some 2; len = pos 1; a = Nothing; b = Nothing }
+      ∷ record { tip = At 0; next = None; len = pos 1; a = Nothing; b = Nothing }
+      ∷ record { tip = At 1; next = None; len = pos 1; a = Nothing; b = Nothing } ∷ [];
+}
+
+pub lines_of_half : line_graph_of half false ≡ Err Invalid
+unfolding digits numbers_from each_edge_once
+lines_of_half = refl
+
+-- the line from u to v
+abbrev line : ℕ → ℕ → Line
+line u v = record { from = u; to = v; number = 0 }
+
+-- the line from 1 to 2 meets those that share one of its ends
+pub lines_met : map (meets false (line 1 2)) (line 1 5 ∷ line 0 1 ∷ line 2 5 ∷ line 0 2 ∷ line 0 5 ∷ []) ≡ true ∷ true ∷ true ∷ true ∷ false ∷ []
+lines_met = refl
+
+-- as many lines as a graph can have vertices, and one more
+pub most_lines : (g : GraphData) (lines : List Line) → length lines ≡ 1_000_000_000 → accepted_lines g true lines ≡ Ok lines
+most_lines g lines many = ap (λ n. if nat_lt most_vertices n then Err VeryBad else Ok lines) many
+
+pub too_many_lines : (g : GraphData) (lines : List Line) → length lines ≡ 1_000_000_001 → accepted_lines g true lines ≡ Err VeryBad
+too_many_lines g lines many = ap (λ n. if nat_lt most_vertices n then Err VeryBad else Ok lines) many

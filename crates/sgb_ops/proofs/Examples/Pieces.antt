@@ -3,7 +3,7 @@ use Rattle.std.specs.Prelude.{◌≡◌, true, false, List, [], ◌∷◌, map, 
 use Rattle.sgb_graph.specs.Graphs.{numbers_from}
 use Rattle.sgb_graph.specs.Events.{Event, list_from}
 use Rattle.sgb_graph.specs.declared.fields.Link.{Link}
-use Rattle.sgb_ops.specs.Taken.{each_edge_once, taken}
+use Rattle.sgb_ops.specs.Taken.{each_edge_once, taken, edges_up_from, lower_record}
 use Rattle.sgb_ops.specs.Merged.{merged}
 use Rattle.sgb_ops.specs.Intersection.{common_events}
 use Rattle.sgb_ops.proofs.Examples.Operands.{event, link, complete_3, loop_1}
@@ -39,6 +39,12 @@ after_loop = refl
 pub after_lower : each_edge_once 1 (link 4 0 1 ∷ link 5 1 1 ∷ []) ≡ link 5 1 1 ∷ []
 unfolding each_edge_once
 after_lower = refl
+
+-- the edges whose smaller end is 1, with their places; the lower record of the third of some edges
+pub edges_of_a_vertex :
+    (edges_up_from 1 (event 2 1 5 ∷ event 0 1 6 ∷ event 1 3 7 ∷ []) ≡ (0, event 2 1 5) ∷ (2, event 1 3 7) ∷ [])
+    × (map lower_record ((2, event 5 3 9) ∷ (3, event 0 4 9) ∷ []) ≡ link 4 5 9 ∷ link 6 4 9 ∷ [])
+edges_of_a_vertex = (refl, refl)
 
 -- parallel edges, and the least length of three
 abbrev parallel : List Event
