@@ -65,6 +65,14 @@ ALIKE = {
     ("sgb_gen.VectorGraphs.vertex_among", "vertex_among 1: w and v exchanged after same_vector"): "it has no order",
     ("sgb_gen.Subsets.moves_to_place", "moves_to_place 1: u and v exchanged after common_size"): "it has no order",
     ("sgb_gen.Moves.reach", "reach 1: reversed"): "it has one entry or none",
+    ("sgb_arrays.Fields.IsIntsRefusal", "IsIntsRefusal 1: first and count exchanged after IsThere"): "a sum has no order",
+    ("sgb_arrays.Fields.IsIntsRefusal", "IsIntsRefusal 2: first and count exchanged after IsThere"): "a sum has no order",
+    ("sgb_arrays.Fields.IsIntsRefusal", "IsIntsRefusal 3: first and count exchanged after IsThere"): "a sum has no order",
+    ("sgb_arrays.Runs.IsRunRefusal", "IsRunRefusal 1: first and count exchanged after IsThere"): "a sum has no order",
+    ("sgb_arrays.Runs.IsFillRefusal", "IsFillRefusal 1: first and count exchanged after IsThere"): "a sum has no order",
+    ("sgb_arrays.Runs.IsFillRefusal", "IsFillRefusal 2: first and count exchanged after IsThere"): "a sum has no order",
+    ("sgb_arrays.Runs.IsFillRefusal", "IsFillRefusal 3: first and count exchanged after IsThere"): "a sum has no order",
+    ("sgb_arrays.Runs.IsSizeRefusal", "IsSizeRefusal 1: first and count exchanged after IsFillRefusal"): "a sum has no order",
     ("sgb_gen.Displacements.vectors_of_norm", "vectors_of_norm 1: 2 for 1 in `(box (replicate d (p + 1)))`"): "no entry is above the norm",
     ("sgb_ops.BiComplete.bi_complete_of", "bi_complete_of 1: true for false in `described pair) entries false false directed) (λ d.`"): "it has no loops",
     ("sgb_ops.BiComplete.bi_complete_of", "bi_complete_of 1: true for false in `bed pair) entries false false directed) (λ d. Ok`"): "it has no parallel arcs",
@@ -86,6 +94,7 @@ LISTED = {
     "sgb_vec.Sums.sum_of": "as has_great_count, which it asks",
     "sgb_graph.Parts.checked": "1,000,000,000 vertices are not to be listed",
     "sgb_graph.Sound.IsGraph": "1,000,000,000 vertices are not to be listed",
+    "sgb_arrays.Given.fault_of": "more than 1,000,000,000 names are not to be listed",
 }
 
 # turns that are not made, since what they say is too long to evaluate: the definition, the turn, and the reason
@@ -142,7 +151,7 @@ class Module:
         self.name, self.path = name, path
         with open(path) as file:
             text = file.read()
-        self.brought, self.aliases = {}, [found.group() for found in USE_AS.finditer(text)]
+        self.brought, self.aliases = {}, [found.group().strip() for found in USE_AS.finditer(text)]
         for place, listed in USE.findall(text):
             for item in filter(None, (part.strip() for part in listed.split(","))):
                 there, _, here = item.partition(" as ")

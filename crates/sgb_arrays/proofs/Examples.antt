@@ -5,3 +5,9 @@ pub mod Rows
 mod Runs
 -- arrays that tell a graph
 mod Given
+-- what may be wrong with these, one thing at a time
+mod Faults
+-- arrays that a run fits into, and why they are not filled
+mod Refusals
+-- a field of integers
+mod Fields

@@ -24,3 +24,11 @@ pub mod LocalBoards
 pub mod Laws
 -- those of boards, run by run
 pub mod Runs
+-- runs by the vertices where they lead
+pub mod Strides
+-- short names
+pub mod Shorthands
+-- what is accepted and refused, by which parameter
+pub mod Refusals
+-- fields, ends and lists of vectors, and sorts
+pub mod Families

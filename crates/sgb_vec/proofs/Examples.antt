@@ -1,10 +1,11 @@
--- Worked examples, evaluated: normalised parameters with their refusals, vectors of a sum, names.
+-- Worked examples, evaluated: normalised parameters with their refusals, vectors of a sum, names, numbers in texts.
 use Rattle.std.specs.Prelude.{◌≡◌, ℕ, true, false, replicate, pos, negsuc, [], ◌∷◌, length, Some, None, Result, Ok, Err, codes, slice_get, refl}
 use Rattle.std.specs.Fmt.{digits}
 use Rattle.sgb_vec.specs.Sizes.{Normalized, repeated, board_of}
 use Rattle.sgb_vec.specs.Boxes.{box, box_of}
 use Rattle.sgb_vec.specs.Results.{and_then}
 use Rattle.sgb_vec.specs.Bounds.{simplex_of}
+use Rattle.sgb_vec.specs.Digits.{leading_number}
 use Rattle.sgb_vec.specs.Sums.{bounded_sums, has_great_count, sum_of}
 use Rattle.sgb_vec.specs.inner.SumRows.{count_of_sum}
 use Rattle.sgb_vec.specs.Names.{name_of_vector}
@@ -221,3 +222,20 @@ vector_of_great_entry = refl
 pub vector_of_dot_at_the_end : vector_of (codes "1.") ≡ None
 unfolding vector_of name_of_vector digits
 vector_of_dot_at_the_end = refl
+
+-- ---- numbers that texts begin with
+
+-- three digits at most, and the text after them
+pub number_and_rest : leading_number 10 3 (codes "12345") ≡ Some (123, codes "45")
+number_and_rest = refl
+
+-- hexadecimal up to the comma
+pub hexadecimal_number : leading_number 16 9 (codes "1f,2") ≡ Some (31, codes ",2")
+hexadecimal_number = refl
+
+-- one digit is a number, no digit is none
+pub one_digit : leading_number 10 9 (codes "7") ≡ Some (7, [])
+one_digit = refl
+
+pub no_digit : leading_number 10 9 (codes "-1") ≡ None
+no_digit = refl
