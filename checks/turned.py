@@ -64,6 +64,11 @@ ALIKE = {
     ("sgb_gen.Subsets.moves_to_place", "moves_to_place 1: u and v exchanged after common_size"): "it has no order",
     ("sgb_gen.Moves.reach", "reach 1: reversed"): "it has one entry or none",
     ("sgb_gen.Displacements.vectors_of_norm", "vectors_of_norm 1: 2 for 1 in `(box (replicate d (p + 1)))`"): "no entry is above the norm",
+    ("sgb_file.FileLines.lines_among", "lines_among 2: reversed"): "it has one entry or none",
+    ("sgb_file.Saving.field_texts", "field_texts 2: reversed"): "it has one entry",
+    ("sgb_file.Saving.field_texts", "field_texts 3: reversed"): "it has one entry",
+    ("sgb_file.Saving.field_texts", "field_texts 4: reversed"): "it has one entry",
+    ("sgb_file.Saving.field_texts", "field_texts 5: reversed"): "it has one entry",
 }
 
 # definitions of which some turn is seen by no example, with the reason
