@@ -1,11 +1,12 @@
 #!/usr/bin/env python3
 """Whether an example refuses each definition that is turned.
 
-    checks/turned.py [-v] [--with FOLDER] [--only WORD] [--batch N] [--jobs N] [--save FILE] CRATE ..
+    checks/turned.py [-v] [--with FOLDER] [--only WORD] [--without WORD] [--batch N] [--jobs N] [--save FILE] CRATE ..
 
 At the repository's top, in a tree where `rt check` has proved the crates. The definitions are those of crates/CRATE/specs
 that contracts reach, so all but `inner` and `declared`; the examples are the files crates/CRATE/proofs/Examples*, or those of the
-same place in FOLDER, which are to be tried. Each definition is turned a token at a time:
+same place in FOLDER, which are to be tried; an example whose name the WORD of --without finds is left out, as a costly one may
+be. Each definition is turned a token at a time:
 
     numbers           one more; one less
     comparisons       `<` for `≤`, `nat_lt` for `nat_le`, and back; operands exchanged
@@ -18,7 +19,8 @@ same place in FOLDER, which are to be tried. Each definition is turned a token a
     values            one variant for another; `negsuc` for `pos`; a text in quotes without its last character
 
 Each turn stands in modules of its own in a crate over the library (out/turned): the turned definition, all that cites it, and
-the examples that reach it; whatever else they cite is that of the library. One `rt check` goes over many turns, and its
+the examples that reach it; whatever else they cite is that of the library. A type that no other crate can name is declared
+there too, and then all that speaks of it is copied. One `rt check` goes over many turns, and its
 errors say what became of each:
 
     of no type        the definition itself, or another one that cites it, is refused: this turn counts for nothing
@@ -69,6 +71,18 @@ ALIKE = {
     ("sgb_file.Saving.field_texts", "field_texts 3: reversed"): "it has one entry",
     ("sgb_file.Saving.field_texts", "field_texts 4: reversed"): "it has one entry",
     ("sgb_file.Saving.field_texts", "field_texts 5: reversed"): "it has one entry",
+    ("sgb_ops.BiComplete.bi_complete_of", "bi_complete_of 1: true for false in `described pair) entries false false directed) (λ d.`"): "it has no loops",
+    ("sgb_ops.BiComplete.bi_complete_of", "bi_complete_of 1: true for false in `bed pair) entries false false directed) (λ d. Ok`"): "it has no parallel arcs",
+    ("sgb_ops.Gunion.union_events", "union_events 1: as if `nat_lt v (order_of h)`"): "past the last vertex the list is empty",
+    ("sgb_ops.Gunion.union_events", "union_events 1: nat_le for nat_lt in `ken directed g v ++ (if nat_lt v (order_of h) then fil`"): "past the last vertex the list is empty",
+    ("sgb_ops.Intersection.common_events", "common_events 1: gs and hs exchanged after common_count"): "the lesser of two counts has no order",
+    ("sgb_ops.Intersection.intersection_events", "intersection_events 1: max for min in `v)) (range_with_len 0 (min (order_of g) (order_of`"): "past the last vertex the list is empty",
+    ("sgb_ops.Merged.merged", "merged 2: e and f exchanged after has_ends_of"): "it has no order",
+    ("sgb_ops.Merged.IsShortest", "one 1: e and f exchanged after has_ends_of"): "it has no order",
+    ("sgb_ops.Taken.each_edge_once", "each_edge_once 2: reversed"): "it has one entry or none",
+    ("sgb_ops.Wheel.accepted_rim", "accepted_rim 1: 0 for 1 in `dle. board (line n (pos 1) (pos 1) directed))`"): "piece 0 is piece 1",
+    ("sgb_ops.Wheel.wheel_of", "wheel_of 1: 0 for 1 in `hen (board (line n (pos 1) (pos 1) directed)) (λ`"): "piece 0 is piece 1",
+    ("sgb_values.FirstRefusals.AreNumbersRefused", "AreNumbersRefused 1: n1 and n2 exchanged after accepted_parts"): "it is refused the same in either order",
 }
 
 # definitions of which some turn is seen by no example, with the reason
@@ -105,6 +119,8 @@ OPERATOR = {"+": "-", "-": "+", "*": "+", "/": "%", "%": "/", "&&": "||", "||": 
 LEVEL = {"→": 0, "↔": 0, "⊎": 1, "×": 2, "||": 1, "&&": 2, "≡": 3, "≢": 3, "<": 3, "≤": 3, "≤ℤ": 3, "==": 3, "++": 4,
          "+": 5, "-": 5, "*": 6, "/": 6, "%": 6, "^": 7, "∷": 8}
 EXCHANGED = ("-", "/", "%", "^", "++", "<", "≤", "≤ℤ")
+VARIANTS = ".TheVariants"
+KINDS = {**dict.fromkeys(("u8", "u16", "u32", "u64", "usize"), "ℕ"), "i64": "ℤ", "bool": "Bool"}
 STOPS = {"=", "then", "else", "if", "in", "let", ",", ";", "|", "↦", "where", "λ", ":"}
 PANICS = {"Bad": "VeryBad", "VeryBad": "Bad", "Early": "Late", "Late": "Early", "Syntax": "Early", "NoRoom": "Bad", "Invalid": "Bad"}
 
@@ -170,6 +186,37 @@ class Module:
             yield Chunk(self.name, names, "\n".join(body), "pub" in body[0].split()[:3] or "mutual" in body[0].split())
 
 
+class Declared(Module):
+    """A type that no other crate can name, as the turns declare it: by its fields, all of them numbers or flags, or its variants."""
+
+    def __init__(self, place, path):
+        self.name, self.path, self.aliases = place, path, []
+        name = place.rsplit(".", 1)[1]
+        with open(path) as file:
+            found = re.search(rf"^(pub(?:\(\w+\))? )?(struct|enum) {name} {{\n(.*?)^}}", file.read(), re.M | re.S)
+        self.is_private = found is not None and found.group(1) != "pub "
+        self.brought = {kind: ("std.specs.Prelude", kind) for kind in KINDS.values()}
+        if not self.is_private:
+            return
+        lines = [line.strip().rstrip(",") for line in found.group(3).split("\n") if re.match(r"\s*[^\s/#]", line)]
+        if found.group(2) == "enum":
+            variants = [re.fullmatch(r"(\w+)(?:\((\w+)\))?", line) for line in lines]
+            self.is_private = all(variants)
+            if not self.is_private:
+                return
+            parts = [variant.groups() for variant in variants]
+            names, held = [name, *(variant for variant, _ in parts)], [part for _, part in parts if part]
+            said = [f"  {variant} : {f'{part} → ' if part else ''}{name}" for variant, part in parts]
+            text = "\n".join([f"pub data {name} : Type 0 where", *said])
+            self.brought.update((part, (f"{place.rsplit('.', 1)[0]}.{part}", part)) for part in held)
+        else:
+            fields = [re.sub(r"^pub(\(\w+\))? ", "", line).split(": ") for line in lines]
+            self.is_private = all(kind in KINDS for _, kind in fields)
+            said = [f"  pub {field} : {KINDS.get(kind)}" for field, kind in fields]
+            names, text = [name], "\n".join([f"pub record {name} : Type 0 where", *said])
+        self.chunks = [Chunk(place, names, text, True)]
+
+
 class Universe:
     """The definitions and examples of some crates, and the proofs that the examples cite; and what cites what."""
 
@@ -197,7 +244,11 @@ class Universe:
                     work.append(self.modules[place])
                 except Unread:
                     opaque.add(place)
+        types = {place.removesuffix(VARIANTS) for m in self.modules.values() for place, _ in m.brought.values()}
+        declared = [self.declared(place) for place in sorted(types) if re.match(rf"(?:{'|'.join(crates)})\.specs\.declared\.", place)]
+        self.modules.update({m.name: m for m in declared if m.is_private})
         self.owner = {(m.name, name): c for m in self.modules.values() for c in m.chunks for name in c.names}
+        self.owner |= {(place + VARIANTS, name): c for (place, name), c in self.owner.items() if isinstance(self.modules[place], Declared)}
         self.users = collections.defaultdict(set)
         self.cites = {}
         for module in self.modules.values():
@@ -220,6 +271,15 @@ class Universe:
             for chunk in module.chunks:
                 if names & chunk.words:
                     self.left_out |= self.above(chunk)
+
+        # what cannot be said of another type than the one that no other crate can name
+        self.of_private = set().union(*(self.above(c) for m in declared if m.is_private for c in m.chunks))
+
+    @staticmethod
+    def declared(place):
+        crate, _, path = place.partition(".specs.declared.")
+        path = path.rpartition(".")[0].replace(".", "/") or "lib"
+        return Declared(place, f"crates/{crate}/src/{path}.rt")
 
     def add(self, crate, area, folder, path):
         module = os.path.relpath(path, folder).removesuffix(".antt").replace("/", ".")
@@ -627,6 +687,12 @@ def flat(module):
     return re.sub(r"\W", "_", module.replace(".specs.", ".").replace(".proofs.", "."))
 
 
+def alias_of(line, number, where):
+    """A line that gives the variants of a type another name, where that type is declared among the turns too."""
+    place = re.match(r"use Rattle\.(\S+?)(?:\.TheVariants)? as ", line).group(1)
+    return re.sub(r"Rattle\.\S+", f"Rattle.turned.proofs.T{number}_{flat(place)}", line) if place in {module for module, _ in where} else line
+
+
 def copies(universe, chunk, text, needs, number):
     """The modules of a turn: name -> (text, the chunk of each line)."""
     affected = universe.above(chunk)
@@ -639,6 +705,7 @@ def copies(universe, chunk, text, needs, number):
             if other not in copied and (not other.public or ".proofs.Examples" in other.module):
                 copied.add(other)
                 work.append(other)
+    copied |= universe.below(copied, universe.of_private)
     by_module = collections.defaultdict(list)
     for c in copied:
         by_module[c.module].append(c)
@@ -652,7 +719,7 @@ def copies(universe, chunk, text, needs, number):
         uses = collections.defaultdict(list)
         for here, (place, there) in module.brought.items():
             if here in words or not WORD.fullmatch(here) and here in whole or is_there(here, whole):
-                target = f"turned.proofs.T{number}_{flat(place)}" if (place, there) in where else place
+                target = f"turned.proofs.T{number}_{flat(place.removesuffix(VARIANTS))}" if (place.removesuffix(VARIANTS), there) in where else place
                 uses[target].append(there if here == there else f"{there} as {here}")
         own = {n for c in module.chunks if c not in copied for n in c.names if n in words and n not in module.brought}
         if own:
@@ -661,7 +728,7 @@ def copies(universe, chunk, text, needs, number):
             for place, need in map(source_of, needs):
                 if need not in module.brought:
                     uses[place].append(need)
-        lines = [f"use {'' if place.startswith(OTHER_LIBRARIES) else 'Rattle.'}{place}.{{{', '.join(names)}}}".replace("{-", "{ -") for place, names in uses.items()] + module.aliases
+        lines = [f"use {'' if place.startswith(OTHER_LIBRARIES) else 'Rattle.'}{place}.{{{', '.join(names)}}}".replace("{-", "{ -") for place, names in uses.items()] + [alias_of(line.strip(), number, where) for line in module.aliases if line.split()[-1] in words]
         owners = [None] * len(lines)
         for c in chunks:
             body = (text if c is chunk else c.text).split("\n")
@@ -744,6 +811,7 @@ def main():
     parser.add_argument("--with", dest="others")
     parser.add_argument("--above", action="append", default=[])
     parser.add_argument("--only")
+    parser.add_argument("--without")
     parser.add_argument("--batch", type=int, default=150)
     parser.add_argument("--jobs", type=int, default=2)
     parser.add_argument("--seconds", type=int, default=300)
@@ -760,13 +828,16 @@ def main():
 
 def measure(crate, known, args):
     universe = Universe([crate, *args.above], args.others)
-    modules = list(universe.modules.values())
+    modules = [module for module in universe.modules.values() if not isinstance(module, Declared)]
     for name in known[crate]:
         for path in glob.glob(f"crates/{name}/specs/**/*.antt", recursive=True):
             module = os.path.relpath(path, f"crates/{name}/specs").removesuffix(".antt").replace("/", ".")
             if module != "Lib" and not path.endswith("inner.antt"):
                 modules.append(Module(f"{name}.specs.{module}", path))
     turner = Turner(universe, modules)
+    for chunk in [c for module in universe.modules.values() for c in module.chunks if args.without and is_example(c)]:
+        if re.search(args.without, chunk.names[0]):
+            universe.left_out |= universe.above(chunk)
     definitions = [
         chunk for module in universe.modules.values() if module.name.startswith(f"{crate}.specs.")
         and not re.match(r"(?:inner|declared)(?:\.|$)", module.name.split(".specs.")[1])
