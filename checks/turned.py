@@ -74,6 +74,11 @@ ALIKE = {
     ("sgb_arrays.Runs.IsFillRefusal", "IsFillRefusal 3: first and count exchanged after IsThere"): "a sum has no order",
     ("sgb_arrays.Runs.IsSizeRefusal", "IsSizeRefusal 1: first and count exchanged after IsFillRefusal"): "a sum has no order",
     ("sgb_gen.Displacements.vectors_of_norm", "vectors_of_norm 1: 2 for 1 in `(box (replicate d (p + 1)))`"): "no entry is above the norm",
+    ("sgb_file.FileLines.lines_among", "lines_among 2: reversed"): "it has one entry or none",
+    ("sgb_file.Saving.field_texts", "field_texts 2: reversed"): "it has one entry",
+    ("sgb_file.Saving.field_texts", "field_texts 3: reversed"): "it has one entry",
+    ("sgb_file.Saving.field_texts", "field_texts 4: reversed"): "it has one entry",
+    ("sgb_file.Saving.field_texts", "field_texts 5: reversed"): "it has one entry",
     ("sgb_ops.BiComplete.bi_complete_of", "bi_complete_of 1: true for false in `described pair) entries false false directed) (λ d.`"): "it has no loops",
     ("sgb_ops.BiComplete.bi_complete_of", "bi_complete_of 1: true for false in `bed pair) entries false false directed) (λ d. Ok`"): "it has no parallel arcs",
     ("sgb_ops.Gunion.union_events", "union_events 1: as if `nat_lt v (order_of h)`"): "past the last vertex the list is empty",
@@ -199,18 +204,25 @@ class Declared(Module):
         with open(path) as file:
             found = re.search(rf"^(pub(?:\(\w+\))? )?(struct|enum) {name} {{\n(.*?)^}}", file.read(), re.M | re.S)
         self.is_private = found is not None and found.group(1) != "pub "
+        self.brought = {kind: ("std.specs.Prelude", kind) for kind in KINDS.values()}
         if not self.is_private:
             return
         lines = [line.strip().rstrip(",") for line in found.group(3).split("\n") if re.match(r"\s*[^\s/#]", line)]
         if found.group(2) == "enum":
-            self.is_private = all(re.fullmatch(r"\w+", line) for line in lines)
-            names, text = [name, *lines], f"pub data {name} : Type 0 where\n  {' '.join(lines)} : {name}"
+            variants = [re.fullmatch(r"(\w+)(?:\((\w+)\))?", line) for line in lines]
+            self.is_private = all(variants)
+            if not self.is_private:
+                return
+            parts = [variant.groups() for variant in variants]
+            names, held = [name, *(variant for variant, _ in parts)], [part for _, part in parts if part]
+            said = [f"  {variant} : {f'{part} → ' if part else ''}{name}" for variant, part in parts]
+            text = "\n".join([f"pub data {name} : Type 0 where", *said])
+            self.brought.update((part, (f"{place.rsplit('.', 1)[0]}.{part}", part)) for part in held)
         else:
             fields = [re.sub(r"^pub(\(\w+\))? ", "", line).split(": ") for line in lines]
             self.is_private = all(kind in KINDS for _, kind in fields)
             said = [f"  pub {field} : {KINDS.get(kind)}" for field, kind in fields]
             names, text = [name], "\n".join([f"pub record {name} : Type 0 where", *said])
-        self.brought = {kind: ("std.specs.Prelude", kind) for kind in KINDS.values()}
         self.chunks = [Chunk(place, names, text, True)]
 
 
@@ -684,6 +696,12 @@ def flat(module):
     return re.sub(r"\W", "_", module.replace(".specs.", ".").replace(".proofs.", "."))
 
 
+def alias_of(line, number, where):
+    """A line that gives the variants of a type another name, where that type is declared among the turns too."""
+    place = re.match(r"use Rattle\.(\S+?)(?:\.TheVariants)? as ", line).group(1)
+    return re.sub(r"Rattle\.\S+", f"Rattle.turned.proofs.T{number}_{flat(place)}", line) if place in {module for module, _ in where} else line
+
+
 def copies(universe, chunk, text, needs, number):
     """The modules of a turn: name -> (text, the chunk of each line)."""
     affected = universe.above(chunk)
@@ -719,7 +737,7 @@ def copies(universe, chunk, text, needs, number):
             for place, need in map(source_of, needs):
                 if need not in module.brought:
                     uses[place].append(need)
-        lines = [f"use {'' if place.startswith(OTHER_LIBRARIES) else 'Rattle.'}{place}.{{{', '.join(names)}}}".replace("{-", "{ -") for place, names in uses.items()] + module.aliases
+        lines = [f"use {'' if place.startswith(OTHER_LIBRARIES) else 'Rattle.'}{place}.{{{', '.join(names)}}}".replace("{-", "{ -") for place, names in uses.items()] + [alias_of(line.strip(), number, where) for line in module.aliases if line.split()[-1] in words]
         owners = [None] * len(lines)
         for c in chunks:
             body = (text if c is chunk else c.text).split("\n")

@@ -6,25 +6,18 @@ use Rattle.std.proofs.lemmas.List.FromFn.{length-map-range_with_len, take-map-ra
 use Rattle.std.proofs.lemmas.List.Sums.{count_by-le-length}
 use Rattle.sgb_gen.specs.Shorthands.{complete, transitive, empty, circuit, cycle, disjoint_subsets, petersen}
 use Rattle.sgb_expr.specs.Expression.{Expression, OnNumbers, OnGraph, OnGraphs, Entry, Entries}
-use Rattle.sgb_expr.specs.Expressions.{IsExpression, IsOnGraphs, IsTooLarge, TakesMemory}
-use Rattle.sgb_expr.specs.FlipTexts.{IsFlip}
+use Rattle.sgb_expr.specs.Expressions.{IsOnGraphs, IsTooLarge}
 use Rattle.sgb_expr.specs.inner.FlipTexts.{whole_flip_at}
 use Rattle.sgb_expr.specs.inner.Names.{generator_openings, openings}
 use Rattle.sgb_expr.specs.inner.Reading.{entries_at, expression_at, whole_at}
 use Rattle.sgb_expr.specs.inner.Readings.{bits_at}
 use Rattle.sgb_expr.specs.StdinUses.{has_stdin}
 use Rattle.sgb_gen.specs.declared.params.Generator.TheVariants.{Board, Simplex, Subsets}
-use Rattle.sgb_expr.proofs.FlipReading.{reads_flip}
-use Rattle.sgb_expr.proofs.WholeReading.{whole_read}
-use Rattle.sgb_text.proofs.WholeWords.{word_whole}
 
 -- the complement of the petersen graph, with loops
 reads_complement : whole_at (codes "complement(petersen(),0,-7,00)") ≡ Ok (Expression.OfGraph (OnGraph.Complement false true false) (Expression.Generated (Subsets petersen)))
 unfolding expression_at openings generator_openings
 reads_complement = refl
-
-pub complement_is : IsExpression (codes "complement(petersen(),0,-7,00)") (Expression.OfGraph (OnGraph.Complement false true false) (Expression.Generated (Subsets petersen)))
-complement_is = whole_read _ _ reads_complement
 
 -- a union of two graphs, of which the second is a complement
 reads_union : whole_at (codes "gunion(complete(2),complement(complete(3),1,0,0),0,1)") ≡ Ok (Expression.OfGraphs (OnGraphs.Gunion false true) (Expression.Generated (Board (complete (pos 2)))) (Expression.OfGraph (OnGraph.Complement true false false) (Expression.Generated (Board (complete (pos 3))))))
@@ -146,13 +139,6 @@ finds_each : map has_stdin (Expression.Stdin ∷ Expression.OfGraph (OnGraph.Lin
     ≡ true ∷ true ∷ true ∷ true ∷ true ∷ false ∷ false ∷ []
 finds_each = refl
 
--- texts that take memory, though they are none: with a line graph that is whole, with the `[` of entries
-takes_memory : TakesMemory (codes "lines(petersen(),-7)x") × TakesMemory (codes "induced(stdin,[")
-takes_memory = (
-  ([], codes "lines(petersen(),-7)", codes "x", refl, inr (_, whole_read _ _ reads_lines, tt)),
-  (codes "induced(stdin,", codes "[", [], refl, inl refl),
-)
-
 -- what is no operation on graphs
 on_no_graphs : (IsOnGraphs Expression.Stdin → ⊥) × (IsOnGraphs (Expression.Generated (Subsets petersen)) → ⊥) × (IsOnGraphs (Expression.OfNumbers (OnNumbers.Wheel (pos 5) (pos 1) false)) → ⊥)
 on_no_graphs = (λ h. h, λ h. h, λ h. h)
@@ -160,9 +146,6 @@ on_no_graphs = (λ h. h, λ h. h, λ h. h)
 -- what is asked of the random generator: leading zeros and a sign
 flip_example : whole_flip_at (codes "flip(-3,00,5,07)") ≡ Ok (record { start = negsuc 2; skip = pos 0; count = pos 5; m = pos 7 })
 flip_example = refl
-
-pub flip_is : IsFlip (codes "flip(-3,00,5,07)") (record { start = negsuc 2; skip = pos 0; count = pos 5; m = pos 7 })
-flip_is = word_whole reads_flip _ _ flip_example
 
 -- 1 byte is left, a `)` where the fourth integer is missing
 wrong_flip : whole_flip_at (codes "flip(1,2,3)") ≡ Err 1

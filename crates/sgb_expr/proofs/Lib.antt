@@ -29,3 +29,5 @@ pub mod WholeReading
 pub mod FlipReading
 -- texts and what they are, by evaluation
 pub mod Examples
+-- texts of each form, and what they say
+pub mod ExamplesWords

@@ -7,3 +7,9 @@ pub mod Refusals
 pub mod Limits
 pub mod Saving
 pub mod SavedGraphs
+pub mod Words
+pub mod ArcRecords
+pub mod WholeFiles
+pub mod CellFile
+pub mod Devices
+pub mod PastSaving

@@ -15,3 +15,5 @@ pub mod Limits
 pub mod Findings
 -- readers that find the words of a language or nothing
 pub mod Finders
+-- small languages, worked out
+pub mod Examples

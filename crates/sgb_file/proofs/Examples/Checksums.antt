@@ -1,6 +1,17 @@
 -- Checksums of texts.
-use Rattle.std.specs.Prelude.{◌≡◌, [], ◌∷◌, map, codes, refl}
-use Rattle.sgb_file.specs.Checksum.{value_of_byte, weighted_sum, checksum, running_checksum, checksum_of_lines}
+use Rattle.std.specs.Prelude.{◌≡◌, true, false, [], ◌∷◌, length, map, codes, refl}
+use Rattle.sgb_file.specs.Checksum.{characters, value_of_byte, is_character, checksum_prime, weighted_sum, checksum, running_checksum, checksum_of_lines}
+
+-- the characters, with the newline, and the bytes next to them
+pub all_characters : length characters ≡ 96
+all_characters = refl
+
+pub next_to_characters : map is_character (9 ∷ 10 ∷ 11 ∷ 31 ∷ 32 ∷ 126 ∷ 127 ∷ []) ≡ false ∷ true ∷ false ∷ false ∷ true ∷ true ∷ false ∷ []
+next_to_characters = refl
+
+-- the prime that checksums are below
+pub prime : checksum_prime ≡ 1073741741
+prime = refl
 
 -- the places of the bytes of one record
 pub places : map value_of_byte (codes "\"a\",0,0\n") ≡ 93 ∷ 36 ∷ 93 ∷ 67 ∷ 0 ∷ 67 ∷ 0 ∷ 95 ∷ []

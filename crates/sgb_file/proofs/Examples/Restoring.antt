@@ -1,19 +1,18 @@
 -- Texts that are files of a graph.
-use Rattle.std.specs.Prelude.{◌≡◌, ◌^◌, pos, neg_ℤ, [], ◌∷◌, ◌++◌, codes, map, replicate, take, Some, None, Ok, Err, refl}
+use Rattle.std.specs.Prelude.{◌≡◌, ◌^◌, pos, neg_ℤ, [], ◌∷◌, ◌++◌, codes, map, replicate, take, Some, None, Ok, refl}
 use Rattle.sgb_text.proofs.Findings.{all_at}
 use Rattle.sgb_graph.specs.Graphs.{ends_from, numbers_from}
 use Rattle.sgb_graph.specs.declared.fields.Ref.TheVariants.{Null, One}
 use Rattle.sgb_graph.specs.declared.fields.Util.TheVariants.{Nothing, Vertex as VertexField, Str, Chain}
 use Rattle.sgb_graph.specs.declared.fields.Kind.TheVariants.{Z, V, S, A}
-use Rattle.sgb_vec.specs.declared.panics.Panic.TheVariants.{Early}
-use Rattle.sgb_file.specs.Refused.{IsRestoredAs}
-use Rattle.sgb_file.proofs.RefusedTexts.{restored_as}
 use Rattle.sgb_file.specs.FileLines.{lines_among, without_end_spaces, clean_lines, text_of_lines}
 use Rattle.sgb_file.specs.inner.LinesLeft.{lines_of_text}
 use Rattle.sgb_file.specs.Checksum.{weighted_sum}
 use Rattle.sgb_file.specs.Fields.{unbroken}
 use Rattle.sgb_file.specs.inner.ReadRecords.{more_fields_at}
 use Rattle.sgb_file.specs.inner.ReadFiles.{opening_of, graph_of_text}
+pub use Rattle.sgb_file.proofs.Examples.WholeFiles.{no_file_read}
+pub use Rattle.sgb_file.proofs.Examples.CellFile.{one_cell_read}
 use Rattle.sgb_file.proofs.Examples.GraphFiles.{plain_vertex, plain_arc, one_cell, one_cell_lines, two_joined, two_joined_lines, nothing, nothing_lines, ring, ring_text, file_text}
 
 -- lines end at newlines; what is after the last one is a line where it is not empty
@@ -30,15 +29,6 @@ some_clean_lines = refl
 pub of_written : map graph_of_text (text_of_lines one_cell_lines ∷ text_of_lines two_joined_lines ∷ take 159 (text_of_lines two_joined_lines) ∷ []) ≡ Ok one_cell ∷ Ok two_joined ∷ Ok two_joined ∷ []
 unfolding lines_among without_end_spaces weighted_sum unbroken more_fields_at all_at opening_of ends_from numbers_from
 of_written = refl
-
--- so the first is a file of its graph, and a text with no first line is a file of none
-pub one_cell_read : IsRestoredAs (text_of_lines one_cell_lines) (Ok one_cell)
-unfolding lines_among without_end_spaces weighted_sum unbroken more_fields_at all_at opening_of ends_from numbers_from
-one_cell_read = restored_as (text_of_lines one_cell_lines) (Ok one_cell) refl
-
-pub no_file_read : IsRestoredAs (codes "0\n") (Err Early)
-unfolding lines_among without_end_spaces opening_of
-no_file_read = restored_as (codes "0\n") (Err Early) refl
 
 -- the graph of no vertices; with a first line that begins with `*`, and without the last newline; anything may follow the
 -- number, and other lines the last one
