@@ -34,6 +34,10 @@ mod InsideRuns
 mod StrideTips
 -- vertices one after another that no side is near, by strides
 mod InsideRows
+-- a board's arcs that are handed out one by one
+pub mod GivenArcs
+-- how many lengths a piece moves at most
+pub mod MostLengths
 -- how far the coordinates stay that a displacement moves
 pub mod PartReaches
 -- where a move leads

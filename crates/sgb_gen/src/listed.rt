@@ -73,7 +73,8 @@ pub trait Listed<'a> {
         ensures sort { sort self.new ≡ sort self.old };
 
     /// Hands the arcs of the vertex of `x` to a sink, one by one, in the order of its list in the graph. Of a simplex and of
-    /// subsets no list is kept, and no memory is taken but by the sink; a board's list is made in `links` first.
+    /// subsets no list is kept, and no memory is taken but by the sink; nor of a board that is prepared, where its arcs are had
+    /// in order with no sort. Another board's list is made in `links` first.
     ///
     /// The sink's fault, inside; or `NoRoom` when out of memory for a board's list, and nothing else: the sink was then handed
     /// nothing.
@@ -162,6 +163,9 @@ impl<'a> Listed<'a> for BoardLists<'a> {
         room: &mut R,
         out: &mut S,
     ) -> Result<Result<(), K::Fault>, Panic> {
+        if let Some(table) = self.table_in_order() {
+            return Ok(self.board.give_kept(x, table, sink, room, out));
+        }
         BoardLists::arcs_at(self, x, links)?;
         Ok(links.give(sink, room, out))
     }

@@ -1,5 +1,6 @@
 //! The listing of a generator's graph, written from its vectors: one list of arcs after another, and no graph is built.
-//! The arcs of a simplex and of subsets are handed to the page one by one (`ArcLines`), so no list of theirs is kept.
+//! The arcs of a simplex, of subsets and of most boards are handed to the page one by one (`ArcLines`), so no list of theirs
+//! is kept.
 //!
 //! The head is put before the first list is made, which takes time and memory in a great graph; the program's
 //! `Buffered` holds it until the first page comes. Where memory runs out for a list the page is not put any more: a

@@ -1,9 +1,11 @@
 -- The list of a board's vertex, of which the arcs by the last displacements are taken.
-use Rattle.std.specs.Prelude.{◌≡◌, ◌<◌, ◌++◌, ◌*◌, get_or, ℕ, ℤ, pos, nat_abs, true, List, [], reverse, map, if◌then◌else◌}
+use Rattle.std.specs.Prelude.{◌≡◌, ◌<◌, ◌++◌, ◌*◌, get_or, length, ℕ, ℤ, pos, nat_abs, true, false, List, [], reverse, map, if◌then◌else◌}
 use Rattle.std.specs.List.{All, flat_map}
 use Rattle.sgb_vec.specs.Boxes.{box}
+use Rattle.sgb_vec.specs.Lexicographic.{IsBelow}
 use Rattle.sgb_gen.specs.Boards.{BoardData}
 use Rattle.sgb_gen.specs.LocalLists.{LocalArc}
+use Rattle.sgb_gen.specs.MovedCoordinates.{parts_of}
 use Rattle.sgb_gen.specs.Moves.{moves_from, opposite, place, sides_of}
 use Rattle.sgb_gen.specs.inner.LocalBoards.{arcs_onward, move_arc, moves_by}
 use Rattle.sgb_gen.specs.inner.Moves.{destination, leads_onward}
@@ -41,3 +43,10 @@ IsLeaper b = b.piece ≡ pos (nat_abs b.piece)
 -- so many steps by a displacement that moves this coordinate first lead ahead on its side, and around it once at most
 abbrev pub GoesAroundOnce : List ℕ → ℕ × ℤ → ℕ → Type 0
 GoesAroundOnce sizes p n = (p.1 ≡ pos (nat_abs p.1)) × (0 < nat_abs p.1) × (n * nat_abs p.1 < get_or sizes p.0 0)
+
+-- the arcs by the edges of this displacement are had in order with no sort, from each vector: there are arcs alone, or it
+-- leads onward, or all moves back go around its first side once at most
+abbrev pub NeedsNoSort : BoardData → List ℤ → Type 0
+NeedsNoSort b t =
+    b.directed ≡ false → leads_onward b.wrap 0 t ≡ false
+    → (0 < length (parts_of t)) × ((x : List ℕ) → IsBelow x b.sizes → GoesAroundOnce b.sizes (get_or (parts_of t) 0 (0, pos 0)) (length (arcs_from b x (opposite t))))

@@ -3,7 +3,7 @@
 //! They have their displacements in common, with their opposites. Where these are more than the table takes, or there
 //! is no memory, they are walked for each vertex. A body that built the whole graph would meet the contracts, which do
 //! not speak of room; the checks from outside see it (`great`).
-ghost use Rattle.std.specs.Prelude.{◌≡◌, [], ◌++◌, length, reverse, nat_abs, Contains, OnOk, OnErr, IsOkUnless};
+ghost use Rattle.std.specs.Prelude.{◌≡◌, [], ◌++◌, length, reverse, nat_abs, All, Contains, IfSome, OnOk, OnErr, IsOkUnless};
 ghost use Rattle.sgb_vec.specs.Boxes.{box};
 ghost use Rattle.sgb_vec.specs.Lexicographic.{IsBelow};
 ghost use Rattle.sgb_gen.specs.Boards.{moves_of_board};
@@ -11,6 +11,7 @@ ghost use Rattle.sgb_gen.specs.LocalLists.{list_at};
 ghost use Rattle.sgb_gen.specs.Moves.{sides_of};
 ghost use Rattle.sgb_gen.specs.inner.EntryBounds.{displacements_within, entry_bounds};
 ghost use Rattle.sgb_gen.specs.inner.LocalBoards.{arcs_onward};
+ghost use Rattle.sgb_gen.specs.inner.StraightLists.{NeedsNoSort};
 
 use super::Board;
 use super::runs::{lead_onward, widest_of};
@@ -31,6 +32,8 @@ pub struct BoardLists<'a> {
     pub(super) straight: bool,
     // Whether the piece is a leaper, and all of these lead to later vectors from where no side is near.
     pub(super) leaping: bool,
+    // Whether the arcs by each of these are had in order with no sort.
+    in_order: bool,
     // No entry of theirs is greater.
     pub(super) widest: u32,
     // How many places each of these leads on, where no side is crossed that wraps around.
@@ -42,7 +45,7 @@ pub struct BoardLists<'a> {
 impl<'a> Model for BoardLists<'a> {
     ghost use Rattle.std.specs.Prelude.{◌≡◌, ◌≤◌, map, nat_abs, pos, All, IfSome};
     ghost use Rattle.std.specs.Bool.{OnTrue};
-    ghost use Rattle.sgb_gen.specs.inner.StraightLists.{AreOnward, IsLeaper};
+    ghost use Rattle.sgb_gen.specs.inner.StraightLists.{AreOnward, IsLeaper, NeedsNoSort};
     ghost use Rattle.sgb_gen.specs.Boards.{BoardData};
     ghost use Rattle.sgb_gen.specs.Moves.{sides_of};
     ghost use Rattle.sgb_gen.specs.inner.EntryBounds.{displacements_within, entry_bounds};
@@ -60,7 +63,8 @@ impl<'a> Model for BoardLists<'a> {
         × OnTrue b.leaping (IsLeaper b.board.now)
         × OnTrue b.leaping (IfSome b.table (AreOnward (pos 0)))
         × IfSome b.strides (λ s. IfSome b.table (λ d. map pos s.items
-        ≡ map (stride_of b.board.now.sizes) d)) };
+        ≡ map (stride_of b.board.now.sizes) d))
+        × OnTrue b.in_order (IfSome b.table (All (NeedsNoSort b.board.now))) };
 }
 
 impl Board {
@@ -114,6 +118,7 @@ impl<'a> BoardLists<'a> {
             table: None,
             straight: false,
             leaping: false,
+            in_order: false,
             widest: 0,
             strides: None,
             there: Vector::new(),
@@ -133,6 +138,7 @@ impl<'a> BoardLists<'a> {
         );
         self.straight = lead_onward(board.wrap, &table);
         self.leaping = board.is_leaping(&table);
+        self.in_order = board.are_in_order(&table);
         self.widest = widest_of(&table);
         self.strides = strides_of(links.alloc(), board.sizes(), &table);
         self.table = table;
@@ -153,6 +159,22 @@ impl<'a> BoardLists<'a> {
         links.clear(x.len());
         let put = self.push_listed(x, links);
         links.ended(put)
+    }
+
+    /// The displacements by which the piece can move, where they are in a table, and the arcs by each of them are had in order
+    /// with no sort.
+    pub(crate) fn table_in_order(&self) -> Option<&DisplacementTable>
+        ensures table { IfSome result (λ d. d.now ≡ displacements_within (nat_abs self.now.piece)
+            (entry_bounds (nat_abs self.now.piece) (sides_of self.now.sizes self.now.wrap))) }
+        ensures sorted { IfSome result (λ d. All (NeedsNoSort self.now) d.now) }
+    {
+        if !self.in_order {
+            return None;
+        }
+        match &self.table {
+            Some(table) => Some(table),
+            None => None,
+        }
     }
 
     // Puts the arcs of `x` behind the others, those by later moves first.

@@ -250,7 +250,7 @@ fn times_around(size: u32, step: u32) -> u32
 }
 
 // The greatest length at which steps of `step` can stay on a side.
-fn lengths_along(size: u32, step: u32) -> u32
+pub(super) fn lengths_along(size: u32, step: u32) -> u32
     requires size { 0 < size }
     requires step { 0 < step }
     ensures on { result * step < size }

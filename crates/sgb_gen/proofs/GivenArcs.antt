@@ -1,0 +1,71 @@
+-- The arcs of a board's vector that are handed out one by one.
+use Rattle.std.proofs.Common.{◌≡◌, ℕ, zero, suc, ◌+◌, ◌-◌, ◌*◌, ◌<◌, ◌≤◌, ℤ, pos, nat_abs, Bool, true, false, cond, List, [], ◌∷◌, ◌++◌, length, map, reverse, take, get_or, Option, Some, None, refl, sym, ap, subst, ◌∙◌, arith, append-nil}
+use Rattle.std.specs.List.{All, range_with_len, slice_get}
+use Rattle.std.proofs.lemmas.List.{reverse-append, take_more}
+use Rattle.std.proofs.lemmas.List.Elements.{All-append, All-cons, All-nil}
+use Rattle.std.proofs.lemmas.List.FromFn.{length-map-range_with_len, map-range_with_len_more}
+use Rattle.std.proofs.lemmas.Nat.{mul-le}
+use Rattle.std.proofs.lemmas.Option.{get_or_from_slice_get, slice_get_within}
+use Rattle.sgb_vec.specs.Boxes.{box}
+use Rattle.sgb_vec.specs.Lexicographic.{IsBelow}
+use Rattle.sgb_gen.specs.Boards.{BoardData}
+use Rattle.sgb_gen.specs.LocalLists.{LocalArc}
+use Rattle.sgb_gen.specs.MovedCoordinates.{parts_of}
+use Rattle.sgb_gen.specs.Moves.{opposite, sides_of}
+use Rattle.sgb_gen.specs.Runs.{arc_along, arcs_along}
+use Rattle.sgb_gen.specs.inner.LocalBoards.{arcs_onward, moves_by}
+use Rattle.sgb_gen.specs.inner.Moves.{leads_onward}
+use Rattle.sgb_gen.specs.inner.StraightLists.{GoesAroundOnce, NeedsNoSort, arcs_back, arcs_by_all, arcs_from}
+use Rattle.sgb_gen.proofs.RunsOfLists.{last_first}
+
+-- ---- by lengths, the next one apart
+
+pub lengths-first : (f : ℕ → LocalArc) (s to : ℕ) → s < to → map f (range_with_len (s + 1) (to - s)) ≡ (f (s + 1) ∷ []) ++ map f (range_with_len (s + 1 + 1) (to - (s + 1)))
+lengths-first f s to less = ap (λ n. map f (range_with_len (s + 1) n)) {x = to - s} {y = suc (to - (s + 1))} (omega (arith, less))
+
+pub lengths-last : (f : ℕ → LocalArc) (n : ℕ) → 0 < n → reverse (map f (range_with_len 1 n)) ≡ (f (n - 1 + 1) ∷ []) ++ reverse (map f (range_with_len 1 (n - 1)))
+lengths-last f n some =
+    ap (λ i. reverse (map f (range_with_len 1 i))) {x = n} {y = n - 1 + 1} (omega (arith, some))
+    ∙ ap reverse (map-range_with_len_more f 1 (n - 1) (n - 1 + 1) (omega arith))
+    ∙ reverse-append (map f (range_with_len 1 (n - 1))) (f (n - 1 + 1) ∷ [])
+
+-- none are left
+pub lengths-none : (f : ℕ → LocalArc) (from n : ℕ) → n ≡ 0 → map f (range_with_len from n) ≡ []
+lengths-none f from n none = ap (λ i. map f (range_with_len from i)) none
+
+-- ---- by displacements, the last one apart
+
+pub last_apart : (b : BoardData) (x : List ℕ) (ts : List (List ℤ)) (k : ℕ) (t : List ℤ) → 0 < k → slice_get ts (k - 1) ≡ Some t
+    → arcs_by_all b x (take k ts) ≡ reverse (arcs_onward b.directed x (moves_by (sides_of b.sizes b.wrap) b.piece (box b.sizes) t)) ++ arcs_by_all b x (take (k - 1) ts)
+last_apart b x ts k t some at =
+    ap (λ n. arcs_by_all b x (take n ts)) {x = k} {y = k - 1 + 1} (omega (arith, some))
+    ∙ cc (take_more ts (k - 1) t (slice_get_within ts (k - 1) t at), get_or_from_slice_get ts (k - 1) t t at, last_first b x (take (k - 1) ts) t)
+
+-- ---- the moves back, where no sort is needed
+
+-- those of all lengths lead to vectors before x
+pub none_around : (arc : ℕ → LocalArc) (own back all : List LocalArc) (n : ℕ) → all ≡ own ++ back → back ≡ map arc (range_with_len 1 n) → all ≡ (map arc (range_with_len (n + 1) (n - n)) ++ own) ++ map arc (range_with_len 1 n)
+none_around arc own back all n is back_is =
+    is ∙ ap (λ r. own ++ r) back_is ∙ ap (λ l. (l ++ own) ++ map arc (range_with_len 1 n)) (sym (lengths-none arc (n + 1) (n - n) (omega arith)))
+
+count_behind : (b : BoardData) (x : List ℕ) (t : List ℤ) (n : ℕ) → b.directed ≡ false → arcs_back b x t ≡ arcs_along b.sizes b.wrap x (parts_of t) n → length (arcs_from b x t) ≡ n
+count_behind b x t n edges is =
+    let same : arcs_back b x t ≡ arcs_from b x t = ap (λ c. cond c [] (arcs_from b x t)) edges in
+    ap length (sym same ∙ is) ∙ length-map-range_with_len (arc_along b.sizes b.wrap x (parts_of t)) 1 n
+
+-- they go around once at most
+pub once_behind : (b : BoardData) (x : List ℕ) (t : List ℤ) (n : ℕ) → IsBelow x b.sizes → b.directed ≡ false → leads_onward b.wrap 0 t ≡ false → NeedsNoSort b t
+    → arcs_back b x (opposite t) ≡ arcs_along b.sizes b.wrap x (parts_of (opposite t)) n → GoesAroundOnce b.sizes (get_or (parts_of t) 0 (0, pos 0)) n
+once_behind b x t n below edges around sorted is =
+    subst (GoesAroundOnce b.sizes (get_or (parts_of t) 0 (0, pos 0))) (count_behind b x (opposite t) n edges is) ((sorted edges around).1 x below)
+
+-- where so many do, fewer do
+pub around_fewer : (sizes : List ℕ) (p : ℕ × ℤ) (m n : ℕ) → n ≤ m → GoesAroundOnce sizes p m → GoesAroundOnce sizes p n
+around_fewer sizes p m n few once = (once.0, once.1, omega (arith, mul-le n (nat_abs p.1) m (nat_abs p.1) few (omega arith), once.2))
+
+-- ---- what the displacements of a table have so far
+
+pub taken_more : (P : List ℤ → Type 0) (ts : List (List ℤ)) (k : ℕ) (t : List ℤ) → slice_get ts k ≡ Some t → All P (take k ts) → P t → All P (take (k + 1) ts)
+taken_more P ts k t at all is =
+    subst (All P) (sym (take_more ts k t (slice_get_within ts k t at) ∙ ap (λ u. take k ts ++ u ∷ []) (get_or_from_slice_get ts k t t at)))
+    (All-append P (take k ts) (t ∷ []) all (All-cons P t [] is (All-nil P)))

@@ -1,0 +1,168 @@
+//! The arcs of a board's vector that are handed out one by one, by one displacement of a table after another: no list is
+//! kept.
+//!
+//! So it goes where the arcs by each displacement come in order with no sort, from whichever vector: then no memory is
+//! wanted after the table.
+ghost use Rattle.std.specs.Prelude.{◌≡◌, ◌+◌, ◌-◌, ◌≤◌, [], ◌∷◌, length, map, nat_abs, reverse, All, Contains, OnOk};
+ghost use Rattle.std.specs.List.{range_with_len};
+ghost use Rattle.sgb_vec.specs.Boxes.{box};
+ghost use Rattle.sgb_vec.specs.Lexicographic.{IsBelow};
+ghost use Rattle.sgb_gen.specs.ArcSinks.{AreGiven};
+ghost use Rattle.sgb_gen.specs.Boards.{moves_of_board};
+ghost use Rattle.sgb_gen.specs.LocalLists.{list_at};
+ghost use Rattle.sgb_gen.specs.MovedCoordinates.{parts_of};
+ghost use Rattle.sgb_gen.specs.Moves.{opposite, sides_of};
+ghost use Rattle.sgb_gen.specs.Runs.{arc_along, arcs_along};
+ghost use Rattle.sgb_gen.specs.inner.EntryBounds.{displacements_within, entry_bounds};
+ghost use Rattle.sgb_gen.specs.inner.LocalBoards.{arcs_onward, moves_by};
+ghost use Rattle.sgb_gen.specs.inner.StraightLists.{NeedsNoSort};
+
+use super::Board;
+use crate::arc_sinks::ArcSink;
+use crate::displacement_tables::DisplacementTable;
+use crate::moves::put_placed;
+use crate::steps::Step;
+use sgb_vec::Vector;
+
+impl Board {
+    /// Hands the arcs of the vertex of `x` to a sink, by the displacements in a table, where those by each of them are had in
+    /// order with no sort. No memory is taken but by the sink.
+    pub(crate) fn give_kept<K: ArcSink<R, S>, R, S>(
+        &self,
+        x: &[u32],
+        table: &DisplacementTable,
+        sink: &K,
+        room: &mut R,
+        out: &mut S,
+    ) -> Result<(), K::Fault>
+        requires member { Contains (box self.now.sizes) x.now }
+        requires table { table.now ≡ displacements_within (nat_abs self.now.piece)
+            (entry_bounds (nat_abs self.now.piece) (sides_of self.now.sizes self.now.wrap)) }
+        requires sorted { All (NeedsNoSort self.now) table.now }
+        requires width { K.width sink.now ≡ length x.now }
+        requires ready { K.ready sink.now room.old out.old }
+        ensures given { AreGiven (K.took sink.now) (K.cut sink.now) room.old out.old
+            (list_at self.now.directed (box self.now.sizes) (moves_of_board self.now) x.now)
+            room.new out.new result }
+        ensures ready { OnOk result (K.ready sink.now room.new out.new) }
+    {
+        let mut there = Vector::new();
+        for k in (0..table.len()).rev() {
+            let pair = table.at(k);
+            self.give_by(x, &pair.ahead(), &pair.back(), &mut there, sink, room, out)?;
+        }
+        Ok(())
+    }
+
+    // Hands out the arcs of `x` by the edges of the displacement `t`, whose opposite is `back`: those back to vectors after
+    // `x`, those ahead, the longer first, and those back to vectors before it. `there` is room for a place, here and below: what
+    // it holds does not count.
+    fn give_by<K: ArcSink<R, S>, R, S>(
+        &self,
+        x: &[u32],
+        t: &Step,
+        back: &Step,
+        there: &mut Vector,
+        sink: &K,
+        room: &mut R,
+        out: &mut S,
+    ) -> Result<(), K::Fault>
+        requires below { IsBelow x.now self.now.sizes }
+        requires dimensions { length t.now ≡ length self.now.sizes }
+        requires back { back.now ≡ opposite t.now }
+        requires sorted { NeedsNoSort self.now t.now }
+        requires width { K.width sink.now ≡ length x.now }
+        requires ready { K.ready sink.now room.old out.old }
+        ensures given { AreGiven (K.took sink.now) (K.cut sink.now) room.old out.old
+            (reverse (arcs_onward self.now.directed x.now
+            (moves_by (sides_of self.now.sizes self.now.wrap) self.now.piece (box self.now.sizes)
+            t.now))) room.new out.new result }
+        ensures ready { OnOk result (K.ready sink.now room.new out.new) }
+    {
+        let behind = self.lengths_back(x, back);
+        let near = self.lengths_near(x, t, behind);
+        let ahead = self.lengths_by(x, t);
+        self.give_lengths(x, back, near, behind, there, sink, room, out)?;
+        self.give_lengths_down(x, t, ahead, there, sink, room, out)?;
+        self.give_lengths(x, back, 0, near, there, sink, room, out)
+    }
+
+    // Hands out the arcs from `x` by `t` of the lengths above `from` up to `to`.
+    fn give_lengths<K: ArcSink<R, S>, R, S>(
+        &self,
+        x: &[u32],
+        t: &Step,
+        from: u32,
+        to: u32,
+        there: &mut Vector,
+        sink: &K,
+        room: &mut R,
+        out: &mut S,
+    ) -> Result<(), K::Fault>
+        requires below { IsBelow x.now self.now.sizes }
+        requires dimensions { length t.now ≡ length self.now.sizes }
+        requires lengths { from ≤ to }
+        requires width { K.width sink.now ≡ length x.now }
+        requires ready { K.ready sink.now room.old out.old }
+        ensures given { AreGiven (K.took sink.now) (K.cut sink.now) room.old out.old
+            (map (arc_along self.now.sizes self.now.wrap x.now (parts_of t.now))
+            (range_with_len (from + 1) (to - from))) room.new out.new result }
+        ensures ready { OnOk result (K.ready sink.now room.new out.new) }
+    {
+        for shorter in from..to {
+            self.give_one(x, t, shorter + 1, there, sink, room, out)?;
+        }
+        Ok(())
+    }
+
+    // Hands out the arcs from `x` by `t` of the lengths from `to` down to 1.
+    fn give_lengths_down<K: ArcSink<R, S>, R, S>(
+        &self,
+        x: &[u32],
+        t: &Step,
+        to: u32,
+        there: &mut Vector,
+        sink: &K,
+        room: &mut R,
+        out: &mut S,
+    ) -> Result<(), K::Fault>
+        requires below { IsBelow x.now self.now.sizes }
+        requires dimensions { length t.now ≡ length self.now.sizes }
+        requires width { K.width sink.now ≡ length x.now }
+        requires ready { K.ready sink.now room.old out.old }
+        ensures given { AreGiven (K.took sink.now) (K.cut sink.now) room.old out.old
+            (reverse (arcs_along self.now.sizes self.now.wrap x.now (parts_of t.now) to)) room.new
+            out.new result }
+        ensures ready { OnOk result (K.ready sink.now room.new out.new) }
+    {
+        for shorter in (0..to).rev() {
+            self.give_one(x, t, shorter + 1, there, sink, room, out)?;
+        }
+        Ok(())
+    }
+
+    // Hands out the arc from `x` by `t` of length `l`.
+    #[inline(always)]
+    fn give_one<K: ArcSink<R, S>, R, S>(
+        &self,
+        x: &[u32],
+        t: &Step,
+        l: u32,
+        there: &mut Vector,
+        sink: &K,
+        room: &mut R,
+        out: &mut S,
+    ) -> Result<(), K::Fault>
+        requires below { IsBelow x.now self.now.sizes }
+        requires dimensions { length t.now ≡ length self.now.sizes }
+        requires width { K.width sink.now ≡ length x.now }
+        requires ready { K.ready sink.now room.old out.old }
+        ensures given { AreGiven (K.took sink.now) (K.cut sink.now) room.old out.old
+            (arc_along self.now.sizes self.now.wrap x.now (parts_of t.now) l ∷ []) room.new out.new
+            result }
+        ensures ready { OnOk result (K.ready sink.now room.new out.new) }
+    {
+        put_placed(self.sizes(), self.wrap, x, t.parts(), l, there);
+        sink.put_arc(there.as_slice(), l, room, out)
+    }
+}
