@@ -35,3 +35,5 @@ pub mod CopiedGraphs
 pub mod Examples
 -- arcs of a board put into arrays by strides
 pub mod StridedPuts
+-- lists that are handed out arc by arc, put into rows
+pub mod CountedRows

@@ -21,3 +21,5 @@ pub mod Fields
 pub mod CopiedParts
 -- the lists of a board that are had by strides
 pub mod StridedRows
+-- arcs to vectors, put into rows
+pub mod CountedArcs

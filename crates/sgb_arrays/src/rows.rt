@@ -1,5 +1,5 @@
 //! Lists of arcs as arrays: compressed sparse rows.
-ghost use Rattle.std.specs.Prelude.{◌≡◌, ◌++◌, ◌∷◌, ◌<◌, ◌≤◌, ◌+◌, ◌-◌, [], length, map, slice_index, IfErr, IfOk, IsOkUnless, OnOk};
+ghost use Rattle.std.specs.Prelude.{◌≡◌, ◌++◌, ◌∷◌, ◌<◌, ◌≤◌, ◌+◌, ◌-◌, [], length, map, pos, slice_index, IfErr, IfOk, IsOkUnless, OnOk};
 ghost use Rattle.std.specs.Bool.{OnTrue, OnFalse};
 ghost use Rattle.sgb_vec.specs.declared.panics.Panic.TheVariants as Panic;
 ghost use Rattle.sgb_arrays.specs.Copies.{HaveLengthsOfRows, HaveLengthsOfTips};
@@ -50,6 +50,20 @@ impl Rows {
         ensures memory { IsOkUnless result Panic.NoRoom }
     {
         self.starts.push(self.tips.len() as u64)?;
+        Ok(())
+    }
+
+    // Appends an arc of this length to a vertex.
+    #[inline(always)]
+    pub(crate) fn push_arc(&mut self, tip: u32, len: u32) -> Result<(), Panic>
+        ensures tips { OnOk result (self.new.tips.items ≡ self.old.tips.items ++ tip ∷ []) }
+        ensures lengths { OnOk result (self.new.lengths.items
+            ≡ self.old.lengths.items ++ pos len ∷ []) }
+        ensures starts { OnOk result (self.new.starts.items ≡ self.old.starts.items) }
+        ensures memory { IsOkUnless result Panic.NoRoom }
+    {
+        self.tips.push(tip)?;
+        self.lengths.push(i64::from(len))?;
         Ok(())
     }
 

@@ -13,6 +13,7 @@ ghost use Rattle.sgb_vec.specs.Limits.{most_vertices};
 ghost use Rattle.sgb_gen.specs.Generators.{described};
 ghost use Rattle.sgb_arrays.specs.Runs.{AreRows, IsRunRefusal, IsThere};
 
+use crate::counted_arcs::CountedArcs;
 use crate::refusals::Wrong;
 use crate::rows::Rows;
 use crate::runs::{has_run, vectors_from};
@@ -146,8 +147,88 @@ impl Rows {
         if let Some(strides) = listed.strides(x, v) {
             return self.push_strides(strides);
         }
+        self.push_found(listed, places, v, x, links)
+    }
+
+    // The same, by the vectors where its arcs lead.
+    fn push_found<'a, L: Listed<'a>>(
+        &mut self,
+        listed: &mut L,
+        places: &Option<CountedPlaces<'a>>,
+        v: u32,
+        x: &[u32],
+        links: &mut Links,
+    ) -> Result<(), Panic>
+        requires vertex { slice_get (L.graph listed.old).vectors v ≡ Some x.now }
+        requires places { IfSome places.now (λ p. p ≡ (L.graph listed.old).vectors) }
+        requires rising { IsRising (L.graph listed.old).vectors }
+        requires ends { All (HasEnds (L.graph listed.old).vectors) (L.graph listed.old).moves }
+        ensures tips { OnOk result (self.new.tips.items ≡ self.old.tips.items ++ map (λ l. l.tip)
+            (chain_of (graph_described (described_by (L.graph listed.old))) v)) }
+        ensures lengths { OnOk result (self.new.lengths.items ≡ self.old.lengths.items
+            ++ map (λ l. l.len)
+            (chain_of (graph_described (described_by (L.graph listed.old))) v)) }
+        ensures starts { OnOk result (self.new.starts.items ≡ self.old.starts.items) }
+        ensures memory { IsOkUnless result Panic.NoRoom }
+        ensures same { L.graph listed.new ≡ L.graph listed.old }
+    {
+        match places {
+            Some(places) => self.push_counted(listed, places, v, x, links),
+            None => self.push_listed(listed, v, x, links),
+        }
+    }
+
+    // The same, where the vertices are found by counts: no list is kept.
+    fn push_counted<'a, L: Listed<'a>>(
+        &mut self,
+        listed: &mut L,
+        places: &CountedPlaces<'a>,
+        v: u32,
+        x: &[u32],
+        links: &mut Links,
+    ) -> Result<(), Panic>
+        requires vertex { slice_get (L.graph listed.old).vectors v ≡ Some x.now }
+        requires places { places.now ≡ (L.graph listed.old).vectors }
+        requires rising { IsRising (L.graph listed.old).vectors }
+        requires ends { All (HasEnds (L.graph listed.old).vectors) (L.graph listed.old).moves }
+        ensures tips { OnOk result (self.new.tips.items ≡ self.old.tips.items ++ map (λ l. l.tip)
+            (chain_of (graph_described (described_by (L.graph listed.old))) v)) }
+        ensures lengths { OnOk result (self.new.lengths.items ≡ self.old.lengths.items
+            ++ map (λ l. l.len)
+            (chain_of (graph_described (described_by (L.graph listed.old))) v)) }
+        ensures starts { OnOk result (self.new.starts.items ≡ self.old.starts.items) }
+        ensures memory { IsOkUnless result Panic.NoRoom }
+        ensures same { L.graph listed.new ≡ L.graph listed.old }
+    {
+        let sink = CountedArcs {
+            places,
+            width: x.len(),
+        };
+        listed.give_arcs(x, links, &sink, self, &mut ())?
+    }
+
+    // The same, by a list that is made first.
+    fn push_listed<'a, L: Listed<'a>>(
+        &mut self,
+        listed: &mut L,
+        v: u32,
+        x: &[u32],
+        links: &mut Links,
+    ) -> Result<(), Panic>
+        requires vertex { slice_get (L.graph listed.old).vectors v ≡ Some x.now }
+        requires rising { IsRising (L.graph listed.old).vectors }
+        requires ends { All (HasEnds (L.graph listed.old).vectors) (L.graph listed.old).moves }
+        ensures tips { OnOk result (self.new.tips.items ≡ self.old.tips.items ++ map (λ l. l.tip)
+            (chain_of (graph_described (described_by (L.graph listed.old))) v)) }
+        ensures lengths { OnOk result (self.new.lengths.items ≡ self.old.lengths.items
+            ++ map (λ l. l.len)
+            (chain_of (graph_described (described_by (L.graph listed.old))) v)) }
+        ensures starts { OnOk result (self.new.starts.items ≡ self.old.starts.items) }
+        ensures memory { IsOkUnless result Panic.NoRoom }
+        ensures same { L.graph listed.new ≡ L.graph listed.old }
+    {
         listed.arcs_at(x, links)?;
-        self.push_arcs(listed, places, links)
+        self.push_arcs(listed, links)
     }
 
     // Appends the arcs of a list that is had by strides.
@@ -206,14 +287,8 @@ impl Rows {
     }
 
     // Appends the arcs of a vector.
-    fn push_arcs<'a, L: Listed<'a>>(
-        &mut self,
-        listed: &L,
-        places: &Option<CountedPlaces<'a>>,
-        links: &Links,
-    ) -> Result<(), Panic>
-        requires places { IfSome places.now (λ p. p ≡ (L.graph listed.now).vectors) }
-        requires tips { (k : ℕ) (arc : LocalArc) → slice_get links.now.arcs k ≡ Some arc
+    fn push_arcs<'a, L: Listed<'a>>(&mut self, listed: &L, links: &Links) -> Result<(), Panic>
+        requires { (k : ℕ) (arc : LocalArc) → slice_get links.now.arcs k ≡ Some arc
             → Contains (L.graph listed.now).vectors arc.tip }
         ensures tips { OnOk result (self.new.tips.items ≡ self.old.tips.items
             ++ map (λ a. vertex_among (L.graph listed.now).vectors a.tip)
@@ -225,21 +300,9 @@ impl Rows {
     {
         for i in 0..links.len() {
             let link = links.get(i);
-            self.tips.push(vertex_of(listed, places, link.tip))?;
+            self.tips.push(listed.place_of(link.tip))?;
             self.lengths.push(i64::from(link.len))?;
         }
         Ok(())
-    }
-}
-
-// The vertex of a vector: by counts that are kept, where there are such.
-fn vertex_of<'a, L: Listed<'a>>(listed: &L, places: &Option<CountedPlaces<'a>>, x: &[u32]) -> u32
-    requires places { IfSome places.now (λ p. p ≡ (L.graph listed.now).vectors) }
-    requires member { Contains (L.graph listed.now).vectors x.now }
-    ensures { result ≡ vertex_among (L.graph listed.now).vectors x.now }
-{
-    match places {
-        Some(places) => places.place_of(x),
-        None => listed.place_of(x),
     }
 }

@@ -133,6 +133,21 @@ place-counted n bounds v row k left place count (suc y) h within e some has f so
     let more = place-more n bounds v k left place count h within (rw (sym e) count_is) so in
     subst (λ m. IsPlaceSoFar n bounds v (k + 1) (left - m) (place + count)) (sym e) more
 
+-- any entry more: of 0 no vector comes before
+pub place-step : (n : ℕ) (bounds v row : List ℕ) (k left rest place count x : ℕ) → k < length v → IsWithin v bounds → x ≡ get_or v k 0 → rest ≡ left - x → HasCounts n row (drop (k + 1) bounds) → count ≡ get_or row left 0 - get_or row rest 0 → IsPlaceSoFar n bounds v k left place → IsPlaceSoFar n bounds v (k + 1) rest (place + count)
+place-step n bounds v row k left rest place count zero h within e down has f so =
+    let same : left ≡ rest = omega (arith, down) in
+    let none : place ≡ place + count = omega (arith, f, ap (λ m. get_or row m 0) same) in
+    subst (λ m. IsPlaceSoFar n bounds v (k + 1) m (place + count)) same (subst (λ p. IsPlaceSoFar n bounds v (k + 1) left p) none (place-zero n bounds v k left place h within (sym e) so))
+place-step n bounds v row k left rest place count (suc y) h within e down has f so =
+    let some : suc y ≡ 0 → ⊥ = λ zero. omega (arith, zero) in
+    let counted = place-counted n bounds v row k left place count (suc y) h within e some has (f ∙ ap (λ m. get_or row left 0 - get_or row m 0) down) so in
+    subst (λ m. IsPlaceSoFar n bounds v (k + 1) m (place + count)) (sym down) counted
+
+-- each row has a count of each sum up to the total
+pub row-long : (total j : ℕ) (rows : List (List ℕ)) (row bounds : List ℕ) → HaveCounts total rows bounds → j < length rows → get_or rows j [] ≡ row → length row ≡ total + 1
+row-long total j rows row bounds have within at = ap length (sym at) ∙ (have j within).long
+
 -- the row of an entry: that of the bounds after it
 pub row_after : (total k : ℕ) (rows : List (List ℕ)) (row bounds v : List ℕ) → HaveCounts total rows bounds → length bounds ≤ length rows → length v ≡ length bounds → k < length v → get_or rows (length v - 1 - k) [] ≡ row → HasCounts total row (drop (k + 1) bounds)
 row_after total k rows row bounds v have enough long h at =

@@ -76,15 +76,25 @@ impl<'a> CountedPlaces<'a> {
         requires { Contains self.now x.now }
         ensures { result ≡ vertex_among self.now x.now }
     {
+        self.place_if_there(x)
+    }
+
+    /// The same, for one that is known to be among them by those who read the place alone: of any other vector the number tells
+    /// nothing. No memory is taken.
+    #[inline(always)]
+    pub fn place_if_there(&self, x: &[u32]) -> u32
+        ensures { Contains self.now x.now → result ≡ vertex_among self.now x.now }
+    {
+        if x.len() > self.rows.len() {
+            return 0;
+        }
         let mut left = self.family.total();
-        let mut place = 0;
+        let mut place: u32 = 0;
         for k in 0..x.len() {
-            let entry = x[k];
-            if entry == 0 {
-                continue;
-            }
-            place += row_at(&self.rows, x.len() - 1 - k).below(left, entry);
-            left -= entry;
+            let rest = left.saturating_sub(x[k]);
+            let before = row_at(&self.rows, x.len() - 1 - k).leaving_more(left, rest);
+            place = place.saturating_add(before);
+            left = rest;
         }
         place
     }
@@ -117,6 +127,7 @@ fn rows_of(alloc: Global, total: u32, bounds: &[u32]) -> Option<Vec<CountRow>>
 }
 
 // The row of this number.
+#[inline(always)]
 fn row_at(rows: &Vec<CountRow>, j: usize) -> &CountRow
     requires { j < length rows.now.items }
     ensures { slice_get rows.now.items j ≡ Some result.now }
@@ -165,13 +176,14 @@ impl CountRow {
         counts[sum].saturating_sub(counts[sum - bound as usize - 1])
     }
 
-    // How many vectors that add to a sum have an entry below this one before those within the bounds.
-    fn below(&self, sum: u32, entry: u32) -> u32
+    // How many vectors that add to a sum have an entry before those within the bounds that leaves more than this.
+    #[inline(always)]
+    fn leaving_more(&self, sum: u32, rest: u32) -> u32
         requires sum { sum < length self.now }
-        requires entry { entry ≤ sum }
-        ensures { result ≡ slice_index self.now sum - slice_index self.now (sum - entry) }
+        requires rest { rest ≤ sum }
+        ensures { result ≡ slice_index self.now sum - slice_index self.now rest }
     {
         let counts = self.counts.as_slice();
-        counts[sum as usize].saturating_sub(counts[(sum - entry) as usize])
+        counts[sum as usize].saturating_sub(counts[rest as usize])
     }
 }

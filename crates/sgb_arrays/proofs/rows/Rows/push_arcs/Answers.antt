@@ -14,7 +14,7 @@ loop-i-preserved g c =
     let vectors = (g.L.Listed.graph c.args.listed.now).vectors in
     record {
       tips = one_put (λ a. vertex_among vectors a.tip) arcs c.loop-i.i arc c.loop-i.self.tips.items c.push.new.self.items _ there c.loop-i.invariant.tips
-          (c.in_ok-push.ensures.items ∙ ap (λ k. c.loop-i.self.tips.items ++ k ∷ []) c.vertex_of.ensures);
+          (c.in_ok-push.ensures.items ∙ ap (λ k. c.loop-i.self.tips.items ++ k ∷ []) c.place_of.ensures);
       lengths = one_put (λ a. a.len) arcs c.loop-i.i arc c.loop-i.self.lengths.items c.push-in-loop-i.new.self.items _ there c.loop-i.invariant.lengths
           (c.in_ok-push-2.ensures.items ∙ ap (λ k. c.loop-i.self.lengths.items ++ k ∷ []) (to_z-of_z w64 c.from.result (search rules) ∙ c.from.ensures));
       starts = c.loop-i.invariant.starts;

@@ -1,0 +1,53 @@
+-- Arcs that lead to vectors, put into rows by the places of these.
+use Rattle.std.specs.Prelude.{◌≡◌, ◌<◌, ◌≤◌, ◌+◌, ◌-◌, ℕ, List, [], ◌++◌, map, length, All, Contains}
+use Rattle.std.proofs.Common.{sym, ap, refl, subst, ◌∙◌, append-nil, append_assoc, arith, get_or, length-append}
+use Rattle.std.proofs.lemmas.List.{get_or_append_left, get_or-append_right, map-append}
+use Rattle.sgb_vec.specs.declared.panics.Panic.{Panic}
+use Rattle.sgb_vec.specs.declared.panics.Panic.TheVariants.{NoRoom}
+use Rattle.sgb_gen.specs.LocalLists.{LocalArc}
+use Rattle.sgb_gen.specs.VectorGraphs.{vertex_among}
+use Rattle.sgb_gen.specs.inner.ArcSinks.{AreTakenInTurn}
+use Rattle.sgb_arrays.specs.declared.rows.Rows.{Rows}
+
+-- the arc leads to one of the vectors
+abbrev pub LeadsAmong : List (List ℕ) → LocalArc → Type 0
+LeadsAmong vectors arc = Contains vectors arc.tip
+
+-- where all of them lead to the vectors, the arcs stand behind those that the rows had
+abbrev pub PutsArcs : List (List ℕ) → Rows → List LocalArc → Rows → Type 0
+PutsArcs vectors old arcs new = All (LeadsAmong vectors) arcs →
+    (new.tips.items ≡ old.tips.items ++ map (λ a. vertex_among vectors a.tip) arcs)
+    × (new.lengths.items ≡ old.lengths.items ++ map (λ a. a.len) arcs)
+    × (new.starts.items ≡ old.starts.items)
+
+-- what holds of all of some and of others holds of the first ones
+all_first : (vectors : List (List ℕ)) (xs ys : List LocalArc) → All (LeadsAmong vectors) (xs ++ ys) → All (LeadsAmong vectors) xs
+all_first vectors xs ys all k d within =
+    subst (LeadsAmong vectors) (get_or_append_left xs ys d k within) (all k d (omega (arith, within, length-append xs ys)))
+
+-- and of the others
+all_after : (vectors : List (List ℕ)) (xs ys : List LocalArc) → All (LeadsAmong vectors) (xs ++ ys) → All (LeadsAmong vectors) ys
+all_after vectors xs ys all k d within =
+    let place : length xs + k - length xs ≡ k = omega arith in
+    let there = all (length xs + k) d (omega (arith, within, length-append xs ys)) in
+    subst (LeadsAmong vectors) (get_or-append_right xs ys (length xs) (length xs + k) d refl (omega arith) ∙ ap (λ i. get_or ys i d) place) there
+
+-- values behind others, and more behind these
+put_after : {X : Type 0} (f : LocalArc → X) (xs ys : List LocalArc) (old mid new : List X) → mid ≡ old ++ map f xs → new ≡ mid ++ map f ys → new ≡ old ++ map f (xs ++ ys)
+put_after f xs ys old mid new first second =
+    second ∙ ap (λ vs. vs ++ map f ys) first ∙ append_assoc old (map f xs) (map f ys) ∙ ap (λ vs. old ++ vs) (sym (map-append f xs ys))
+
+-- arcs are put in turn
+pub arcs_put_in_turn : {S : Type 0} (vectors : List (List ℕ)) → AreTakenInTurn {R = Rows} {S = S} {F = Panic} (λ old _ arcs new _. PutsArcs vectors old arcs new) (λ _ _ _ _ _ f. f ≡ NoRoom)
+arcs_put_in_turn vectors = record {
+  none = λ rows _ all. (sym (append-nil rows.tips.items), sym (append-nil rows.lengths.items), refl);
+  more = λ xs ys old _ mid _ new _ p q all.
+      let first = p (all_first vectors xs ys all) in
+      let last = q (all_after vectors xs ys all) in (
+        put_after (λ (a : LocalArc). vertex_among vectors a.tip) xs ys old.tips.items mid.tips.items new.tips.items first.0 last.0,
+        put_after (λ (a : LocalArc). a.len) xs ys old.lengths.items mid.lengths.items new.lengths.items first.1 last.1,
+        last.2 ∙ first.2,
+      );
+  cut_after = λ _ _ _ _ _ _ _ _ _ _ q. q;
+  cut_more = λ _ _ _ _ _ _ _ q. q;
+}

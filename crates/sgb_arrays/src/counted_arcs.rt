@@ -1,0 +1,38 @@
+//! Arcs that are handed out one by one, and put into rows.
+//!
+//! Each leads to a vector of a sum, whose place is found by counts that are kept.
+use crate::rows::Rows;
+use sgb_gen::{ArcSink, CountedPlaces};
+use sgb_vec::Panic;
+
+/// Puts arcs to vectors that are counted behind those of the rows.
+#[derive(Drop)]
+pub(crate) struct CountedArcs<'p, 'a> {
+    /// The vectors.
+    pub(crate) places: &'p CountedPlaces<'a>,
+    /// How many entries each has.
+    pub(crate) width: usize,
+}
+
+impl<'p, 'a> ArcSink<Rows, ()> for CountedArcs<'p, 'a> {
+    ghost use Rattle.std.specs.Prelude.{◌≡◌, ⊤};
+    ghost use Rattle.sgb_vec.specs.declared.panics.Panic.TheVariants.{NoRoom};
+    ghost use Rattle.sgb_arrays.specs.inner.CountedArcs.{PutsArcs, arcs_put_in_turn};
+
+    type Fault = Panic;
+
+    ghost width = { λ s. s.width };
+
+    ghost ready = { λ _ _ _. ⊤ };
+
+    ghost took = { λ s old _ arcs new _. PutsArcs s.places.now old arcs new };
+
+    ghost cut = { λ _ _ _ _ _ _ f. f ≡ NoRoom };
+
+    ghost laws = { λ s. arcs_put_in_turn s.places.now };
+
+    #[inline(always)]
+    fn put_arc(&self, tip: &[u32], len: u32, rows: &mut Rows, _out: &mut ()) -> Result<(), Panic> {
+        rows.push_arc(self.places.place_if_there(tip), len)
+    }
+}
