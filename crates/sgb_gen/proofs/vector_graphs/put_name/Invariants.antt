@@ -1,4 +1,4 @@
-use Rattle.std.proofs.Common.{◌≡◌, ◌≤◌, ◌+◌, ◌*◌, length, take}
+use Rattle.std.proofs.Common.{◌≡◌, ◌≤◌, ◌*◌, length, take}
 use Rattle.sgb_vec.specs.Names.{name_of_vector}
 use Rattle.sgb_gen.proofs.vector_graphs.put_name.Given as goal
 

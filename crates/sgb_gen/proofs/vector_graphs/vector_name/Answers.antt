@@ -1,7 +1,6 @@
-use Rattle.std.proofs.Common.{◌≡◌, ◌<◌, ◌^◌, sym, subst, arith, rules}
+use Rattle.std.proofs.Common.{◌<◌, ◌^◌, arith, rules}
 use Rattle.std.specs.List.{All}
 use Rattle.std.proofs.lemmas.List.Elements.{All-from_get_or}
-use Rattle.sgb_vec.specs.Names.{IsText}
 use Rattle.sgb_vec.proofs.VectorNames.{IsText-name_of_vector}
 use Rattle.sgb_gen.proofs.vector_graphs.vector_name.Goals as goal
 
