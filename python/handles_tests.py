@@ -170,8 +170,6 @@ class Python(unittest.TestCase):
                 graph = sgb.graph(text)
                 self.assertEqual([graph.name(v) for v in graph], said("names", text).splitlines())
                 self.assertEqual([graph.vertex(name) for name in graph.names()], list(graph))
-                graph.names().clear()
-                self.assertEqual(len(graph.names()), graph.n)
         with self.assertRaisesRegex(KeyError, "no vertex '60.0'"):
             graph.vertex("60.0")
         with self.assertRaises(TypeError):
@@ -179,6 +177,31 @@ class Python(unittest.TestCase):
         # of those that have one name the first
         lines = sgb.graph("lines(circuit(2),0)")
         self.assertEqual((lines.vertex(lines.name(1)), lines.n), (0, 2))
+
+    def test_names_as_a_sequence(self):
+        """They are used as a list is, and cannot be changed, whether they were gone through before or not."""
+        wanted = said("names", BOARD).splitlines()
+        for first, count in ((0, len(wanted)), (1, 3), (2, 0)):
+            for gone_through in (False, True):
+                with self.subTest(first=first, count=count, gone_through=gone_through):
+                    names, part = sgb.graph(BOARD).names(first, count), wanted[first : first + count]
+                    if gone_through:
+                        self.assertEqual(list(names), part)
+                    self.assertEqual([names[k] for k in range(-count, count)], part + part)
+                    self.assertEqual((names[1:3], names[::-1], names[5:2], len(names)), (part[1:3], part[::-1], [], count))
+                    for place in (count, -count - 1):
+                        with self.assertRaises(IndexError):
+                            names[place]
+                    with self.assertRaises(TypeError):
+                        names[0] = "x"
+                    self.assertEqual((names + ["x"], ["x"] + names, repr(names)), (part + ["x"], ["x"] + part, repr(part)))
+                    self.assertEqual((pickle.loads(pickle.dumps(names)), names), (names, part))
+                    self.assertNotEqual(names, part + ["x"])
+                    self.assertEqual([name in names for name in (*part, "x")], [True] * count + [False])
+                    self.assertEqual([names.index(name) for name in part], list(range(count)))
+        graph = sgb.graph(BOARD)
+        self.assertEqual(list(graph.names()), wanted)
+        self.assertEqual((graph.names(1, 3), pickle.loads(pickle.dumps(graph.names(1, 3)))), (wanted[1:4], wanted[1:4]))
 
     def test_names_of_many(self):
         """Names that are too many for a dictionary are looked for as well."""

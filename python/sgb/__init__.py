@@ -50,6 +50,7 @@ from . import _library
 from ._convert import convert
 from ._graph import Graph
 from ._library import GraphError
+from ._names import Names
 from ._operations import gunion, induced, integer, intersection, product
 from ._rows import Rows
 from ._ways_in import file_of_edges, from_arrays, from_csr, from_edges, from_igraph, from_networkx, from_scipy
@@ -60,7 +61,7 @@ if TYPE_CHECKING:
 
 __version__ = "1.1.0"
 __all__ = [
-    "Graph", "GraphError", "Rows", "bi_complete", "convert", "file_of_edges", "flip", "from_arrays", "from_csr", "from_edges",
+    "Graph", "GraphError", "Names", "Rows", "bi_complete", "convert", "file_of_edges", "flip", "from_arrays", "from_csr", "from_edges",
     "from_igraph", "from_networkx", "from_scipy", "graph", "gunion", "induced", "intersection", "product", "wheel", "wheel_around",
 ]
 
@@ -73,7 +74,7 @@ def _show(*ones: Any) -> None:
                 part.__module__ = __name__
 
 
-_show(Graph, GraphError, Rows, convert, file_of_edges, from_arrays, from_csr, from_edges, from_igraph, from_networkx, from_scipy)
+_show(Graph, GraphError, Names, Rows, convert, file_of_edges, from_arrays, from_csr, from_edges, from_igraph, from_networkx, from_scipy)
 _show(gunion, induced, intersection, product)
 
 

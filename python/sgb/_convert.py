@@ -16,7 +16,7 @@ class _Lists:
     """What a form is made of: names, arcs in the order of the lists, and of each edge the arc that comes first."""
 
     def __init__(self, graph: Graph, directed: bool, lengths: bool) -> None:
-        self.id, self.n, self.names, self.directed = graph.id, graph.n, graph.names(), directed
+        self.id, self.n, self.names, self.directed = graph.id, graph.n, list(graph.names()), directed
         self.arcs = list(graph.arcs())
         self.edges = self.arcs if directed else paired(self.arcs)
         self.lengths = lengths or any(length != 1 for _, _, length in self.arcs)

@@ -7,6 +7,7 @@ import threading
 from typing import TYPE_CHECKING, Any, Callable, Iterator, Optional, SupportsIndex
 
 from . import _library, _lookups, _operations, _others
+from ._names import Names
 from ._rows import Rows
 
 if TYPE_CHECKING:
@@ -303,7 +304,7 @@ class Graph:
 
     # names, integers, and the file
 
-    def names(self, first: SupportsIndex = 0, count: Optional[SupportsIndex] = None) -> list[str]:
+    def names(self, first: SupportsIndex = 0, count: Optional[SupportsIndex] = None) -> Names:
         """The names of some vertices, one after another.
 
         Parameters
@@ -313,7 +314,8 @@ class Graph:
 
         Returns
         -------
-        list of count str
+        Names
+            A sequence of count str.
 
         Raises
         ------
@@ -322,18 +324,14 @@ class Graph:
         """
         begin, many = self._run(first, count)
         if "names" in self._kept or many == self.n:
-            return self._fetched("names", lambda: self._fetch_names(0, self.n))[begin : begin + many]
+            return self._fetched("names", lambda: self._fetch_names(0, self.n)).part(begin, begin + many)
         return self._fetch_names(begin, many)
 
-    def _fetch_names(self, first: int, count: int) -> list[str]:
+    def _fetch_names(self, first: int, count: int) -> Names:
         size = self._held.number("names", "sgb_names_size", first, count)
         begins, names = _library.Array("Q", count + 1), _library.Array("B", size)
         self._held.call("names", "sgb_names", first, count, *begins.words, *names.words)
-        whole, at = names.bytes(), begins.seen().tolist()
-        if whole.isascii():
-            text = whole.decode()
-            return [text[a:b] for a, b in zip(at, at[1:])]
-        return [whole[a:b].decode(errors="surrogateescape") for a, b in zip(at, at[1:])]
+        return Names(names.bytes(), begins.seen())
 
     def ints(self, field: str, first: SupportsIndex = 0, count: Optional[SupportsIndex] = None) -> NDArray[numpy.int64]:
         """The integers in a utility field of some vertices. Those of a board are the coordinates.

@@ -93,7 +93,7 @@ def to_networkx(graph: Graph, multi: bool = False, names: bool = False, undirect
     """
     import networkx
 
-    nodes: Sequence[Any] = graph.names() if names else range(graph.n)
+    nodes: Sequence[Any] = list(graph.names()) if names else range(graph.n)
     if names and len(set(nodes)) != graph.n:
         raise ValueError("two vertices have one name: without names=True the nodes are numbers")
     if undirected:
@@ -168,5 +168,5 @@ def to_igraph(graph: Graph, undirected: bool = False) -> igraph.Graph:
     arcs = graph.edges() if undirected else list(graph.arcs())
     return igraph.Graph(
         n=graph.n, edges=[(v, tip) for v, tip, _ in arcs], directed=not undirected, graph_attrs={"name": graph.id},
-        vertex_attrs={"name": graph.names()}, edge_attrs={"weight": [length for _, _, length in arcs]},
+        vertex_attrs={"name": list(graph.names())}, edge_attrs={"weight": [length for _, _, length in arcs]},
     )

@@ -6,6 +6,7 @@ import operator
 from typing import TYPE_CHECKING, Any, Iterator, Optional, SupportsIndex
 
 from . import _library
+from ._names import Names
 
 if TYPE_CHECKING:
     import numpy
@@ -48,7 +49,7 @@ class Rows:
         self.text, self.first, self.n = text, first, len(starts) - 1
         self.starts, self.tips, self.lengths = starts, tips, lengths
         self._graph = graph
-        self._names: Optional[list[str]] = None
+        self._names: Optional[Names] = None
 
     def __len__(self) -> int:
         return self.n
@@ -108,8 +109,8 @@ class Rows:
         tails = (v for v, a, b in zip(self, starts, starts[1:]) for _ in range(a, b))
         return zip(tails, self.tips.tolist(), lengths)
 
-    def names(self) -> list[str]:
-        """The names of the run's vertices, n str, which are fetched when they are first asked for.
+    def names(self) -> Names:
+        """The names of the run's vertices, a sequence of n str, which are fetched when they are first asked for.
 
         ValueError where they were not asked for before the graph was closed, or before these rows were pickled.
         """
