@@ -34,6 +34,8 @@ mod InsideRuns
 mod StrideTips
 -- vertices one after another that no side is near, by strides
 mod InsideRows
+-- the moves by a displacement, row by row
+mod RowMoves
 -- how far the coordinates stay that a displacement moves
 pub mod PartReaches
 -- where a move leads
