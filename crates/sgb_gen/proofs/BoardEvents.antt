@@ -1,9 +1,11 @@
 -- The events of a board, as its moves are made one after another.
-use Rattle.std.proofs.Common.{arith, ◌≡◌, ℕ, ◌+◌, ◌≤◌, ℤ, pos, nat_abs, List, [], ◌∷◌, ◌++◌, length, map, Some, None, sym, ap}
+use Rattle.std.proofs.Common.{arith, ◌≡◌, ℕ, ◌+◌, ◌≤◌, ℤ, pos, nat_abs, Bool, List, [], ◌∷◌, ◌++◌, length, map, Some, None, sym, ap}
 use Rattle.std.specs.List.{flat_map, slice_get}
 use Rattle.std.specs.Option.{option_map}
 use Rattle.sgb_vec.specs.Boxes.{box}
 use Rattle.sgb_graph.specs.Events.{Event}
+use Rattle.sgb_graph.specs.Graphs.{GraphData}
+use Rattle.sgb_graph.specs.Growth.{AddsEvents}
 use Rattle.sgb_gen.specs.Boards.{BoardData, moves_of_board}
 use Rattle.sgb_gen.specs.Displacements.{displacements}
 use Rattle.sgb_gen.specs.VectorGraphs.{event_among, vertex_among}
@@ -48,3 +50,7 @@ events_by-moves b t = sym (map-flat_map (event_among (box b.sizes)) (λ x. moves
 pub events_of-moves : (b : BoardData) → events_of b ≡ map (event_among (box b.sizes)) (moves_of_board b)
 unfolding board_moves
 events_of-moves b = grind (arith, flat_map-same, events_by-moves, map-flat_map)
+
+-- an event by the values that its flag and its length are
+pub event_as : (d directed : Bool) (old new : GraphData) (u v : ℕ) (n len : ℤ) → d ≡ directed → n ≡ len → AddsEvents d old new (record { from = u; to = v; len = n } ∷ []) → AddsEvents directed old new (record { from = u; to = v; len = len } ∷ [])
+event_as d directed old new u v n len e far h = grind arith

@@ -38,6 +38,8 @@ mod InsideRows
 pub mod GivenArcs
 -- how many lengths a piece moves at most
 pub mod MostLengths
+-- the moves by a displacement, row by row
+mod RowMoves
 -- how far the coordinates stay that a displacement moves
 pub mod PartReaches
 -- where a move leads

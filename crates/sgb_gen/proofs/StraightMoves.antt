@@ -31,7 +31,7 @@ arc_placed b x t l = arc_along b.sizes b.wrap x (parts_of t) l
 -- where moves lead up to a length, and not one further, there is an arc for each length
 module _ (b : BoardData) (x : List ℕ) (t : List ℤ) (n : ℕ) (most : n ≤ longest b) (on : (m : ℕ) → 0 < m → m ≤ n → leads b x t m ≡ Some (parts_put b.sizes b.wrap x m (parts_of t) x))
     (end : n < longest b → leads b x t (n + 1) ≡ None) where
-  left-past : (l : ℕ) → l ≡ n + 1 → moves_left b t x l ≡ []
+  pub left-past : (l : ℕ) → l ≡ n + 1 → moves_left b t x l ≡ []
   left-past l next = grind (arith, moves_left, cases_lt, longest, left-out, left-none)
 
   arcs_on : (k l : ℕ) → 0 < l → l + k ≡ n + 1 → map move_arc (moves_left b t x l) ≡ map (arc_placed b x t) (range_with_len l k)
@@ -45,7 +45,7 @@ module _ (b : BoardData) (x : List ℕ) (t : List ℤ) (below : IsBelow x b.size
   pub leads_on : (l : ℕ) → 0 < l → parts_stay b.sizes b.wrap x l (parts_of t) ≡ true → leads b x t l ≡ Some (parts_put b.sizes b.wrap x l (parts_of t) x)
   leads_on l some stay = grind (arith, place_by_parts)
 
-  leads_out : (l : ℕ) → 0 < l → parts_stay b.sizes b.wrap x l (parts_of t) ≡ false → leads b x t l ≡ None
+  pub leads_out : (l : ℕ) → 0 < l → parts_stay b.sizes b.wrap x l (parts_of t) ≡ false → leads b x t l ≡ None
   leads_out l some out = grind (arith, place_by_parts)
 
   -- ---- the arcs by all of them

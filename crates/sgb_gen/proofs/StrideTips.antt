@@ -43,7 +43,7 @@ use Rattle.sgb_gen.proofs.Vertices.{vertex_in_box}
 -- ---- places on sides that do not wrap around
 
 -- no bit of 0 is set
-no_bit : (k : ℕ) → is_bit_set (pos 0) k ≡ false
+pub no_bit : (k : ℕ) → is_bit_set (pos 0) k ≡ false
 no_bit k =
     let some = pow_pos k in
     let below : 0 / 2 ^ k < 1 = div_below 0 (2 ^ k) 1 some (omega (arith, some)) in
@@ -148,7 +148,7 @@ StayUpTo b x t n = (l : ℕ) → 0 < l → l ≤ n → parts_stay b.sizes b.wrap
 
 module _ (b : BoardData) (x : List ℕ) (v n : ℕ) (below : IsBelow x b.sizes) (there : slice_get (box b.sizes) v ≡ Some x) (most : n ≤ longest_move (sides_of b.sizes b.wrap) b.piece) where
   module _ (t : List ℤ) (s : ℕ) (long : length t ≡ length b.sizes) (flat : IsFlatFrom b x t) (stay : StayUpTo b x t n) (is : pos s ≡ stride_of b.sizes t) where
-    ahead_at : (l : ℕ) → 0 < l → l ≤ n → vertex_among (box b.sizes) (parts_put b.sizes b.wrap x l (parts_of t) x) ≡ v + l * s
+    pub ahead_at : (l : ℕ) → 0 < l → l ≤ n → vertex_among (box b.sizes) (parts_put b.sizes b.wrap x l (parts_of t) x) ≡ v + l * s
     ahead_at l some few = on_is _ v l s (stride_of b.sizes t) (tip_on b x t below long flat l some (omega (arith, few, most)) (stay l some few) v there) is
 
     pub ahead_within : (l : ℕ) → 0 < l → l ≤ n → v + l * s < product_of b.sizes

@@ -32,6 +32,8 @@ pub mod MovedCoordinates
 pub mod StraightLists
 -- how far a displacement leads on among the vectors
 pub mod Strides
+-- moves from the vectors of a row
+pub mod Rows
 -- counts by which the vectors of a sum are found
 pub mod KeptCounts
 -- lists of one width, one after another

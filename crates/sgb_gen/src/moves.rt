@@ -60,8 +60,9 @@ fn moved(x: u32, t: i32, l: u32) -> i64
     i64::from(x) + i64::from(l) * i64::from(t)
 }
 
-// How many steps of `t` from the coordinate `x` on stay on a side, of `most` at most.
-fn steps_on(size: u32, wraps: bool, x: u32, t: i32, most: u32) -> u32
+/// How many steps of `t` from the coordinate `x` on stay on a side, of `most` at most.
+#[inline(always)]
+pub(crate) fn steps_on(size: u32, wraps: bool, x: u32, t: i32, most: u32) -> u32
     requires { x < size }
     ensures within { result ≤ most }
     ensures stay { (l : ℕ) → l ≤ result

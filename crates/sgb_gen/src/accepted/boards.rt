@@ -18,6 +18,7 @@ mod edges;
 mod given;
 mod lists;
 mod orders;
+mod rows;
 mod runs;
 mod strided_boards;
 mod strides;
@@ -250,8 +251,25 @@ impl Board {
         Ok(())
     }
 
-    // Adds the moves by the displacement `t`, from each vertex in order.
+    // Adds the moves by the displacement `t`, from each vertex in order: row by row where they lead by equal strides.
     fn add_moves_by(&self, graph: &mut Graph, t: &Step) -> Result<(), Panic>
+        requires dimensions { length t.now ≡ length self.now.sizes }
+        requires vertices { length graph.old.vertices ≡ length (box self.now.sizes) }
+        requires plain { HasPlainArcs graph.old }
+        ensures ok { OnOk result (AddsEvents self.now.directed graph.old graph.new
+            (map (event_among (box self.now.sizes))
+            (flat_map (λ x. moves_from (sides_of self.now.sizes self.now.wrap) self.now.piece x
+            t.now) (box self.now.sizes)))) }
+        ensures memory { IsOkUnless result Panic.NoRoom }
+    {
+        match self.places_by(t) {
+            Some(places) => self.add_strides_by(graph, t, places),
+            None => self.add_moves_one_by_one(graph, t),
+        }
+    }
+
+    // The same vector by vector.
+    fn add_moves_one_by_one(&self, graph: &mut Graph, t: &Step) -> Result<(), Panic>
         requires dimensions { length t.now ≡ length self.now.sizes }
         requires vertices { length graph.old.vertices ≡ length (box self.now.sizes) }
         requires plain { HasPlainArcs graph.old }

@@ -212,8 +212,8 @@ fn strides_in(alloc: Global, sizes: &[u32], table: &DisplacementTable) -> Option
     Some(strides)
 }
 
-// How many places a unit of length leads on by a displacement. `None` where it leads back.
-fn stride_by(sizes: &[u32], t: &[i32]) -> Option<u32>
+/// How many places a unit of length leads on by a displacement. `None` where it leads back.
+pub(super) fn stride_by(sizes: &[u32], t: &[i32]) -> Option<u32>
     requires { length t.now ≡ length sizes.now }
     ensures { IfSome result (λ s. pos s ≡ stride_of sizes.now t.now) }
 {

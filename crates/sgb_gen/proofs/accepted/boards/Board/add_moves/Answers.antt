@@ -1,16 +1,10 @@
-use Rattle.std.proofs.Common.{◌≡◌, ℕ, ℤ, Bool, ◌+◌, [], ◌∷◌, pos, w64, sym, ap, ◌∙◌, arith, rules}
+use Rattle.std.proofs.Common.{◌+◌, pos, w64, sym, ap, ◌∙◌, arith, rules}
 use Rattle.std.proofs.lemmas.Int.{to_z-of_z}
 use Rattle.std.proofs.lemmas.Option.{slice_get_within}
-use Rattle.sgb_graph.specs.Graphs.{GraphData}
-use Rattle.sgb_graph.specs.Growth.{AddsEvents}
 use Rattle.sgb_graph.proofs.AddedEvents.{up_to-none, up_to-more, up_to-all}
-use Rattle.sgb_gen.proofs.BoardEvents.{events_from, events_left, events_left-all, events_left-out, events_left-next}
+use Rattle.sgb_gen.proofs.BoardEvents.{event_as, events_from, events_left, events_left-all, events_left-out, events_left-next}
 use Rattle.sgb_gen.proofs.Vertices.{below_in_box}
 use Rattle.sgb_gen.proofs.accepted.boards.Board.add_moves.Goals as goal
-
--- an event by the values that its flag and its length are
-event_as : (d directed : Bool) (old new : GraphData) (u v : ℕ) (n len : ℤ) → d ≡ directed → n ≡ len → AddsEvents d old new (record { from = u; to = v; len = n } ∷ []) → AddsEvents directed old new (record { from = u; to = v; len = len } ∷ [])
-event_as d directed old new u v n len e far h = grind arith
 
 pub loop-shorter-init : goal.loop-shorter-init
 loop-shorter-init c = grind (arith, events_from, events_left-all, up_to-none)
