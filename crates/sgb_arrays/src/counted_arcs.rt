@@ -17,7 +17,7 @@ pub(crate) struct CountedArcs<'p, 'a> {
 impl<'p, 'a> ArcSink<Rows, ()> for CountedArcs<'p, 'a> {
     ghost use Rattle.std.specs.Prelude.{◌≡◌, ⊤};
     ghost use Rattle.sgb_vec.specs.declared.panics.Panic.TheVariants.{NoRoom};
-    ghost use Rattle.sgb_arrays.specs.inner.CountedArcs.{PutsArcs, arcs_put_in_turn};
+    ghost use Rattle.sgb_arrays.specs.inner.CountedArcs.{PutsArcs, more_arcs_put, no_arc_put};
 
     type Fault = Panic;
 
@@ -29,7 +29,12 @@ impl<'p, 'a> ArcSink<Rows, ()> for CountedArcs<'p, 'a> {
 
     ghost cut = { λ _ _ _ _ _ _ f. f ≡ NoRoom };
 
-    ghost laws = { λ s. arcs_put_in_turn s.places.now };
+    ghost laws = { λ s. record {
+      none = λ rows _. no_arc_put s.places.now rows;
+      more = λ xs ys old _ mid _ new _ p q. more_arcs_put s.places.now xs ys old mid new p q;
+      cut_after = λ _ _ _ _ _ _ _ _ _ _ q. q;
+      cut_more = λ _ _ _ _ _ _ _ q. q;
+    } };
 
     #[inline(always)]
     fn put_arc(&self, tip: &[u32], len: u32, rows: &mut Rows, _out: &mut ()) -> Result<(), Panic> {

@@ -2,11 +2,8 @@
 use Rattle.std.specs.Prelude.{◌≡◌, ◌<◌, ◌≤◌, ◌+◌, ◌-◌, ℕ, List, [], ◌++◌, map, length, All, Contains}
 use Rattle.std.proofs.Common.{sym, ap, refl, subst, ◌∙◌, append-nil, append_assoc, arith, get_or, length-append}
 use Rattle.std.proofs.lemmas.List.{get_or_append_left, get_or-append_right, map-append}
-use Rattle.sgb_vec.specs.declared.panics.Panic.{Panic}
-use Rattle.sgb_vec.specs.declared.panics.Panic.TheVariants.{NoRoom}
 use Rattle.sgb_gen.specs.LocalLists.{LocalArc}
 use Rattle.sgb_gen.specs.VectorGraphs.{vertex_among}
-use Rattle.sgb_gen.specs.inner.ArcSinks.{AreTakenInTurn}
 use Rattle.sgb_arrays.specs.declared.rows.Rows.{Rows}
 
 -- the arc leads to one of the vectors
@@ -37,17 +34,17 @@ put_after : {X : Type 0} (f : LocalArc → X) (xs ys : List LocalArc) (old mid n
 put_after f xs ys old mid new first second =
     second ∙ ap (λ vs. vs ++ map f ys) first ∙ append_assoc old (map f xs) (map f ys) ∙ ap (λ vs. old ++ vs) (sym (map-append f xs ys))
 
--- arcs are put in turn
-pub arcs_put_in_turn : {S : Type 0} (vectors : List (List ℕ)) → AreTakenInTurn {R = Rows} {S = S} {F = Panic} (λ old _ arcs new _. PutsArcs vectors old arcs new) (λ _ _ _ _ _ f. f ≡ NoRoom)
-arcs_put_in_turn vectors = record {
-  none = λ rows _ all. (sym (append-nil rows.tips.items), sym (append-nil rows.lengths.items), refl);
-  more = λ xs ys old _ mid _ new _ p q all.
-      let first = p (all_first vectors xs ys all) in
-      let last = q (all_after vectors xs ys all) in (
-        put_after (λ (a : LocalArc). vertex_among vectors a.tip) xs ys old.tips.items mid.tips.items new.tips.items first.0 last.0,
-        put_after (λ (a : LocalArc). a.len) xs ys old.lengths.items mid.lengths.items new.lengths.items first.1 last.1,
-        last.2 ∙ first.2,
-      );
-  cut_after = λ _ _ _ _ _ _ _ _ _ _ q. q;
-  cut_more = λ _ _ _ _ _ _ _ q. q;
-}
+-- no arc leaves the rows as they are
+pub no_arc_put : (vectors : List (List ℕ)) (rows : Rows) → PutsArcs vectors rows [] rows
+no_arc_put vectors rows all = (sym (append-nil rows.tips.items), sym (append-nil rows.lengths.items), refl)
+
+-- some arcs, and then others, are both
+pub more_arcs_put : (vectors : List (List ℕ)) (xs ys : List LocalArc) (old mid new : Rows) → PutsArcs vectors old xs mid → PutsArcs vectors mid ys new
+    → PutsArcs vectors old (xs ++ ys) new
+more_arcs_put vectors xs ys old mid new p q all =
+    let first = p (all_first vectors xs ys all) in
+    let last = q (all_after vectors xs ys all) in (
+      put_after (λ (a : LocalArc). vertex_among vectors a.tip) xs ys old.tips.items mid.tips.items new.tips.items first.0 last.0,
+      put_after (λ (a : LocalArc). a.len) xs ys old.lengths.items mid.lengths.items new.lengths.items first.1 last.1,
+      last.2 ∙ first.2,
+    )
