@@ -13,6 +13,8 @@ pub(crate) mod files;
 pub(crate) mod flips;
 // Names of vectors that are kept.
 mod kept_names;
+// The lines of arcs that are handed out one by one.
+mod line_sink;
 // Listings of graphs.
 pub(crate) mod listing;
 // Names of a generator's vectors.

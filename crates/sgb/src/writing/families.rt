@@ -6,13 +6,9 @@
 //! `Buffered` holds it until the first page comes. Where memory runs out for a list the page is not put any more: a
 //! listing that is cut off there ends with its head or with a page. A put after that fault could fail, and turn its
 //! status.
-//!
-//! What puts the line of an arc together is inlined in one place (`push_arc`): a simplex takes a twentieth less time
-//! so.
-ghost use Rattle.std.specs.Prelude.{◌≡◌, ◌≢◌, ◌≤◌, ◌+◌, ℕ, List, [], ◌++◌, false, true, drop, length, option_map, reverse, Contains, IfErr, IfSome, IsOk, IsOkUnless, OnOk};
+ghost use Rattle.std.specs.Prelude.{◌≡◌, ◌≢◌, ◌≤◌, ◌+◌, [], ◌++◌, false, true, drop, length, option_map, reverse, Contains, IfErr, IfSome, IsOk, IsOkUnless, OnOk};
 ghost use Rattle.std.specs.List.{flat_map};
-ghost use Rattle.std.specs.Io.KnownBytes.{Appends};
-ghost use Rattle.sgb_file.specs.Devices.{AppendsPrefix, change};
+ghost use Rattle.sgb_file.specs.Devices.{change};
 ghost use Rattle.sgb_vec.specs.Limits.{most_dimensions};
 ghost use Rattle.sgb_vec.specs.Names.{name_of_vector};
 ghost use Rattle.sgb_gen.specs.Runs.{AreMoved, arc_along, arcs_along};
@@ -21,7 +17,7 @@ ghost use Rattle.sgb_graph.specs.Made.{graph_described};
 ghost use Rattle.sgb_graph.specs.Vertices.{names_of};
 ghost use Rattle.sgb_requests.specs.declared.faults.Fault.TheVariants as fault;
 ghost use Rattle.sgb_requests.specs.declared.requests.Resume.TheVariants.{Whole};
-ghost use Rattle.sgb_gen.specs.Generators.{sort_of, vectors_of};
+ghost use Rattle.sgb_gen.specs.Generators.{described, sort_of, vectors_of};
 ghost use Rattle.sgb_gen.specs.Sorts.{of_board, of_simplex, of_subsets};
 ghost use Rattle.sgb.specs.Locals.{family_text, head_if, left_out_after};
 ghost use Rattle.sgb.specs.inner.Locals.{local_block, local_line};
@@ -29,21 +25,21 @@ ghost use Rattle.sgb.specs.inner.Pages.{IsPaged, page_bytes};
 ghost use Rattle.sgb.specs.inner.Remaining.{IsRest};
 ghost use Rattle.sgb.specs.inner.Texts.{most_line_bytes};
 ghost use Rattle.sgb.specs.Texts.{head, name_line};
-ghost use Rattle.sgb_gen.specs.Generators.{described};
 ghost use Rattle.sgb.specs.Certain.{IsPast};
 ghost use Rattle.sgb.specs.Outcomes.{list_answer};
 ghost use Rattle.sgb_vec.specs.declared.panics.Panic.TheVariants.{NoRoom};
-ghost use Rattle.sgb.specs.Writing.{IsCutOff, IsEnded, IsLeftOrBegun, IsWritten, effect};
+ghost use Rattle.sgb.specs.Writing.{IsEnded, IsLeftOrBegun, IsWritten, effect};
 // For the search alone.
 ghost use Rattle.std.specs.Prelude.{IfOk};
 
 use super::arc_lines::{begin_arc, end_counted_arc};
 use super::kept_names::KeptName;
+use super::line_sink::ArcLines;
 use super::listing::push_head_of;
 use super::pages::{Page, make_room, put_page};
 use super::resumed::{has_head, slice_of, start_of, vectors_after};
 use sgb_file::Sink;
-use sgb_gen::{ArcSink, Links, Listed, Local, Runs, Visit, Visitor};
+use sgb_gen::{Links, Listed, Local, Runs, Visit, Visitor};
 use sgb_requests::{Fault, Resume};
 use sgb_vec::{Family, Panic, Vectors};
 
@@ -401,78 +397,4 @@ fn push_listed_block<'a, L: Listed<'a>, W: Sink>(
 {
     name.push_line(page, out)?;
     listed.give_arcs(x, links, &ArcLines { name }, page, out)?
-}
-
-// Takes the arcs of the vector of this name, and hands their lines to a page.
-#[derive(Drop)]
-struct ArcLines<'n> {
-    name: &'n KeptName,
-}
-
-impl<'n, W: Sink> ArcSink<Page, W> for ArcLines<'n> {
-    ghost use Rattle.std.proofs.Common.{◌∙◌, sym, ap, subst, append-nil, append_assoc};
-    ghost use Rattle.std.proofs.KnownBytes.{Appends-nil, Appends-trans};
-    ghost use Rattle.std.proofs.lemmas.Grind.{flat_map-append};
-    ghost use Rattle.sgb_file.proofs.WrittenPrefixes.{prefix_after, prefix_more};
-
-    type Fault = Fault;
-
-    ghost width = { λ s. length s.name.now };
-
-    ghost ready = { λ s page out. (W.has_failed out ≡ false)
-        × (length s.name.now ≤ most_dimensions + 1) };
-
-    ghost took = { λ _ page old arcs after new. (put : List ℕ)
-        × (put ++ after ≡ page ++ flat_map local_line arcs)
-        × Appends (W.written old) (W.written new) put };
-
-    ghost cut = { λ _ page old arcs _ new f. IsCutOff (page ++ flat_map local_line arcs)
-        (change W.written W.has_failed old new) f × (f ≡ fault.Write) };
-
-    // A page that took some lines and then others took both, and what cuts the others off cuts off both.
-    ghost laws = { λ s. record {
-      none = λ page out. ([], sym (append-nil page), Appends-nil (W.written out));
-      more = λ xs ys page old mid out _ new p q. (
-        p.0 ++ q.0,
-        append_assoc p.0 q.0 _
-            ∙ ap (λ text. p.0 ++ text) q.1 ∙ sym (append_assoc p.0 mid (flat_map local_line ys))
-            ∙ ap (λ text. text ++ flat_map local_line ys) p.1
-            ∙ append_assoc page (flat_map local_line xs) (flat_map local_line ys)
-            ∙ ap (λ text. page ++ text) (sym (flat_map-append local_line xs ys)),
-        Appends-trans (W.written old) (W.written out) (W.written new) p.0 q.0 p.2 q.2,
-      );
-      cut_after = λ xs ys page old mid out _ new f p q. (
-        record {
-          output = subst (AppendsPrefix (W.written old) (W.written new))
-              (sym (append_assoc p.0 mid (flat_map local_line ys))
-              ∙ ap (λ text. text ++ flat_map local_line ys) p.1
-              ∙ append_assoc page (flat_map local_line xs) (flat_map local_line ys)
-              ∙ ap (λ text. page ++ text) (sym (flat_map-append local_line xs ys)))
-              (prefix_after (W.written old) (W.written out) (W.written new) p.0
-              (mid ++ flat_map local_line ys) p.2 q.0.output);
-          cause = q.0.cause;
-        },
-        q.1,
-      );
-      cut_more = λ xs ys page old _ new f q. (
-        record {
-          output = subst (AppendsPrefix (W.written old) (W.written new))
-              (append_assoc page (flat_map local_line xs) (flat_map local_line ys)
-              ∙ ap (λ text. page ++ text) (sym (flat_map-append local_line xs ys)))
-              (prefix_more (W.written old) (W.written new) (page ++ flat_map local_line xs)
-              (flat_map local_line ys) q.0.output);
-          cause = q.0.cause;
-        },
-        q.1,
-      );
-    } };
-
-    #[inline(always)]
-    fn put_arc(&self, tip: &[u32], len: u32, page: &mut Page, out: &mut W) -> Result<(), Fault> {
-        make_room(page, out)?;
-        begin_arc(page);
-        self.name.push_other(tip, page);
-        end_counted_arc(page, len);
-        Ok(())
-    }
 }

@@ -2,7 +2,7 @@
 //!
 //! The vectors of a row differ in their last entries alone. So the other sides let the piece go as far from each of them,
 //! which is found once for a row. Where the moves lead is a sum: they lead by equal strides.
-ghost use Rattle.std.specs.Prelude.{◌≡◌, ◌+◌, ◌-◌, ◌*◌, ◌<◌, ◌≤◌, ℕ, get_or, length, map, pos, slice_get, take, All, IfSome, IsOkUnless, OnOk, Some};
+ghost use Rattle.std.specs.Prelude.{◌≡◌, ◌+◌, ◌-◌, ◌*◌, ◌<◌, ◌≤◌, ℕ, get_or, length, map, pos, take, All, IfSome, IsOkUnless, OnOk};
 ghost use Rattle.std.specs.List.{flat_map};
 ghost use Rattle.sgb_vec.specs.Boxes.{box};
 ghost use Rattle.sgb_vec.specs.Lexicographic.{IsBelow};
@@ -12,6 +12,8 @@ ghost use Rattle.sgb_gen.specs.MovedCoordinates.{parts_of};
 ghost use Rattle.sgb_gen.specs.Moves.{moves_from, sides_of};
 ghost use Rattle.sgb_gen.specs.VectorGraphs.{event_among};
 ghost use Rattle.sgb_gen.specs.inner.Rows.{IsFarthest, IsRowAt, LeadsOn, events_of_stride, last_side, vector_at};
+// For the search alone.
+ghost use Rattle.std.specs.Prelude.{slice_get, Some};
 
 use super::Board;
 use super::strides::stride_by;

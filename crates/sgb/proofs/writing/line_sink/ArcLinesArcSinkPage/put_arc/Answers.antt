@@ -4,7 +4,7 @@ use Rattle.sgb.specs.inner.Locals.{local_line}
 use Rattle.sgb.proofs.CutOff.{exit_write}
 use Rattle.sgb.proofs.LocalListings.{line-parts}
 use Rattle.sgb.proofs.Pages.{exit_untaken, held_three, line_given}
-use Rattle.sgb.proofs.writing.families.ArcLinesArcSinkPage.put_arc.Goals as goal
+use Rattle.sgb.proofs.writing.line_sink.ArcLinesArcSinkPage.put_arc.Goals as goal
 
 pub returns-in_err-make_room-clause-given : goal.returns-in_err-make_room-clause-given
 returns-in_err-make_room-clause-given g c =
