@@ -17,6 +17,7 @@ use Rattle.sgb_gen.specs.Runs.{RunsData, arc_along, arcs_along, arcs_of_run}
 use Rattle.sgb_graph.specs.declared.fields.Link.{Link}
 use Rattle.sgb_graph.specs.Graphs.{GraphData, chain_of}
 use Rattle.sgb_graph.specs.Made.{graph_described}
+use Rattle.sgb_graph.specs.Vertices.{name_at}
 use Rattle.sgb_gen.proofs.LocalChains.{SayList, chain_said}
 use Rattle.sgb_gen.proofs.VectorVertices.{named_by_members, rest_from, vertices_are_members}
 use Rattle.sgb_arrays.specs.Runs.{AreNames, IsRunRefusal, IsThere, part_starts, parts_of}
@@ -86,6 +87,11 @@ names_answered g members first count (Ok names) same (within, starts, bytes) = (
   },
 )
 names_answered g members first count (Err why) same said = said
+
+-- and have as many bytes
+pub names_counted : (g : VectorGraph) (members : List (List ℕ)) (first count : ℕ) → members ≡ g.vectors
+    → length (parts_of (name_there members) first count) ≡ length (parts_of (name_at (graph_described (described_by g))) first count)
+names_counted g members first count same = ap (λ ns. length (parts_of (λ v. slice_index_or ns v []) first count)) (sym (named_by_members g members same))
 
 pub refusal_answered : {T : Type 0} (g : VectorGraph) (members : List (List ℕ)) (first count : ℕ) (r : Result T Wrong) → members ≡ g.vectors
     → IfErr r (λ why. ((why ≡ wrong.Vertices) × (first + count ≤ length members → ⊥)) ⊎ (why ≡ wrong.NoRoom))

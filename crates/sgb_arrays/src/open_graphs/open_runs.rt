@@ -13,7 +13,7 @@ use crate::names::Names;
 use crate::refusals::Wrong;
 use crate::rows::Rows;
 use crate::run_arcs::arcs_of_run;
-use crate::run_names::names_of_run;
+use crate::run_names::{names_len_of_run, names_of_run};
 use crate::run_rows::rows_of_run;
 use crate::runs::is_there;
 use crate::strided_rows::{arcs_of_strided_run, fill_strided_rows, fill_strided_tips};
@@ -36,10 +36,10 @@ impl OpenGraph {
         }
     }
 
-    /// How many bytes their names have.
+    /// How many bytes their names have. No memory is taken.
     ///
     /// Refused as `arcs_len` is.
-    pub fn names_len(&self, alloc: Global, first: u32, count: u32) -> Result<u64, Wrong>
+    pub fn names_len(&self, _alloc: Global, first: u32, count: u32) -> Result<u64, Wrong>
         ensures count { IfOk result (λ bytes. IsThere (graph_open self.now) first count
             × (bytes ≡ length (parts_of (name_at (graph_open self.now)) first count))) }
         ensures refused { IfErr result
@@ -47,7 +47,7 @@ impl OpenGraph {
     {
         match self {
             OpenGraph::Built(packed) => names_len(packed.graph(), first, count),
-            OpenGraph::Listed(local) => local_names_len(alloc, local, first, count),
+            OpenGraph::Listed(local) => local_names_len(local, first, count),
         }
     }
 
@@ -221,7 +221,7 @@ fn arcs_counted(alloc: Global, local: &Local) -> Option<u128>
 }
 
 // How many bytes the names of a run of a generator's graph have.
-fn local_names_len(alloc: Global, local: &Local, first: u32, count: u32) -> Result<u64, Wrong>
+fn local_names_len(local: &Local, first: u32, count: u32) -> Result<u64, Wrong>
     ensures count { IfOk result (λ bytes. IsThere (graph_open (OpenGraph.Listed local.now)) first
         count
         × (bytes ≡ length (parts_of (name_at (graph_open (OpenGraph.Listed local.now))) first
@@ -232,8 +232,7 @@ fn local_names_len(alloc: Global, local: &Local, first: u32, count: u32) -> Resu
     if !is_there(local.size(), first, count) {
         return Err(Wrong::Vertices);
     }
-    let names = names_of_run(alloc, local, first, count)?;
-    Ok(names.bytes.len() as u64)
+    Ok(names_len_of_run(local, first, count))
 }
 
 // Puts the lists of a run of a generator's graph into arrays.
