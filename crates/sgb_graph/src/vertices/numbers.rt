@@ -123,6 +123,7 @@ impl Numbers {
 
 // Makes the field of this place hold integers, which stand in the vertices: 0 where a vertex had none. Where it holds
 // integers already, nothing changes.
+#[inline(always)]
 pub(super) fn take_numbers(plain: &mut [PlainVertex], place: usize, field: &mut Numbers)
     requires place { place < 3 }
     requires whole { length (numbers_values place plain.old field.old) ≡ length plain.old }
@@ -138,6 +139,7 @@ pub(super) fn take_numbers(plain: &mut [PlainVertex], place: usize, field: &mut 
 }
 
 // Puts the integers of a column into the field of this place: 0 where it has none.
+#[inline(never)]
 fn copy_numbers(plain: &mut [PlainVertex], place: usize, column: &Column)
     requires place { place < 3 }
     requires whole { HoldsMany (length plain.old) column.now }
