@@ -3,8 +3,6 @@
 pub mod PutValues
 -- what is left of a walk through the lists, or through the names
 pub mod PartsLeft
--- the name of a vector, one entry more
-pub mod NameTexts
 -- runs, one vertex more
 pub mod RunSteps
 -- a run by its own places

@@ -27,8 +27,6 @@ mod kinds;
 mod laws;
 // How long all lists of a graph are.
 mod list_sizes;
-// The name of a vector, written where it stands.
-mod name_texts;
 // Names as arrays.
 mod names;
 // Graphs that are open, built or not.

@@ -9,12 +9,11 @@ ghost use Rattle.sgb_gen.specs.Generators.{described};
 ghost use Rattle.sgb_arrays.specs.Runs.{AreNames, IsRunRefusal, IsThere, part_starts, parts_of};
 ghost use Rattle.sgb_arrays.specs.inner.VectorNames.{name_there};
 
-use crate::name_texts::{NameText, name_len, write_name};
 use crate::names::Names;
 use crate::refusals::Wrong;
 use crate::runs::{has_run, vectors_from};
 use sgb_gen::{Listed, Local, Visit, Visitor};
-use sgb_vec::{Family, Panic};
+use sgb_vec::{Family, NameText, Panic, name_len, put_name};
 use std::alloc::Global;
 
 /// The names of `count` vertices of a generator's graph, from vertex `first` on. The graph is not built.
@@ -109,7 +108,7 @@ impl Names {
             ++ length self.new.bytes.items ∷ []) }
         ensures memory { IsOkUnless result Panic.NoRoom }
     {
-        write_name(name, x);
+        put_name(x, name);
         self.bytes.extend_from_slice(name.bytes())?;
         self.starts.push(self.bytes.len() as u64)?;
         Ok(())

@@ -6,11 +6,8 @@ ghost use Rattle.sgb_graph.specs.Made.{no_kinds, no_fields};
 ghost use Rattle.sgb_gen.specs.inner.VectorGraphs.{HasCoordinates};
 
 use sgb_graph::{Graph, Names};
-use sgb_vec::{Family, Filled, Panic, Text, Vectors};
+use sgb_vec::{Family, NameText, Panic, Text, Vectors, put_name};
 use std::alloc::Global;
-
-// A name has at most so many bytes: 251 numbers of at most ten digits, each with a dot.
-const MOST_NAME_BYTES: usize = 2_761;
 
 /// The names of the vectors of a family, in order (GB_BASIC, board).
 ///
@@ -20,7 +17,7 @@ pub(crate) fn vector_names<F: Family>(alloc: Global, family: &F) -> Result<Names
     ensures memory { IsOkUnless result Panic.NoRoom }
 {
     let mut names = Names::with_capacity(alloc, family.size() as usize)?;
-    let mut text = Filled::new();
+    let mut text = NameText::new();
     let mut left = Vectors::all(family);
     while let Some(vector) = left.front() {
         let name = vector_name(alloc, vector, &mut text)?;
@@ -33,31 +30,13 @@ pub(crate) fn vector_names<F: Family>(alloc: Global, family: &F) -> Result<Names
 }
 
 // The name of a vector. `text` is what it is made with: what it holds is open.
-fn vector_name(
-    alloc: Global,
-    vector: &[u32],
-    text: &mut Filled<MOST_NAME_BYTES>,
-) -> Result<Text, Panic>
+fn vector_name(alloc: Global, vector: &[u32], text: &mut NameText) -> Result<Text, Panic>
     requires { length vector.now ≤ most_dimensions + 1 }
     ensures ok { IfOk result (λ name. name ≡ name_of_vector vector.now) }
     ensures memory { IsOkUnless result Panic.NoRoom }
 {
     put_name(vector, text);
     Text::new(alloc, text.bytes())
-}
-
-// Makes `text` the name of a vector.
-fn put_name(vector: &[u32], text: &mut Filled<MOST_NAME_BYTES>)
-    requires { length vector.now ≤ most_dimensions + 1 }
-    ensures { text.new ≡ name_of_vector vector.now }
-{
-    text.cut(0);
-    for (place, entry) in vector.iter().enumerate() {
-        if place > 0 {
-            text.push_byte(b'.');
-        }
-        text.push_count(*entry);
-    }
 }
 
 /// Puts the first three entries of each vector into the utility fields x, y, z of its vertex, and 0 for those

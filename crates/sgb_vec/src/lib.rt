@@ -41,5 +41,5 @@ pub use panics::Panic;
 pub use shapes::{Shape, board_sizes, simplex_bounds};
 pub use steps::Steps;
 pub use sums::SumFamily;
-pub use texts::{Text, is_text_byte, name_of};
+pub use texts::{NameText, Text, is_text_byte, name_len, name_of, put_name};
 pub use vectors::Vectors;

@@ -2,10 +2,11 @@
 //!
 //! A text of at most 16 bytes stands where it is kept: that spares an allocation for each name, and a look elsewhere
 //! when it is read. A longer one takes eight bytes more than it would as a `Vec`.
-ghost use Rattle.std.specs.Prelude.{◌≡◌, ◌+◌, ◌≤◌, ◌++◌, ◌↔◌, All, length, decimal, IsTrue, IfOk, OnOk, OnErr, IsErrOf, IsOkUnless};
+ghost use Rattle.std.specs.Prelude.{◌≡◌, ◌+◌, ◌^◌, ◌≤◌, ◌++◌, ◌↔◌, All, length, decimal, IsTrue, IfOk, OnOk, OnErr, IsErrOf, IsOkUnless};
 ghost use Rattle.sgb_vec.specs.Limits.{most_bytes, most_dimensions};
 ghost use Rattle.sgb_vec.specs.Names.{name_of_vector, IsTextByte, IsText};
 
+use crate::filled::Filled;
 use crate::panics::Panic;
 use itoa::Buffer;
 use smallvec::SmallVec;
@@ -35,6 +36,12 @@ impl Model for Text {
 
 // A string has at most this many bytes.
 const MOST_BYTES: usize = 4_095;
+
+// A name has at most so many bytes: 251 numbers of at most ten digits, each with a dot.
+const MOST_NAME_BYTES: usize = 2_761;
+
+/// Room for the name of a vector, which serves for one after another.
+pub type NameText = Filled<MOST_NAME_BYTES>;
 
 impl Text {
     /// The string of these bytes.
@@ -112,7 +119,7 @@ pub fn name_of(alloc: Global, vector: &[u32]) -> Result<Text, Panic>
     ensures ok { IfOk result (λ name. name ≡ name_of_vector vector.now) }
     ensures err { OnErr result (IsErrOf result Panic.NoRoom) }
 {
-    let mut bytes = SmallVec::with_capacity(alloc, name_length(vector))?;
+    let mut bytes = SmallVec::with_capacity(alloc, name_len(vector) as usize)?;
     for (place, entry) in vector.iter().enumerate() {
         if place > 0 {
             bytes.push(b'.')?;
@@ -122,25 +129,40 @@ pub fn name_of(alloc: Global, vector: &[u32]) -> Result<Text, Panic>
     Ok(Text { bytes })
 }
 
-// How many bytes the name of the vector has.
-fn name_length(vector: &[u32]) -> usize
+/// How many bytes the name of a vector of at most 251 entries has. The name is not made.
+pub fn name_len(vector: &[u32]) -> u64
     requires { length vector.now ≤ most_dimensions + 1 }
-    ensures { result ≡ length (name_of_vector vector.now) }
+    ensures value { result ≡ length (name_of_vector vector.now) }
+    ensures short { result ≤ 2 ^ 12 }
 {
-    let mut count = 0;
+    let mut bytes = 0;
     for (place, entry) in vector.iter().enumerate() {
-        count += usize::from(place > 0) + digit_count(*entry);
+        bytes += u64::from(place > 0) + digit_count(*entry);
     }
-    count
+    bytes
 }
 
-// How many digits the number has in decimal.
-fn digit_count(number: u32) -> usize
+/// Makes a text the name of a vector of at most 251 entries. It takes no memory.
+pub fn put_name(vector: &[u32], text: &mut NameText)
+    requires { length vector.now ≤ most_dimensions + 1 }
+    ensures { text.new ≡ name_of_vector vector.now }
+{
+    text.cut(0);
+    for (place, entry) in vector.iter().enumerate() {
+        if place > 0 {
+            text.push_byte(b'.');
+        }
+        text.push_count(*entry);
+    }
+}
+
+// How many digits a number has in decimal.
+fn digit_count(number: u32) -> u64
     ensures value { result ≡ length (decimal number) }
     ensures bound { result ≤ 10 }
 {
     match number.checked_ilog10() {
-        Some(power) => power as usize + 1,
+        Some(power) => power as u64 + 1,
         None => 1,
     }
 }

@@ -1,6 +1,6 @@
 use Rattle.std.proofs.Common.{◌≡◌, ◌≤◌, ◌*◌, length, take}
 use Rattle.sgb_vec.specs.Names.{name_of_vector}
-use Rattle.sgb_gen.proofs.vector_graphs.put_name.Given as goal
+use Rattle.sgb_vec.proofs.texts.put_name.Given as goal
 
 -- the text so far is the name of the entries so far, of which each has at most ten digits and a dot
 abbrev pub invariant-loop-place : goal.invariant-loop-place

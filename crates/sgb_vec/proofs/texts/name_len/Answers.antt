@@ -1,7 +1,7 @@
 use Rattle.std.proofs.Common.{◌≡◌, ◌<◌, ◌≤◌, inl, inr, refl, arith}
 use Rattle.std.proofs.lemmas.Bool.{cases_lt, lt-ltb, le-ltb}
 use Rattle.sgb_vec.proofs.VectorNames.{name_of_none, length-name_of_vector-next}
-use Rattle.sgb_vec.proofs.texts.name_length.Goals as goal
+use Rattle.sgb_vec.proofs.texts.name_len.Goals as goal
 
 pub loop-place-init : goal.loop-place-init
 loop-place-init c = rw name_of_none (refl, omega arith)

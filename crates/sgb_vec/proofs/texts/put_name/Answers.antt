@@ -1,7 +1,7 @@
 use Rattle.std.proofs.Common.{arith}
 use Rattle.std.proofs.lemmas.Grind.{common_steps}
 use Rattle.sgb_vec.proofs.VectorNames.{name_of_none, name_of_vector-first, name_of_vector-more}
-use Rattle.sgb_gen.proofs.vector_graphs.put_name.Goals as goal
+use Rattle.sgb_vec.proofs.texts.put_name.Goals as goal
 
 pub loop-place-init : goal.loop-place-init
 loop-place-init c = grind (arith, common_steps, name_of_none)
