@@ -83,13 +83,14 @@ COUNTED = 1000  # arcs of a list that are counted at most
 
 # lists of one vertex: an expression, a vertex, the vectors on its list, the entries of each
 LISTS = [
-    ("board(3000000,0,0,0,-1,1,0)", 0, 2 * 2_999_999, 1),
-    ("board(3000000,0,0,0,-1,1,0)", 2_999_999, 2 * 2_999_999, 1),
+    ("board(2999999,0,0,0,-4,1,0)", 0, 2 * 2_999_998, 1),
+    ("board(2999999,0,0,0,-4,1,0)", 2_999_998, 2 * 2_999_998, 1),
 ]
 
 # and those of which none is kept, with so many arcs
 SHORT = [
     ("board(3000000,0,0,0,-1,0,0)", 2_999_999, 2_999_999),
+    ("board(3000000,0,0,0,-1,1,0)", 2_999_999, 2 * 2_999_999),
     ("simplex(3,1,-199,0,0,0,0)", math.comb(200, 3) - 1, 3 * 197),
     ("disjoint_subsets(30,6)", 0, math.comb(24, 6)),
     ("disjoint_subsets(40,8)", math.comb(40, 8) - 1, math.comb(32, 8)),
@@ -225,11 +226,11 @@ def lists(program):
             tally.same((expression, "in 8 MB"), arcs(expression, vertex, 8 << 20), min(count, COUNTED))
         with open(os.path.join(TOP, "docs/ERRORS.md"), encoding="utf-8") as file:
             text = re.sub("[\n `]+", " ", file.read())
-        found = re.search(r"board\(3000000,0,0,0,-1,1,0\) has lists of ([0-9,]+) vectors, which take ([0-9.]+) MB", text)
+        found = re.search(r"board\(2999999,0,0,0,-4,1,0\) , where it goes around twice, has lists of ([0-9,]+) vectors, which take ([0-9.]+) MB", text)
         numbers = found and (int(found[1].replace(",", "")), float(found[2]))
-        vectors = 2 * 2_999_999
-        tally.same(("docs/ERRORS.md", "board(3000000,0,0,0,-1,1,0)"), numbers, (vectors, round(16 * vectors / 1e6)))
-        command = 'examples/parts/memory.py "board(3000000,0,0,0,-1,1,0)"'
+        vectors = 2 * 2_999_998
+        tally.same(("docs/ERRORS.md", "board(2999999,0,0,0,-4,1,0)"), numbers, (vectors, round(16 * vectors / 1e6)))
+        command = 'examples/parts/memory.py "board(2999999,0,0,0,-4,1,0)"'
         tally.same(command, shell.run(command), (0, f"{math.ceil((2 * 16 * vectors + 50_000_000) / 1e6)}\n", ""))
 
     return checks
