@@ -16,13 +16,25 @@ use sgb_vec::Text;
 use std::alloc::{AllocError, Global};
 
 // The values of a field, one after another; of a field that is not used, none.
-#[derive(Drop)]
 pub(crate) enum Column {
     Unused,
     Ints(Vec<i64>),
     Vertices(Vec<Ref>),
     Texts(Vec<Text>),
     Chains(Vec<Option<usize>>),
+}
+
+// One function drops a column. A derived drop would be a case for each kind wherever a column is dropped.
+impl Drop for Column {
+    fn drop(self) {
+        match self {
+            Column::Unused => {}
+            Column::Ints(_) => {}
+            Column::Vertices(_) => {}
+            Column::Texts(_) => {}
+            Column::Chains(_) => {}
+        }
+    }
 }
 
 impl Column {

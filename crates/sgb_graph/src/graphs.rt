@@ -25,13 +25,25 @@ use std::marker::Model;
 
 /// A graph (GB_GRAPH): vertices 0 to n-1, each with a list of arc records, which are numbered and all stand in
 /// one place. Contracts see it as the data of its definition.
-#[derive(Drop)]
 pub struct Graph {
     id: Id,
     m: u64,
     util: [Util; 6],
     vertices: Vertices,
     records: Records,
+}
+
+// One function drops a graph: a derived drop would be a case for each kind of column, wherever a graph is dropped.
+impl Drop for Graph {
+    fn drop(self) {
+        let Graph {
+            id: _,
+            m: _,
+            util: _,
+            vertices: _,
+            records: _,
+        } = self;
+    }
 }
 
 impl Model for Graph {

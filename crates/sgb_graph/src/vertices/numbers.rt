@@ -18,10 +18,19 @@ use crate::fields::{Kind, Util, UtilRef};
 use std::alloc::{AllocError, Global};
 
 // Where the values of a field x, y or z stand: in the vertices, which holds integers, or beside them.
-#[derive(Drop)]
 pub(super) enum Numbers {
     Inside,
     Beside(Column),
+}
+
+// One function drops them, as it does a column.
+impl Drop for Numbers {
+    fn drop(self) {
+        match self {
+            Numbers::Inside => {}
+            Numbers::Beside(_) => {}
+        }
+    }
 }
 
 impl Numbers {
