@@ -24,11 +24,21 @@ use std::marker::Model;
 /// Contracts see them as the data of a graph.
 // Vertices are kept as a graph keeps them up to the first that can stand in no graph of these kinds. That one and all
 // later ones stand beside, as they came: such parts make up no graph. So it is with records.
-#[derive(Drop)]
 pub struct Parts {
     kept: KeptParts,
     more_vertices: Vec<Vertex>,
     more_records: Vec<ArcRec>,
+}
+
+// One function drops them, as it does a graph.
+impl Drop for Parts {
+    fn drop(self) {
+        let Parts {
+            kept: _,
+            more_vertices: _,
+            more_records: _,
+        } = self;
+    }
 }
 
 impl Model for Parts {
@@ -135,6 +145,11 @@ impl Parts {
         if !self.kept.are_all(&self.more_vertices, &self.more_records) {
             return Err(Panic::Syntax);
         }
-        self.kept.check()
+        let Parts {
+            kept,
+            more_vertices: _,
+            more_records: _,
+        } = self;
+        kept.check()
     }
 }

@@ -26,7 +26,6 @@ use std::marker::Model;
 
 // Parts of a graph whose vertices and records are kept by the kinds of their fields. Contracts see them as the data of
 // a graph.
-#[derive(Drop)]
 pub(super) struct KeptParts {
     alloc: Global,
     id: Id,
@@ -35,6 +34,21 @@ pub(super) struct KeptParts {
     util: [Util; 6],
     vertices: Vertices,
     records: Records,
+}
+
+// One function drops them, as it does a graph.
+impl Drop for KeptParts {
+    fn drop(self) {
+        let KeptParts {
+            alloc: _,
+            id: _,
+            m: _,
+            kinds: _,
+            util: _,
+            vertices: _,
+            records: _,
+        } = self;
+    }
 }
 
 impl Model for KeptParts {
@@ -168,7 +182,16 @@ impl KeptParts {
         requires { IsGraph self }
         ensures { result ≡ self }
     {
-        Graph::from_parts(self.id, self.m, self.util, self.vertices, self.records)
+        let KeptParts {
+            alloc: _,
+            id,
+            m,
+            kinds: _,
+            util,
+            vertices,
+            records,
+        } = self;
+        Graph::from_parts(id, m, util, vertices, records)
     }
 
     // Whether there are not too many vertices, and all fields fit their kinds.
