@@ -25,10 +25,16 @@ use std::marker::Model;
 
 /// A graph with its lists of arcs as arrays: so they are walked once, and then copied to whoever asks for them. Contracts see
 /// the graph.
-#[derive(Drop)]
 pub struct PackedGraph {
     graph: Graph,
     lists: Lists,
+}
+
+// One function drops it, as it does a graph.
+impl Drop for PackedGraph {
+    fn drop(self) {
+        let PackedGraph { graph: _, lists: _ } = self;
+    }
 }
 
 // What is kept of the lists of a graph.
