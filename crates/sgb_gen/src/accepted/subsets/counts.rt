@@ -86,7 +86,7 @@ fn count_from(begun: Begun, bounds: &[u32], x: &[u32]) -> u64
 
 // How many of all vectors that begin so have a wanted size in common with `x`.
 #[cycle(counting)]
-pub(super) fn count_all(begun: Begun, bounds: &[u32], x: &[u32]) -> u64
+fn count_all(begun: Begun, bounds: &[u32], x: &[u32]) -> u64
     requires begun { IsBegun bounds.now x.now begun.room begun.shared begun.left begun.common }
     requires few { length (bounded_sums begun.left bounds.now) ≤ most_vertices }
     ensures { result ≡ wanted_among begun.size_bits begun.common x.now

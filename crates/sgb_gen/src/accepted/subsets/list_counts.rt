@@ -1,8 +1,8 @@
 //! How many arcs are on the list of one vector of the subsets, where these are edges, with no list made.
 //!
-//! Where the sum is small a table tells how many vectors have a wanted size in common with the vector, for what is left of the
-//! sum and for how many more elements may be in common. It begins with no bounds, and each of the bounds, from the last to the
-//! first, is taken in, in the same table. Else the vectors are counted by their beginnings.
+//! A table tells how many vectors have a wanted size in common with the vector, for what is left of the sum and for how many
+//! more elements may be in common. It begins with no bounds, and each of the bounds, from the last to the first, is taken in, in
+//! the same table.
 ghost use Rattle.std.specs.Prelude.{◌≡◌, ◌+◌, ◌-◌, ◌≤◌, ◌<◌, ◌%◌, ◌^◌, ◌∷◌, [], ℕ, List, length, slice_index, Contains, IfSome, if◌then◌else◌};
 ghost use Rattle.std.specs.Bool.{OnTrue};
 ghost use Rattle.std.specs.List.{slice_index_or};
@@ -10,7 +10,6 @@ ghost use Rattle.sgb_gen.specs.LocalLists.{list_at};
 ghost use Rattle.sgb_gen.specs.Subsets.{is_wanted_size, moves_of_subsets, subsets_vectors};
 ghost use Rattle.sgb_gen.specs.inner.SubsetsCounts.{HasNoneAbove, HasSums, HasSumRows, wanted_among};
 
-use super::counts::count_all;
 use super::sizes::WantedSizes;
 use super::{Subsets, is_wanted};
 use sgb_vec::Family;
@@ -19,15 +18,15 @@ use sgb_vec::Family;
 const SIDE: usize = 20;
 
 // A table is made where at most so many numbers are added for it.
-const MOST_ADDED: usize = 2_000;
+const MOST_ADDED: u64 = 1_500;
 
 type CountRow = [u32; SIDE];
 
 type CountTable = [CountRow; SIDE];
 
 impl Subsets {
-    /// How many arcs are on the list of the vertex of `x`, counted without it; `None` where the graph is directed. No memory is
-    /// taken.
+    /// How many arcs are on the list of the vertex of `x`, where a small table tells it: of edges alone, whose sum and whose
+    /// greatest wanted size are below 20. `None` elsewhere, where its list is soon made, or tells it as soon. No memory is taken.
     pub fn count_at(&self, x: &[u32]) -> Option<u64>
         requires { Contains (subsets_vectors self.now) x.now }
         ensures { IfSome result (λ m. m
@@ -37,7 +36,12 @@ impl Subsets {
         if self.directed {
             return None;
         }
-        Some(self.joined_count(x) + self.own_count())
+        let sizes = WantedSizes::of(self.size_bits);
+        if !self.has_small_table(&sizes) {
+            return None;
+        }
+        let joined = self.joined_count(x, sizes.last as usize);
+        Some(u64::from(joined) + self.own_count())
     }
 
     // How often the vertex of a vector is joined with itself, beyond once among those with which it is joined.
@@ -51,32 +55,23 @@ impl Subsets {
         0
     }
 
-    // With how many vectors `x` is joined.
-    fn joined_count(&self, x: &[u32]) -> u64
-        requires { Contains (subsets_vectors self.now) x.now }
-        ensures { result ≡ wanted_among self.now.size_bits 0 x.now (subsets_vectors self.now) }
-    {
-        let most = WantedSizes::of(self.size_bits).last;
-        if self.has_small_table(most) {
-            return u64::from(self.joined_by_table(x, most as usize));
-        }
-        count_all(self.begun(), self.sizes(), x)
-    }
-
-    // Whether a table is soon made, and has room for the sum and for so many elements in common.
-    fn has_small_table(&self, most: u64) -> bool
+    // Whether a table is soon made, and has room for the sum and the sizes. Where a vector may be joined with itself alone, the
+    // list is as soon made.
+    fn has_small_table(&self, sizes: &WantedSizes) -> bool
         ensures total { OnTrue result (self.now.sum.total < 20) }
-        ensures most { OnTrue result (most < 20) }
+        ensures most { OnTrue result (sizes.now.last < 20) }
     {
         let total = self.family.total();
         total < SIDE as u32
-            && most < SIDE as u64
-            && rows_added(total, self.sizes()).saturating_mul(most + 1) <= MOST_ADDED as u64
+            && sizes.last < SIDE as u64
+            && sizes.first < u64::from(total)
+            && rows_added(total, self.sizes()).saturating_mul(sizes.last + 1) <= MOST_ADDED
     }
 
-    // With how many vectors `x` is joined, by a table. It stands on the stack for this call alone.
+    // With how many vectors `x` is joined, where no size above `most` is wanted. The table stands on the stack for this call
+    // alone.
     #[inline(never)]
-    fn joined_by_table(&self, x: &[u32], most: usize) -> u32
+    fn joined_count(&self, x: &[u32], most: usize) -> u32
         requires member { Contains (subsets_vectors self.now) x.now }
         requires small { self.now.sum.total < 20 }
         requires most { most < 20 }

@@ -1,6 +1,6 @@
 use Rattle.std.proofs.Common.{drop}
 use Rattle.sgb_gen.specs.inner.SubsetsCounts.{HasSumRows}
-use Rattle.sgb_gen.proofs.accepted.subsets.Subsets.joined_by_table.Given as goal
+use Rattle.sgb_gen.proofs.accepted.subsets.Subsets.joined_count.Given as goal
 
 -- the table of the last bounds
 abbrev pub invariant-loop-k : goal.invariant-loop-k
