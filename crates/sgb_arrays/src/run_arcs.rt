@@ -121,6 +121,9 @@ fn arcs_from<'a, L: Listed<'a>>(listed: &mut L, x: &[u32], links: &mut Links) ->
     if let Some(runs) = listed.runs(x) {
         return Ok(arcs_of_runs(runs));
     }
+    if let Some(arcs) = listed.count_at(x) {
+        return Ok(u128::from(arcs));
+    }
     listed.arcs_at(x, links)?;
     Ok(links.len() as u128)
 }

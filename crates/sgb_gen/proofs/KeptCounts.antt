@@ -39,6 +39,16 @@ beyond_of_sum row counts after total n b has same within h =
     let i : ℕ = n - b - 1 in
     omega (arith, ap (λ xs. get_or xs n 0) same, ap (λ xs. get_or xs i 0) same, has.at n (omega (arith, has.long)), has.at i (omega (arith, has.long)), count_of_sum-beyond n b i after (omega arith))
 
+-- in a row counts rise
+pub counts-rise : (total n i : ℕ) (row bounds : List ℕ) → HasCounts total row bounds → n ≤ total → i ≤ n → get_or row i 0 ≤ get_or row n 0
+counts-rise total n i row bounds has small before =
+    elim (cases_lt i n) [
+      | inl less ↦ omega (arith, has.at n small, has.at i (omega (arith, small, before)), count_of_sum-beyond n (n - i - 1) i bounds (omega (arith, less)))
+      | inr last ↦
+          let same : i ≡ n = omega (arith, last, before) in
+          omega (arith, ap (λ k. get_or row k 0) same)
+    ]
+
 -- the row of no bounds: one vector, which adds to 0
 pub HasCounts-none : (total : ℕ) (row : List ℕ) → row ≡ replicate (total + 1) 1 → length row ≡ total + 1 → HasCounts total row []
 HasCounts-none total row e long = record {

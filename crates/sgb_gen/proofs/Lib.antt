@@ -171,5 +171,7 @@ pub mod SubsetsCounts
 pub mod SubsetsPairs
 -- the moves of subsets as pairs of vectors
 pub mod SubsetsMovePairs
+-- the arcs on the list of one vector of subsets counted
+pub mod SubsetsListCounts
 -- the place of a vector of a sum, by counts that are kept
 pub mod KeptCounts

@@ -28,7 +28,7 @@ abbrev pairs_alike : ℕ → List (List ℕ) → ℕ
 pairs_alike sb [] = 0
 pairs_alike sb (v ∷ vs) = wanted_among sb 0 v (v ∷ []) + pairs_alike sb vs
 
-one_if : (b : Bool) (v : List ℕ) → length (cond b (v ∷ []) []) ≡ cond b 1 0
+pub one_if : (b : Bool) (v : List ℕ) → length (cond b (v ∷ []) []) ≡ cond b 1 0
 one_if b v = grind (arith)
 
 one_each : (b : Bool) (u v : List ℕ) → length (cond b (u ∷ []) []) ≡ length (cond b (v ∷ []) [])

@@ -93,7 +93,7 @@ impl<'a> CountedPlaces<'a> {
         for k in 0..x.len() {
             let rest = left.saturating_sub(x[k]);
             let before = row_at(&self.rows, x.len() - 1 - k).leaving_more(left, rest);
-            place = place.saturating_add(before);
+            place = place.wrapping_add(before);
             left = rest;
         }
         place
@@ -176,14 +176,16 @@ impl CountRow {
         counts[sum].saturating_sub(counts[sum - bound as usize - 1])
     }
 
-    // How many vectors that add to a sum have an entry before those within the bounds that leaves more than this.
+    // How many vectors that add to a sum have an entry before those within the bounds that leaves more than this. Counts rise,
+    // so nothing wraps.
     #[inline(always)]
     fn leaving_more(&self, sum: u32, rest: u32) -> u32
         requires sum { sum < length self.now }
         requires rest { rest ≤ sum }
-        ensures { result ≡ slice_index self.now sum - slice_index self.now rest }
+        ensures { slice_index self.now rest ≤ slice_index self.now sum
+            → result ≡ slice_index self.now sum - slice_index self.now rest }
     {
         let counts = self.counts.as_slice();
-        counts[sum as usize].saturating_sub(counts[rest as usize])
+        counts[sum as usize].wrapping_sub(counts[rest as usize])
     }
 }

@@ -98,6 +98,12 @@ pub trait Listed<'a> {
         ensures same { graph self.new ≡ graph self.old }
         ensures sort { sort self.new ≡ sort self.old };
 
+    /// How many arcs are on the list of the vertex of `x`, where they are told without it, of undirected subsets alone. No memory
+    /// is taken.
+    fn count_at(&self, x: &[u32]) -> Option<u64>
+        requires { Contains (graph self.now).vectors x.now }
+        ensures { IfSome result (λ m. m ≡ length (list_in (graph self.now) x.now)) };
+
     /// The list of the vertex of `x` run by run, where it can be had so, of a board alone: no list is then made. No memory is
     /// taken.
     fn runs<'b>(&'b self, x: &'b [u32]) -> Option<Runs<'b>>
@@ -170,6 +176,10 @@ impl<'a> Listed<'a> for BoardLists<'a> {
         Ok(links.give(sink, room, out))
     }
 
+    fn count_at(&self, _x: &[u32]) -> Option<u64> {
+        None
+    }
+
     fn runs<'b>(&'b self, x: &'b [u32]) -> Option<Runs<'b>> {
         BoardLists::runs(self, x)
     }
@@ -223,6 +233,10 @@ impl<'a> Listed<'a> for &'a Simplex {
         Ok((**self).push_all(x, sink, room, out))
     }
 
+    fn count_at(&self, _x: &[u32]) -> Option<u64> {
+        None
+    }
+
     fn runs<'b>(&'b self, _x: &'b [u32]) -> Option<Runs<'b>> {
         None
     }
@@ -274,6 +288,10 @@ impl<'a> Listed<'a> for &'a Subsets {
         out: &mut S,
     ) -> Result<Result<(), K::Fault>, Panic> {
         Ok((**self).push_all(x, sink, room, out))
+    }
+
+    fn count_at(&self, x: &[u32]) -> Option<u64> {
+        (**self).count_at(x)
     }
 
     fn runs<'b>(&'b self, _x: &'b [u32]) -> Option<Runs<'b>> {

@@ -14,6 +14,7 @@ ghost use Rattle.std.specs.Simd.Lanes.{sum_l, zip2};
 mod counts;
 mod descents;
 mod last_entries;
+mod list_counts;
 mod lists;
 mod pairs;
 mod sizes;

@@ -4,7 +4,7 @@ use Rattle.sgb_vec.specs.Sums.{bounded_sums}
 use Rattle.sgb_vec.proofs.SumMembers.{IsWithin-length, bounded_sums-rise}
 use Rattle.sgb_vec.proofs.SumPlaces.{IsPlaceSoFar, place-all, place-below, place-none}
 use Rattle.sgb_gen.specs.VectorGraphs.{vertex_among}
-use Rattle.sgb_gen.proofs.KeptCounts.{member_is_within, place-step, row_after, row-long}
+use Rattle.sgb_gen.proofs.KeptCounts.{counts-rise, member_is_within, place-step, row_after, row-long}
 use Rattle.sgb_gen.proofs.RisingVectors.{vertex_in_rising}
 use Rattle.sgb_gen.proofs.counted_places.CountedPlaces.place_if_there.Goals as goal
 
@@ -39,9 +39,9 @@ loop-k-preserved c =
           let long = IsWithin-length sum.bounds x means.0 in
           let at = get_or_from_slice_get c.self.inside.rows.items (length x - 1 - k) _ [] c.row_at.ensures in
           let has = row_after sum.total k c.self.inside.rows.items c.row_at.result.now sum.bounds x c.self.invariant.1 c.self.invariant.0 long (omega arith) at in
-          let next = place-step sum.total sum.bounds x c.row_at.result.now k c.loop-k.left rest c.loop-k.place c.leaving_more-before.result entry (omega arith) means.0 refl c.saturating_sub-rest.ensures has c.leaving_more-before.ensures (c.loop-k.invariant.place member) in
+          let next = place-step sum.total sum.bounds x c.row_at.result.now k c.loop-k.left rest c.loop-k.place c.leaving_more-before.result entry (omega arith) means.0 refl c.saturating_sub-rest.ensures has (c.leaving_more-before.ensures (counts-rise sum.total c.loop-k.left rest c.row_at.result.now _ has c.loop-k.invariant.small (omega (arith, c.saturating_sub-rest.ensures)))) (c.loop-k.invariant.place member) in
           let few : c.loop-k.place + c.leaving_more-before.result < 2 ^ 32 = omega (arith, place-below _ _ _ _ _ _ means.0 next, c.self.invariant.2) in
-          subst (λ p. IsPlaceSoFar sum.total sum.bounds x (k + 1) rest p) (omega (arith, few, c.saturating_add-place.ensures)) next;
+          subst (λ p. IsPlaceSoFar sum.total sum.bounds x (k + 1) rest p) (omega (arith, few)) next;
     }
 
 pub returns : goal.returns
