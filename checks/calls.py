@@ -31,7 +31,6 @@ CALLS = [
     "name_of",
     "Names::with_capacity",
     "Names::push",
-    "Graph::new",
     "Graph::new_arc",
     "Graph::new_edge",
     "Graph::reserve",

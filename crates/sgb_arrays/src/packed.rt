@@ -4,8 +4,8 @@
 //! opening longer by what it spares the first fetch, and who fetches twice walks once. In a file vertices may share
 //! records, so that a few stand on lists with any number of arcs. Then the arrays are not kept, so that a small file
 //! cannot take much memory, but how long each list is: only who asks for arrays walks the lists.
-ghost use Rattle.std.specs.Prelude.{◌≡◌, ◌++◌, ◌<◌, length, map, OnOk, IfErr, IfOk, IfSome, IsOkUnless};
-ghost use Rattle.std.specs.Bool.{OnTrue};
+ghost use Rattle.std.specs.Prelude.{◌≡◌, ◌++◌, ◌<◌, length, map, vec_capacity, vec_len, OnOk, IfErr, IfOk, IfSome, IsOkUnless};
+ghost use Rattle.std.specs.Bool.{OnFalse, OnTrue};
 ghost use Rattle.sgb_graph.specs.Graphs.{chain_of};
 ghost use Rattle.sgb_arrays.specs.Runs.{AreRows, AreTips, HaveRowLengths, HaveTipLengths, IsFillRefusal, IsThere, parts_of};
 ghost use Rattle.sgb_arrays.specs.inner.Packed.{HoldsLists};
@@ -293,7 +293,7 @@ pub(crate) fn packed_rows(alloc: Global, graph: &Graph) -> Result<Option<Rows>, 
     let mut rows = Rows::new(alloc, graph.n() as usize, graph.records_len())?;
     for v in 0..graph.n() {
         graph.read_ahead(v);
-        if !rows.push_list(graph, v)? {
+        if !rows.push_list(graph, v) {
             return Ok(None);
         }
         rows.push_start()?;
@@ -302,24 +302,31 @@ pub(crate) fn packed_rows(alloc: Global, graph: &Graph) -> Result<Option<Rows>, 
 }
 
 impl Rows {
-    // Puts the list of vertex v behind the others. `false` where more arcs are on them than there are records.
-    fn push_list(&mut self, graph: &Graph, v: u32) -> Result<bool, Panic>
+    // Puts the list of vertex v behind the others. `false` where there is no room for all of it.
+    fn push_list(&mut self, graph: &Graph, v: u32) -> bool
         requires { v < length graph.now.vertices }
-        ensures starts { OnOk result (self.new.starts.items ≡ self.old.starts.items) }
-        ensures tips { IfOk result (λ whole. OnTrue whole (self.new.tips.items
-            ≡ self.old.tips.items ++ map (λ l. l.tip) (chain_of graph.now v))) }
-        ensures lengths { IfOk result (λ whole. OnTrue whole (self.new.lengths.items
-            ≡ self.old.lengths.items ++ map (λ l. l.len) (chain_of graph.now v))) }
-        ensures memory { IsOkUnless result Panic.NoRoom }
+        ensures starts { self.new.starts.items ≡ self.old.starts.items }
+        ensures tips { OnTrue result (self.new.tips.items
+            ≡ self.old.tips.items ++ map (λ l. l.tip) (chain_of graph.now v)) }
+        ensures lengths { OnTrue result (self.new.lengths.items
+            ≡ self.old.lengths.items ++ map (λ l. l.len) (chain_of graph.now v)) }
     {
-        let most = graph.records_len();
         for link in graph.arcs(v) {
-            if self.tips.len() >= most {
-                return Ok(false);
+            if self.is_full() {
+                return false;
             }
-            self.tips.push(link.tip)?;
-            self.lengths.push(link.len)?;
+            self.tips.push_reserved(link.tip);
+            self.lengths.push_reserved(link.len);
         }
-        Ok(true)
+        true
+    }
+
+    // Whether there is no room for an arc more.
+    fn is_full(&self) -> bool
+        ensures tips { OnFalse result (vec_len self.now.tips < vec_capacity self.now.tips) }
+        ensures lengths { OnFalse result
+            (vec_len self.now.lengths < vec_capacity self.now.lengths) }
+    {
+        self.tips.len() >= self.tips.capacity() || self.lengths.len() >= self.lengths.capacity()
     }
 }

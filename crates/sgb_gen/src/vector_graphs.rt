@@ -36,7 +36,7 @@ fn vector_name(alloc: Global, vector: &[u32], text: &mut NameText) -> Result<Tex
     ensures memory { IsOkUnless result Panic.NoRoom }
 {
     put_name(vector, text);
-    Text::new(alloc, text.bytes())
+    Text::of_bytes(alloc, text.bytes())
 }
 
 /// Puts the first three entries of each vector into the utility fields x, y, z of its vertex, and 0 for those

@@ -74,12 +74,11 @@ impl Graph {
             return Err(Panic::VeryBad);
         }
         let id = new_id(names.len());
-        let vertices = Vertices::named(alloc, names)?;
         Ok(Graph {
             id,
             m: 0,
             util: no_fields(),
-            vertices,
+            vertices: Vertices::named(alloc, names),
             records: Records::new(alloc, Kind::Z, Kind::Z),
         })
     }

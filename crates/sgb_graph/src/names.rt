@@ -1,9 +1,11 @@
 //! The names of a graph's vertices.
 //!
-//! Where their number is known before they are made, as that of a line graph, their room is taken at once: a vector
-//! that grows moves, and leaves holes behind.
-ghost use Rattle.std.specs.Prelude.{◌≡◌, [], ◌∷◌, ◌++◌, length, OnOk, OnErr, IfErr, IfOk, IsOkUnless};
+//! Each stands where its vertex will: the graph takes them over, and none is moved. Where their number is known before
+//! they are made, as that of a line graph, their room is taken at once: a vector that grows moves, and leaves holes behind.
+ghost use Rattle.std.specs.Prelude.{◌≡◌, [], ◌∷◌, ◌++◌, length, map, OnOk, OnErr, IfErr, IfOk, IsOkUnless};
+ghost use Rattle.sgb_graph.specs.inner.KeptVertices.{bare_named, bare_vertex};
 
+use crate::vertices::PlainVertex;
 use sgb_vec::{Panic, Text};
 use std::alloc::Global;
 use std::marker::Model;
@@ -11,15 +13,20 @@ use std::marker::Model;
 /// The names of a graph's vertices, in their order. Contracts see them as a list of texts.
 #[derive(Drop)]
 pub struct Names {
-    texts: Vec<Text>,
+    // vertices of these names, which have no arcs
+    vertices: Vec<PlainVertex>,
 }
 
 impl Model for Names {
-    ghost use Rattle.std.specs.Prelude.{List, ℕ};
+    ghost use Rattle.std.specs.Prelude.{◌≡◌, List, ℕ, map};
+    ghost use Rattle.sgb_graph.specs.inner.KeptVertices.{bare_named, bare_vertex};
 
     ghost Value = { List (List ℕ) };
 
-    ghost view = { λ names. names.texts.items };
+    ghost view = { λ names. map (λ v. v.name) names.vertices.items };
+
+    ghost invariant = { λ names. map bare_vertex names.vertices.items
+        ≡ map bare_named (map (λ v. v.name) names.vertices.items) };
 }
 
 impl Names {
@@ -28,7 +35,7 @@ impl Names {
         ensures { result ≡ [] }
     {
         Names {
-            texts: Vec::new(alloc),
+            vertices: Vec::new(alloc),
         }
     }
 
@@ -39,8 +46,8 @@ impl Names {
         ensures ok { IfOk result (λ names. names ≡ []) }
         ensures memory { IsOkUnless result Panic.NoRoom }
     {
-        let texts = Vec::with_capacity(alloc, count)?;
-        Ok(Names { texts })
+        let vertices = Vec::with_capacity(alloc, count)?;
+        Ok(Names { vertices })
     }
 
     /// Appends a name.
@@ -51,9 +58,9 @@ impl Names {
         ensures err { OnErr result (self.new ≡ self.old) }
         ensures returned { IfErr result (λ text. text ≡ name) }
     {
-        match self.texts.push(name) {
+        match self.vertices.push(PlainVertex::new(name, None, [0; 3])) {
             Ok(()) => Ok(()),
-            Err(refused) => Err(refused.value),
+            Err(refused) => Err(refused.value.name),
         }
     }
 
@@ -61,14 +68,14 @@ impl Names {
     pub fn len(&self) -> usize
         ensures { result ≡ length self.now }
     {
-        self.texts.len()
+        self.vertices.len()
     }
 
-    // The names one by one.
-    pub(crate) fn into_texts(self) -> Vec<Text>
-        ensures { result.items ≡ self }
+    // The vertices of these names, which have no arcs.
+    pub(crate) fn into_vertices(self) -> Vec<PlainVertex>
+        ensures { map bare_vertex result.items ≡ map bare_named self }
     {
-        let Names { texts } = self;
-        texts
+        let Names { vertices } = self;
+        vertices
     }
 }

@@ -1,6 +1,6 @@
 //! The vertices of a graph, in little memory: integers in the utility fields x, y, z stand in the vertex itself, all
 //! other utility fields beside.
-ghost use Rattle.std.specs.Prelude.{◌≡◌, ◌<◌, ◌+◌, ◌^◌, ◌++◌, ◌&&◌, [], ◌∷◌, length, map, slice_get, Some, IfOk, IfSome, OnErr, OnOk};
+ghost use Rattle.std.specs.Prelude.{◌≡◌, ◌<◌, ◌+◌, ◌^◌, ◌++◌, ◌&&◌, [], ◌∷◌, length, map, slice_get, Some, IfSome, OnErr, OnOk};
 ghost use Rattle.std.specs.Bool.{OnTrue};
 ghost use Rattle.std.specs.List.{list_all};
 ghost use Rattle.sgb_graph.specs.Columns.{vertex_seen};
@@ -10,7 +10,7 @@ ghost use Rattle.sgb_graph.specs.inner.Fitting.{vertex_fits_by};
 ghost use Rattle.sgb_graph.specs.Growth.{at_place, first_arc, new_vertex, with_first, with_numbers, with_some_numbers};
 ghost use Rattle.sgb_graph.specs.Parts.{vertex_with_ints};
 ghost use Rattle.sgb_graph.specs.inner.KeptRecords.{kept_number};
-ghost use Rattle.sgb_graph.specs.inner.KeptVertices.{AreKept, bare_named, bare_vertex, columns_fit, field_columns, field_kinds, ints_alone, kinds_of_vertices};
+ghost use Rattle.sgb_graph.specs.inner.KeptVertices.{AreKept, columns_fit, field_columns, field_kinds, ints_alone, kinds_of_vertices};
 ghost use Rattle.sgb_graph.specs.declared.fields.Kind.TheVariants.{Z, I};
 
 // The utility fields of all vertices.
@@ -26,7 +26,7 @@ use crate::names::Names;
 use crate::ranges::chain_fits;
 use crate::room::put;
 use fields::{Fields, use_numbers};
-use plain::PlainVertex;
+pub(crate) use plain::PlainVertex;
 use sgb_vec::Text;
 use std::alloc::{AllocError, Global};
 use std::marker::Model;
@@ -49,16 +49,15 @@ impl Model for Vertices {
 }
 
 impl Vertices {
-    // The vertices of these names, with no arcs and no utility fields.
-    pub(crate) fn named(alloc: Global, names: Names) -> Result<Vertices, AllocError>
-        ensures { IfOk result (λ vertices. vertices
-            ≡ record { u = Z; v = Z; w = Z; x = Z; y = Z; z = Z; items = map new_vertex names }) }
+    // The vertices of these names, with no arcs and no utility fields. It takes no memory.
+    pub(crate) fn named(alloc: Global, names: Names) -> Vertices
+        ensures { result
+            ≡ record { u = Z; v = Z; w = Z; x = Z; y = Z; z = Z; items = map new_vertex names } }
     {
-        let plain = new_vertices(alloc, names)?;
-        Ok(Vertices {
-            plain,
+        Vertices {
+            plain: names.into_vertices(),
             fields: Fields::new(alloc, [Kind::Z; 6]),
-        })
+        }
     }
 
     // No vertices, whose utility fields u, v, w, x, y, z are of these kinds. It takes no memory.
@@ -214,15 +213,4 @@ fn firsts_fit(plain: &[PlainVertex], m: usize) -> bool
     ensures { result ≡ list_all (λ p. chain_fits m (kept_number p.arcs)) plain.now }
 {
     plain.iter().all(|vertex| vertex.fits(m))
-}
-
-// The vertices of these names, with no arcs.
-fn new_vertices(alloc: Global, names: Names) -> Result<Vec<PlainVertex>, AllocError>
-    ensures { IfOk result (λ plain. map bare_vertex plain.items ≡ map bare_named names) }
-{
-    let mut plain = Vec::with_capacity(alloc, names.len())?;
-    for name in names.into_texts() {
-        plain.push(PlainVertex::new(name, None, [0; 3]))?;
-    }
-    Ok(plain)
 }

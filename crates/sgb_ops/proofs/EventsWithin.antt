@@ -21,6 +21,10 @@ use Rattle.sgb_ops.proofs.Taking.{all_once}
 abbrev pub TipBelow : ℕ → Link → Type 0
 TipBelow n l = l.tip < n
 
+-- and below all that is not less
+pub tips_below_more : (n m : ℕ) (links : List Link) → n ≤ m → All (TipBelow n) links → All (TipBelow m) links
+tips_below_more n m links most all = λ k d within. omega (arith, all k d within, most)
+
 -- merged events keep their ends
 pub merged_unless_within : (n : ℕ) (multi directed : Bool) (events : List Event) → AllWithin n events → AllWithin n (merged_unless multi directed events)
 merged_unless_within n true directed events all = all

@@ -1,5 +1,5 @@
 -- The earlier lines at each vertex: the edges to them are those of the line graph. And the lines come from the last vertex down.
-use Rattle.std.proofs.Common.{rules, ◌≡◌, ◌<◌, ◌≤◌, ◌+◌, ◌==◌, ℕ, zero, suc, Bool, true, false, not, ◌&&◌, cond, List, [], ◌∷◌, ◌++◌, map, take, reverse, length, Vec, Global, append-nil, refl, sym, ap, subst, ◌∙◌, inl, inr, arith}
+use Rattle.std.proofs.Common.{rules, ◌≡◌, ◌<◌, ◌≤◌, ◌+◌, ◌==◌, ℕ, zero, suc, Bool, true, false, not, ◌&&◌, cond, List, [], ◌∷◌, ◌++◌, map, take, reverse, length, append-nil, refl, sym, ap, subst, ◌∙◌, inl, inr, arith}
 use Rattle.std.specs.Prelude.{All, filter, if◌then◌else◌, slice_index_or, slice_set}
 use Rattle.std.specs.List.{enumerate_from, range_with_len}
 use Rattle.std.proofs.lemmas.Bool.{cases_Bool, cases_eq, eq-eqb, ne_eqb}
@@ -8,6 +8,7 @@ use Rattle.std.proofs.lemmas.List.Elements.{All-nil, All-cons, All-head, All-tai
 use Rattle.std.proofs.lemmas.List.FromFn.{length-enumerate_from, get_or-enumerate_from}
 use Rattle.std.proofs.Math.Bool.{and-false}
 use Rattle.sgb_vec.proofs.Lists.{All-flat_map, filter-all, filter-none, made-append}
+use Rattle.smallvec.specs.SmallVec.{SmallVec}
 use Rattle.sgb_graph.specs.Graphs.{GraphData, chain_of}
 use Rattle.sgb_graph.specs.declared.fields.Link.{Link}
 use Rattle.sgb_ops.specs.Lines.{lines_of_graph}
@@ -144,11 +145,11 @@ numbers_within w i lines within =
     search (rules, All-map, All-filter, below)
 
 -- what stands in one of the lists
-pub listed : (lists : List (Vec ℕ Global)) (w : ℕ) (at : Vec ℕ Global) (numbers : List ℕ) → w < length lists → at ≡ slice_index_or lists w at → list_at lists w ≡ numbers → at.items ≡ numbers
+pub listed : (lists : List (SmallVec ℕ)) (w : ℕ) (at : SmallVec ℕ) (numbers : List ℕ) → w < length lists → at ≡ slice_index_or lists w at → list_at lists w ≡ numbers → at.items ≡ numbers
 listed lists w at numbers within value is = search (rules, get_or-map)
 
 -- a line more on one of the lists
-pub one_listed : (lists : List (Vec ℕ Global)) (w : ℕ) (was new : Vec ℕ Global) (entry : ℕ) (u : ℕ) → w < length lists
+pub one_listed : (lists : List (SmallVec ℕ)) (w : ℕ) (was new : SmallVec ℕ) (entry : ℕ) (u : ℕ) → w < length lists
     → was ≡ slice_index_or lists w was → new.items ≡ was.items ++ entry ∷ []
     → list_at (slice_set lists w new) u ≡ list_at lists u ++ (if w == u then entry ∷ [] else [])
 one_listed lists w was new entry u within value grown = search (rules, length-map, get_or-map, map-set, cases_eq, get_or-set_same, eq-eqb, ne_eqb, get_or-set_other, append-nil)

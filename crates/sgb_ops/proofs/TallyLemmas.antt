@@ -1,8 +1,8 @@
 -- What is noted of arcs.
-use Rattle.std.proofs.Common.{rules, ◌≡◌, ◌<◌, ◌≤◌, ◌+◌, ◌==◌, ℕ, pos, Bool, true, false, cond, List, [], ◌∷◌, ◌++◌, length, Option, Some, refl, sym, ap, ◌∙◌, append-nil, arith}
+use Rattle.std.proofs.Common.{◌≡◌, ◌<◌, ◌≤◌, ◌+◌, ◌==◌, ℕ, pos, Bool, true, false, cond, List, [], ◌∷◌, ◌++◌, length, Some, refl, sym, ap, ◌∙◌, append-nil, arith}
 use Rattle.std.specs.Prelude.{All, filter, if◌then◌else◌}
 use Rattle.std.specs.Option.{option_map_or}
-use Rattle.std.proofs.lemmas.Bool.{cases_eq, eq-eqb, ne_eqb, eqb-true}
+use Rattle.std.proofs.lemmas.Bool.{eq-eqb, eqb-true}
 use Rattle.std.proofs.lemmas.List.{map_push, length-append}
 use Rattle.std.proofs.lemmas.List.Elements.{All-filter, filter-append, filter_passes}
 use Rattle.std.proofs.lemmas.List.Sums.{fold-append, length-filter, count_by-le-length}
@@ -33,11 +33,6 @@ arcs_to_more u links l b is =
 tally_more : (u : ℕ) (links : List Link) (l : Link) (b : Bool) → (l.tip == u) ≡ b → tally_to u (links ++ l ∷ []) ≡ (if b then Some (one_more l.len (tally_to u links)) else tally_to u links)
 tally_more u links l true is = ap tally_of (arcs_to_more u links l true is) ∙ tally_of_more (arcs_to u links) l
 tally_more u links l false is = ap tally_of (arcs_to_more u links l false is ∙ append-nil (arcs_to u links))
-
--- what stands in a map with one arc more
-pub noted_more : (u : ℕ) (links : List Link) (l : Link) (old now : Option Tally) → old ≡ tally_to l.tip links → now ≡ tally_to u links
-    → cond (l.tip == u) (Some (one_more l.len old)) now ≡ tally_to u (links ++ l ∷ [])
-noted_more u links l old now was is = search (rules, cases_eq, eq-eqb, tally_more, ne_eqb)
 
 -- how many arcs to u there are
 counted : (u : ℕ) (links : List Link) → count_to u links ≡ length (arcs_to u links)

@@ -73,6 +73,22 @@ pub(crate) fn ended_name(alloc: Global, name: &Text, most: usize, end: &[u8]) ->
     Text::of_parts(alloc, b"", front(name.bytes(), most), end)
 }
 
+/// `start`, and the first `most` bytes of the name after it.
+///
+/// `NoRoom` when out of memory, and nothing else.
+pub(crate) fn begun_name(
+    alloc: Global,
+    start: &Text,
+    name: &Text,
+    most: usize,
+) -> Result<Text, Panic>
+    requires { length start.now + most ≤ most_bytes }
+    ensures ok { IfOk result (λ text. text ≡ start.now ++ take most name.now) }
+    ensures memory { IsOkUnless result Panic.NoRoom }
+{
+    Text::of_parts(alloc, b"", start.bytes(), front(name.bytes(), most))
+}
+
 // At most the first `most` bytes.
 fn front(bytes: &[u8], most: usize) -> &[u8]
     ensures { result.now ≡ take most bytes.now }

@@ -1,19 +1,18 @@
 //! The intersection of two graphs on the vertices of the first (GB_BASIC, intersection).
-ghost use Rattle.std.specs.Prelude.{◌≡◌, ◌<◌, ◌++◌, ℕ, length, nat_eq, OnOk, IfOk, IsOkUnless, if◌then◌else◌, ◌==◌};
-ghost use Rattle.indexmap.specs.IndexMap.{get};
+ghost use Rattle.std.specs.Prelude.{◌≡◌, ◌<◌, ◌++◌, ℕ, All, None, length, OnOk, IfOk, IsOkUnless, if◌then◌else◌, ◌==◌};
 ghost use Rattle.sgb_graph.specs.Descriptions.{IsAnswerOf};
 ghost use Rattle.sgb_ops.specs.inner.Ends.{AllWithin};
 ghost use Rattle.sgb_ops.specs.Intersection.{common_events, intersection_events, intersection_of};
 ghost use Rattle.sgb_ops.specs.Taken.{taken};
-ghost use Rattle.sgb_ops.specs.inner.Tallies.{event_left, one_less, second_length, tally_left, without_one};
+ghost use Rattle.sgb_ops.specs.inner.Tallies.{event_left, one_less, second_length, tally_at, tally_left, without_one};
+ghost use Rattle.sgb_ops.specs.inner.Intersection.{HasNoTallies};
 ghost use Rattle.sgb_ops.specs.inner.Compounds.{intersection_id};
 
 use crate::compounds::flag_byte;
 use crate::events::{Event, graph_of};
 use crate::operands::names_of;
 use crate::taken::taken;
-use crate::tallies::{Tally, count_to, tallies, tally_to};
-use indexmap::IndexMap;
+use crate::tallies::{Tally, count_to, make_room, note, take_out, tally_to};
 use sgb_graph::{Graph, Id, Link, double_compound_id};
 use sgb_vec::Panic;
 use std::alloc::Global;
@@ -68,12 +67,13 @@ fn common_arcs(
     // The arcs of each vertex take the memory of those of the vertex before.
     let mut ours = Vec::new(alloc);
     let mut theirs = Vec::new(alloc);
+    let mut tables = Tables::new(alloc, first.n().max(second.n()));
     for v in 0..first.n().min(second.n()) {
         first.read_ahead(v);
         second.read_ahead(v);
         take_arcs(&mut ours, first, directed, v)?;
         take_arcs(&mut theirs, second, directed, v)?;
-        push_common(&mut events, alloc, multi, v, &ours, &theirs)?;
+        push_common(&mut events, &mut tables, multi, v, &ours, &theirs)?;
     }
     Ok(events)
 }
@@ -82,6 +82,7 @@ fn common_arcs(
 fn take_arcs(arcs: &mut Vec<Link>, graph: &Graph, directed: bool, v: u32) -> Result<(), Panic>
     requires { v < length graph.now.vertices }
     ensures ok { OnOk result (arcs.new.items ≡ taken directed graph.now v) }
+    ensures tips { OnOk result (All (λ l. l.tip < length graph.now.vertices) arcs.new.items) }
     ensures memory { IsOkUnless result Panic.NoRoom }
 {
     arcs.clear();
@@ -91,23 +92,51 @@ fn take_arcs(arcs: &mut Vec<Link>, graph: &Graph, directed: bool, v: u32) -> Res
     Ok(())
 }
 
+// For each vertex what is left of the arcs of the first graph to it, and what the second one has: nothing but while the
+// events of a vertex are found. They take memory for the first vertex with many arcs.
+#[derive(Drop)]
+struct Tables {
+    vertices: usize,
+    left: Vec<Option<Tally>>,
+    second: Vec<Option<Tally>>,
+}
+
+impl Tables {
+    // Tables of so many vertices. They take no memory yet.
+    fn new(alloc: Global, vertices: u32) -> Tables
+        ensures vertices { result.vertices ≡ vertices }
+        ensures none { HasNoTallies result }
+    {
+        Tables {
+            vertices: vertices as usize,
+            left: Vec::new(alloc),
+            second: Vec::new(alloc),
+        }
+    }
+}
+
 // Appends the events of vertex `v`, where these arcs were taken of it in the two graphs.
 fn push_common(
     events: &mut Vec<Event>,
-    alloc: Global,
+    tables: &mut Tables,
     multi: bool,
     v: u32,
     ours: &[Link],
     theirs: &[Link],
 ) -> Result<(), Panic>
+    requires ours { All (λ l. l.tip < tables.old.vertices) ours.now }
+    requires theirs { All (λ l. l.tip < tables.old.vertices) theirs.now }
+    requires none { HasNoTallies tables.old }
     ensures ok { OnOk result (events.new.items ≡ events.old.items
         ++ common_events multi v ours.now theirs.now) }
+    ensures tables { OnOk result (tables.new.vertices ≡ tables.old.vertices) }
+    ensures none { OnOk result (HasNoTallies tables.new) }
     ensures memory { IsOkUnless result Panic.NoRoom }
 {
     if ours.len() <= MOST_SEARCHED && theirs.len() <= MOST_SEARCHED {
         return push_common_of_few(events, multi, v, ours, theirs);
     }
-    push_common_of_many(events, alloc, multi, v, ours, theirs)
+    push_common_of_many(events, tables, multi, v, ours, theirs)
 }
 
 // Appends these events of few arcs: those to the same tip are searched for, arc by arc.
@@ -135,22 +164,63 @@ fn push_common_of_few(
 // Appends these events of any arcs, by a table of tips for each graph.
 fn push_common_of_many(
     events: &mut Vec<Event>,
-    alloc: Global,
+    tables: &mut Tables,
     multi: bool,
     v: u32,
     ours: &[Link],
     theirs: &[Link],
 ) -> Result<(), Panic>
+    requires ours { All (λ l. l.tip < tables.old.vertices) ours.now }
+    requires theirs { All (λ l. l.tip < tables.old.vertices) theirs.now }
+    requires none { HasNoTallies tables.old }
     ensures ok { OnOk result (events.new.items ≡ events.old.items
         ++ common_events multi v ours.now theirs.now) }
+    ensures tables { OnOk result (tables.new.vertices ≡ tables.old.vertices) }
+    ensures none { OnOk result (HasNoTallies tables.new) }
     ensures memory { IsOkUnless result Panic.NoRoom }
 {
-    let mut left = tallies(alloc, ours)?;
-    let shortest = tallies(alloc, theirs)?;
+    make_room(&mut tables.left, tables.vertices)?;
+    make_room(&mut tables.second, tables.vertices)?;
+    push_common_by(
+        events,
+        &mut tables.left,
+        &mut tables.second,
+        multi,
+        v,
+        ours,
+        theirs,
+    )
+}
+
+// Appends them by two tables, which have no tallies before and after.
+fn push_common_by(
+    events: &mut Vec<Event>,
+    left: &mut [Option<Tally>],
+    second: &mut [Option<Tally>],
+    multi: bool,
+    v: u32,
+    ours: &[Link],
+    theirs: &[Link],
+) -> Result<(), Panic>
+    requires ours { All (λ l. l.tip < length left.old) ours.now }
+    requires theirs { All (λ l. l.tip < length left.old) theirs.now }
+    requires same { All (λ l. l.tip < length second.old) theirs.now }
+    requires left { (u : ℕ) → tally_at left.old u ≡ None }
+    requires second { (u : ℕ) → tally_at second.old u ≡ None }
+    ensures ok { OnOk result (events.new.items ≡ events.old.items
+        ++ common_events multi v ours.now theirs.now) }
+    ensures left { OnOk result ((u : ℕ) → tally_at left.new u ≡ None) }
+    ensures second { OnOk result ((u : ℕ) → tally_at second.new u ≡ None) }
+    ensures memory { IsOkUnless result Panic.NoRoom }
+{
+    note(left, ours);
+    note(second, theirs);
     for arc in theirs {
-        let len = second_length(multi, *arc, shortest.get(&arc.tip).copied());
-        push_if_left(events, &mut left, multi, v, *arc, len)?;
+        let len = second_length(multi, *arc, second[arc.tip as usize]);
+        push_if_left(events, left, multi, v, *arc, len)?;
     }
+    take_out(left, ours);
+    take_out(second, theirs);
     Ok(())
 }
 
@@ -207,26 +277,27 @@ fn tally_left(multi: bool, met: usize, tally: Option<Tally>) -> Option<Tally>
 // as gone; without `multi` all of them.
 fn push_if_left(
     events: &mut Vec<Event>,
-    left: &mut IndexMap<u32, Tally>,
+    left: &mut [Option<Tally>],
     multi: bool,
     v: u32,
     arc: Link,
     len: i64,
 ) -> Result<(), Panic>
+    requires { arc.tip < length left.old }
     ensures ok { OnOk result (events.new.items ≡ events.old.items
-        ++ event_left v arc.tip len (get nat_eq left.old arc.tip)) }
-    ensures left { OnOk result ((u : ℕ) → get nat_eq left.new u
-        ≡ (if arc.tip == u then without_one multi (get nat_eq left.old u) else get nat_eq left.old
-        u)) }
+        ++ event_left v arc.tip len (tally_at left.old arc.tip)) }
+    ensures left { OnOk result ((u : ℕ) → tally_at left.new u
+        ≡ (if arc.tip == u then without_one multi (tally_at left.old u) else tally_at left.old u)) }
+    ensures size { OnOk result (length left.new ≡ length left.old) }
     ensures memory { IsOkUnless result Panic.NoRoom }
 {
-    let Some(tally) = left.get(&arc.tip).copied() else {
+    let Some(tally) = left[arc.tip as usize] else {
         return Ok(());
     };
     if tally.count == 0 {
         return Ok(());
     }
-    left.insert(arc.tip, one_less(multi, tally))?;
+    left[arc.tip as usize] = Some(one_less(multi, tally));
     events.push(Event::new(v, arc.tip, tally.least.max(len)))?;
     Ok(())
 }

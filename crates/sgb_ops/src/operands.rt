@@ -4,8 +4,9 @@ ghost use Rattle.sgb_vec.specs.Limits.{most_vertices};
 ghost use Rattle.sgb_vec.specs.Names.{IsTextByte};
 ghost use Rattle.sgb_graph.specs.Vertices.{names_of};
 ghost use Rattle.sgb_ops.specs.Compounds.{joined_name};
+ghost use Rattle.sgb_ops.specs.inner.Compounds.{begun_name};
 
-use crate::compounds::joined_name;
+use crate::compounds::{begun_name, ended_name};
 use sgb_graph::{Graph, Names};
 use sgb_vec::{Panic, Text};
 use std::alloc::Global;
@@ -21,7 +22,7 @@ pub(crate) fn names_of(alloc: Global, graph: &Graph) -> Result<Names, Panic>
     ensures few { length (names_of graph.now) ≤ most_vertices }
     ensures memory { IsOkUnless result Panic.NoRoom }
 {
-    let mut names = Names::new(alloc);
+    let mut names = Names::with_capacity(alloc, graph.n() as usize)?;
     for v in 0..graph.n() {
         let name = graph.name(v).copy(alloc)?;
         let Ok(()) = names.push(name) else {
@@ -47,12 +48,24 @@ pub(crate) fn push_joined_names(
         ++ map (joined_name name.now separator.now) (names_of graph.now)) }
     ensures memory { IsOkUnless result Panic.NoRoom }
 {
+    let start = ended_name(alloc, name, MOST_PART, separator)?;
+    push_begun_names(alloc, names, &start, graph)
+}
+
+// Appends this start with the name of each vertex of the graph after it.
+fn push_begun_names(
+    alloc: Global,
+    names: &mut Names,
+    start: &Text,
+    graph: &Graph,
+) -> Result<(), Panic>
+    requires { length start.now ≤ 2_048 }
+    ensures ok { OnOk result (names.new ≡ names.old
+        ++ map (begun_name start.now) (names_of graph.now)) }
+    ensures memory { IsOkUnless result Panic.NoRoom }
+{
     for w in 0..graph.n() {
-        let part = graph.name(w);
-        push_name(
-            names,
-            joined_name(alloc, name, MOST_PART, separator, part, MOST_PART)?,
-        )?;
+        push_name(names, begun_name(alloc, start, graph.name(w), MOST_PART)?)?;
     }
     Ok(())
 }

@@ -342,7 +342,8 @@ fn names_of_pairs(alloc: Global, first: &Graph, second: &Graph) -> Result<Names,
     ensures ok { IfOk result (λ names. names ≡ names_of_pairs first.now second.now) }
     ensures memory { IsOkUnless result Panic.NoRoom }
 {
-    let mut names = Names::new(alloc);
+    let pairs = u64::from(first.n()) * u64::from(second.n());
+    let mut names = Names::with_capacity(alloc, pairs as usize)?;
     for x in 0..first.n() {
         push_joined_names(alloc, &mut names, first.name(x), b",", second)?;
     }

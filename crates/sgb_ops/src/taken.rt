@@ -51,6 +51,7 @@ impl<'a> Iterator for TakenArcs<'a> {
 
     ghost remaining = { item_count (λ rest. rest) };
 
+    #[inline(always)]
     fn next(&mut self) -> Option<Link> {
         while let Some(link) = self.arcs.next() {
             let (is_taken, after_loop) = step(self.directed, self.vertex, self.after_loop, link);

@@ -1,16 +1,13 @@
 //! How many arcs lead to each vertex, and the least of their lengths.
-ghost use Rattle.std.specs.Prelude.{◌≡◌, ◌<◌, ◌+◌, ◌^◌, ℕ, nat_eq, IfOk, IsOkUnless};
+ghost use Rattle.std.specs.Prelude.{◌≡◌, ◌<◌, ◌≤◌, ◌+◌, ◌^◌, ℕ, All, None, length, OnOk, IsOkUnless};
 ghost use Rattle.std.specs.Option.{option_map_or};
-ghost use Rattle.indexmap.specs.IndexMap.{get};
 ghost use Rattle.sgb_ops.specs.Intersection.{count_to};
-ghost use Rattle.sgb_ops.specs.inner.Tallies.{one_more, tally_to};
+ghost use Rattle.sgb_ops.specs.inner.Tallies.{one_more, tally_at, tally_to};
 // For the search alone.
 ghost use Rattle.std.specs.Prelude.{Some};
 
-use indexmap::IndexMap;
 use sgb_graph::Link;
 use sgb_vec::Panic;
-use std::alloc::Global;
 
 /// How many arcs there are, and the least of their lengths.
 #[derive(Clone, Copy)]
@@ -19,19 +16,43 @@ pub(crate) struct Tally {
     pub(crate) least: i64,
 }
 
-/// A tally for each vertex that some of these arcs lead to. It takes the expected time of their number.
+/// Makes a table of no tallies one of at least `n` vertices.
 ///
 /// `NoRoom` when out of memory, and nothing else.
-pub(crate) fn tallies(alloc: Global, arcs: &[Link]) -> Result<IndexMap<u32, Tally>, Panic>
-    ensures ok { IfOk result (λ tallies. (u : ℕ) → get nat_eq tallies u ≡ tally_to u arcs.now) }
+pub(crate) fn make_room(tallies: &mut Vec<Option<Tally>>, n: usize) -> Result<(), Panic>
+    requires none { (u : ℕ) → tally_at tallies.old.items u ≡ None }
+    ensures room { OnOk result (n ≤ length tallies.new.items) }
+    ensures none { OnOk result ((u : ℕ) → tally_at tallies.new.items u ≡ None) }
     ensures memory { IsOkUnless result Panic.NoRoom }
 {
-    let mut tallies = IndexMap::new(alloc);
-    for arc in arcs {
-        let tally = with_one_more(tallies.get(&arc.tip).copied(), *arc);
-        tallies.insert(arc.tip, tally)?;
+    for _u in tallies.len()..n {
+        tallies.push(None)?;
     }
-    Ok(tallies)
+    Ok(())
+}
+
+/// Notes in a table of no tallies those of the vertices that some of these arcs lead to.
+pub(crate) fn note(tallies: &mut [Option<Tally>], arcs: &[Link])
+    requires within { All (λ l. l.tip < length tallies.old) arcs.now }
+    requires none { (u : ℕ) → tally_at tallies.old u ≡ None }
+    ensures size { length tallies.new ≡ length tallies.old }
+    ensures noted { (u : ℕ) → tally_at tallies.new u ≡ tally_to u arcs.now }
+{
+    for arc in arcs {
+        let u = arc.tip as usize;
+        tallies[u] = Some(with_one_more(tallies[u], *arc));
+    }
+}
+
+/// Takes the tallies of a table out, all of which are of vertices that some of these arcs lead to.
+pub(crate) fn take_out(tallies: &mut [Option<Tally>], arcs: &[Link])
+    requires within { All (λ l. l.tip < length tallies.old) arcs.now }
+    requires noted { (u : ℕ) → tally_to u arcs.now ≡ None → tally_at tallies.old u ≡ None }
+    ensures { (u : ℕ) → tally_at tallies.new u ≡ None }
+{
+    for arc in arcs {
+        tallies[arc.tip as usize] = None;
+    }
 }
 
 /// How many of the arcs lead to vertex `u`.

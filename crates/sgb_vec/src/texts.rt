@@ -43,6 +43,9 @@ impl Model for Text {
 // A string has at most this many bytes.
 const MOST_BYTES: usize = 4_095;
 
+// So many bytes stand where the string is kept.
+const SHORT_BYTES: usize = 16;
+
 // A name has at most so many bytes: 251 numbers of at most ten digits, each with a dot.
 const MOST_NAME_BYTES: usize = 2_761;
 
@@ -62,6 +65,17 @@ impl Text {
         if !is_text(bytes) {
             return Err(Panic::Syntax);
         }
+        Text::of_bytes(alloc, bytes)
+    }
+
+    /// The string of these bytes, which are one.
+    ///
+    /// `NoRoom` when out of memory, and nothing else.
+    pub fn of_bytes(alloc: Global, bytes: &[u8]) -> Result<Text, Panic>
+        requires { IsText bytes.now }
+        ensures ok { IfOk result (λ text. text ≡ bytes.now) }
+        ensures memory { IsOkUnless result Panic.NoRoom }
+    {
         let bytes = SmallVec::from_slice(alloc, bytes)?;
         Ok(Text { bytes })
     }
@@ -77,11 +91,29 @@ impl Text {
         ensures ok { IfOk result (λ text. text ≡ first.now ++ second.now ++ third.now) }
         ensures memory { IsOkUnless result Panic.NoRoom }
     {
-        let mut bytes = SmallVec::with_capacity(alloc, first.len() + second.len() + third.len())?;
+        let size = first.len() + second.len() + third.len();
+        if size <= SHORT_BYTES {
+            return Text::of_few(alloc, first, second, third);
+        }
+        let mut bytes = SmallVec::with_capacity(alloc, size)?;
         bytes.extend_from_slice(first)?;
         bytes.extend_from_slice(second)?;
         bytes.extend_from_slice(third)?;
         Ok(Text { bytes })
+    }
+
+    // The string of three texts that have few bytes, which are put together first: so the string is written once.
+    fn of_few(alloc: Global, first: &[u8], second: &[u8], third: &[u8]) -> Result<Text, Panic>
+        requires few { length first.now + length second.now + length third.now ≤ 16 }
+        requires text { IsText (first.now ++ second.now ++ third.now) }
+        ensures ok { IfOk result (λ text. text ≡ first.now ++ second.now ++ third.now) }
+        ensures memory { IsOkUnless result Panic.NoRoom }
+    {
+        let mut text = Filled::<SHORT_BYTES>::new();
+        text.push_text(first);
+        text.push_text(second);
+        text.push_text(third);
+        Text::of_bytes(alloc, text.bytes())
     }
 
     /// The bytes of the string.
@@ -151,7 +183,8 @@ pub fn name_len(vector: &[u32]) -> u64
 /// Makes a text the name of a vector of at most 251 entries. It takes no memory.
 pub fn put_name(vector: &[u32], text: &mut NameText)
     requires { length vector.now ≤ most_dimensions + 1 }
-    ensures { text.new ≡ name_of_vector vector.now }
+    ensures name { text.new ≡ name_of_vector vector.now }
+    ensures text { IsText text.new }
 {
     text.cut(0);
     for (place, entry) in vector.iter().enumerate() {

@@ -10,8 +10,8 @@ use sgb_vec::Text;
 // A vertex: its name, the number of the first record of its list of arcs, and its integers in the fields x, y, z,
 // where these fields hold integers.
 #[derive(Drop)]
-pub(super) struct PlainVertex {
-    pub(super) name: Text,
+pub(crate) struct PlainVertex {
+    pub(crate) name: Text,
     pub(super) arcs: usize,
     pub(super) ints: [i64; 3],
 }
@@ -21,7 +21,7 @@ impl PlainVertex {
     ghost use Rattle.sgb_graph.specs.inner.KeptVertices.{number_at};
 
     // The vertex with this name, first record of its list of arcs, and integers in the fields x, y, z.
-    pub(super) fn new(name: Text, arcs: Option<usize>, ints: [i64; 3]) -> PlainVertex
+    pub(crate) fn new(name: Text, arcs: Option<usize>, ints: [i64; 3]) -> PlainVertex
         requires { IfSome arcs (λ k. k + 1 < 2 ^ 64) }
         ensures name { result.name ≡ name }
         ensures arcs { kept_number result.arcs ≡ arcs }

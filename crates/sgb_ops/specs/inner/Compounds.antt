@@ -50,6 +50,10 @@ wheel_id n n1 directed =
 abbrev pub line_sign : Bool → List ℕ
 line_sign directed = if directed then codes "->" else codes "--"
 
+-- b after the start of joined names
+abbrev pub begun_name : List ℕ → List ℕ → List ℕ
+begun_name start b = start ++ take 2_047 b
+
 -- the name of the pair of a and b [product]
 abbrev pub pair_name : List ℕ → List ℕ → List ℕ
 pair_name a b = joined_name a (codes ",") b

@@ -1,12 +1,12 @@
 -- The earlier lines at each vertex, so that a line of an undirected graph is compared only with those it may meet [GB_BASIC, lines].
-use Rattle.std.specs.Prelude.{ℕ, ◌==◌, Bool, not, ◌||◌, List, [], map, filter, slice_index_or, Vec}
-use Rattle.std.specs.Global.{Global}
+use Rattle.std.specs.Prelude.{ℕ, ◌==◌, Bool, not, ◌||◌, List, [], map, filter, slice_index_or}
 use Rattle.std.specs.List.{enumerate_from}
+use Rattle.smallvec.specs.SmallVec.{SmallVec}
 use Rattle.sgb_ops.specs.declared.line_graphs.line.Line.{Line}
 use Rattle.sgb_ops.specs.inner.Lines.{no_line}
 
 -- list number w of several
-abbrev pub list_at : List (Vec ℕ Global) → ℕ → List ℕ
+abbrev pub list_at : List (SmallVec ℕ) → ℕ → List ℕ
 list_at lists w = slice_index_or (map (λ v. v.items) lists) w []
 
 -- w is one of the ends of the line

@@ -1,5 +1,5 @@
 -- What is noted of the arcs to each vertex, to find common arcs [GB_BASIC, intersection].
-use Rattle.std.specs.Prelude.{ℕ, ℤ, ◌+◌, ◌-◌, ◌==◌, Bool, true, false, List, [], ◌∷◌, length, map, filter, Option, Some, None, if◌then◌else◌}
+use Rattle.std.specs.Prelude.{ℕ, ℤ, ◌+◌, ◌-◌, ◌==◌, Bool, true, false, List, [], ◌∷◌, length, map, filter, slice_index_or, Option, Some, None, if◌then◌else◌}
 use Rattle.sgb_graph.specs.Events.{Event}
 use Rattle.sgb_graph.specs.declared.fields.Link.{Link}
 use Rattle.std.specs.Int.{int_max, int_min}
@@ -14,6 +14,10 @@ tally_of (l ∷ links) = Some (record { count = length (l ∷ links); least = le
 -- of those that lead to u
 abbrev pub tally_to : ℕ → List Link → Option Tally
 tally_to u links = tally_of (filter (λ l. l.tip == u) links)
+
+-- what a table of tallies, one for each vertex, has of u
+abbrev pub tally_at : List (Option Tally) → ℕ → Option Tally
+tally_at tallies u = slice_index_or tallies u None
 
 -- with one arc more, of this length
 abbrev pub one_more : ℤ → Option Tally → Tally

@@ -11,7 +11,11 @@ ghost use Rattle.std.specs.Prelude.{◌+◌};
 use super::line::Line;
 use sgb_graph::Graph;
 use sgb_vec::Panic;
+use smallvec::SmallVec;
 use std::alloc::Global;
+
+// Numbers of lines, which are kept in place where they are few: so many most vertices of a board have.
+type Numbers = SmallVec<u32, 4>;
 
 // Adds the edges of the line graph: from each line those to the earlier lines that it meets.
 pub(super) fn add_edges(
@@ -45,7 +49,7 @@ fn add_edges_from(
     lines: &[Line],
     i: u32,
     line: Line,
-    lists: &[Vec<u32>],
+    lists: &[Numbers],
 ) -> Result<(), Panic>
     requires size { length built.old.vertices ≡ length lines.now }
     requires plain { HasPlainArcs built.old }
@@ -59,8 +63,8 @@ fn add_edges_from(
         (events_to false i line (take i lines.now))) }
     ensures memory { IsOkUnless result Panic.NoRoom }
 {
-    add_edges_to(built, lines, i, true, &lists[line.to as usize])?;
-    add_edges_to(built, lines, i, false, &lists[line.from as usize])
+    add_edges_to(built, lines, i, true, lists[line.to as usize].as_slice())?;
+    add_edges_to(built, lines, i, false, lists[line.from as usize].as_slice())
 }
 
 // Adds the edges from line number `i` to those of the list, or only to those that begin elsewhere.
@@ -111,20 +115,20 @@ fn add_edge_if(built: &mut Graph, wanted: bool, i: u32, j: u32) -> Result<(), Pa
 }
 
 // So many empty lists.
-fn empty_lists(alloc: Global, n: u32) -> Result<Vec<Vec<u32>>, Panic>
+fn empty_lists(alloc: Global, n: u32) -> Result<Vec<Numbers>, Panic>
     ensures ok { IfOk result (λ lists. (w : ℕ) → list_at lists.items w ≡ []) }
     ensures size { IfOk result (λ lists. length lists.items ≡ n) }
     ensures memory { IsOkUnless result Panic.NoRoom }
 {
     let mut lists = Vec::new(alloc);
     for _w in 0..n {
-        lists.push(Vec::new(alloc))?;
+        lists.push(Numbers::new(alloc))?;
     }
     Ok(lists)
 }
 
 // Appends the number of the line to the list of each of its ends.
-fn push_line(lists: &mut Vec<Vec<u32>>, i: u32, line: Line) -> Result<(), Panic>
+fn push_line(lists: &mut Vec<Numbers>, i: u32, line: Line) -> Result<(), Panic>
     requires within { LineWithin (length lists.old.items) line }
     ensures ok { OnOk result ((w : ℕ) → list_at lists.new.items w ≡ list_at lists.old.items w
         ++ (if touches w line then i ∷ [] else [])) }
@@ -139,7 +143,7 @@ fn push_line(lists: &mut Vec<Vec<u32>>, i: u32, line: Line) -> Result<(), Panic>
 }
 
 // Appends the number to list number `w`.
-fn push_at(lists: &mut Vec<Vec<u32>>, w: u32, i: u32) -> Result<(), Panic>
+fn push_at(lists: &mut Vec<Numbers>, w: u32, i: u32) -> Result<(), Panic>
     requires { w < length lists.old.items }
     ensures ok { OnOk result ((u : ℕ) → list_at lists.new.items u ≡ list_at lists.old.items u
         ++ (if w == u then i ∷ [] else [])) }

@@ -1,15 +1,7 @@
-use Rattle.std.proofs.Common.{◌∙◌, ◌++◌, ◌∷◌, [], ◌+◌, drop, map, ap}
-use Rattle.sgb_gen.proofs.FamilyWalks.{drop_at_vector}
-use Rattle.sgb_graph.specs.Vertices.{names_of}
-use Rattle.sgb_ops.specs.Compounds.{joined_name}
-use Rattle.sgb_ops.proofs.PlainLists.{part_more}
+use Rattle.std.proofs.Common.{arith, length, take, ap}
+use Rattle.std.proofs.lemmas.List.{length-append, length-take}
 use Rattle.sgb_ops.proofs.operands.push_joined_names.Goals as goal
 
-pub loop-w-preserved : goal.loop-w-preserved
-loop-w-preserved c =
-    let w = c.loop-w.w in
-    let names = names_of c.args.graph.now in
-    let own = joined_name c.args.name.now c.args.separator.now in
-    part_more c.loop-w.names _ (own c.name-part.result.now ∷ []) (map own (drop (w + 1) names)) (map own (drop w names)) _
-    (ap (map own) (drop_at_vector names w c.name-part.result.now c.name-part.ensures)) c.loop-w.invariant
-    (c.in_ok-push_name.ensures.ok ∙ ap (λ n. c.loop-w.names ++ n ∷ []) c.in_ok-joined_name.ensures.ok)
+pub push_begun_names-requires : goal.push_begun_names-requires
+push_begun_names-requires c =
+    omega (arith, ap length c.in_ok-start.ensures.ok, length-append (take 2_047 c.args.name.now) c.args.separator.now, length-take 2_047 c.args.name.now, c.requires.short)

@@ -22,8 +22,8 @@ returns-clause-ok c =
     let old = c.args.built.now in
     let mid = c.add_edges_to.new.built in
     let new = c.add_edges_to-2.new.built in
-    let to_end = c.deref.ensures.value ∙ listed lists line.to c.index-lists-line.result _ c.requires.within.1 c.index-lists-line.is (c.requires.listed line.to) in
-    let to_start = c.deref-2.ensures.value ∙ listed lists line.from c.index-lists-line-2.result _ c.requires.within.0 c.index-lists-line-2.is (c.requires.listed line.from) in
+    let to_end = c.as_slice.ensures ∙ listed lists line.to c.index-lists-line.result _ c.requires.within.1 c.index-lists-line.is (c.requires.listed line.to) in
+    let to_start = c.as_slice-2.ensures ∙ listed lists line.from c.index-lists-line-2.result _ c.requires.within.0 c.index-lists-line-2.is (c.requires.listed line.from) in
     let first = subst (λ (ks : List ℕ). AddsEvents false old mid (events_to_numbers i (filter (counts true lines i) ks))) to_end c.in_ok-add_edges_to.ensures.ok in
     on_ok_weaker c.add_edges_to-2.result (λ added.
     let second = subst (λ (ks : List ℕ). AddsEvents false mid new (events_to_numbers i (filter (counts false lines i) ks))) to_start added in

@@ -15,6 +15,9 @@ parts_are_text a b c fits first second third = search (rules, length-append, All
 put_together : (a b c none x y z : List ℕ) → none ≡ [] → x ≡ none ++ a → y ≡ x ++ b → z ≡ y ++ c → z ≡ a ++ b ++ c
 put_together a b c none x y z empty one two three = grind (arith, append_assoc)
 
+pub of_few-requires-clause-text : goal.of_few-requires-clause-text
+of_few-requires-clause-text c = parts_are_text _ _ _ c.requires.short c.requires.first c.requires.second c.requires.third
+
 pub invariant_of-result : goal.invariant_of-result
 invariant_of-result c =
     let a = c.args.first.now in

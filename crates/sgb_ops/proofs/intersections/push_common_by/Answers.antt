@@ -1,20 +1,20 @@
-use Rattle.std.proofs.Common.{◌≡◌, ◌==◌, ◌+◌, ◌∙◌, ◌++◌, ◌∷◌, [], nat_eq, take, drop, get_or, sym, ap, refl, if◌then◌else◌, w64, to_z, of_z, rules, arith}
+use Rattle.std.proofs.Common.{◌≡◌, ◌==◌, ◌+◌, ◌∙◌, ◌++◌, ◌∷◌, [], take, drop, get_or, sym, ap, refl, if◌then◌else◌, w64, to_z, of_z, rules, arith}
 use Rattle.std.proofs.lemmas.Int.{to_z-of_z}
 use Rattle.std.proofs.lemmas.List.{take_more, drop_more, take-append-drop}
-use Rattle.indexmap.specs.IndexMap.{get}
-use Rattle.sgb_ops.specs.inner.Tallies.{tally_to, event_left, second_length, without_one}
+use Rattle.sgb_ops.specs.inner.Tallies.{tally_at, tally_to, event_left, second_length, without_one}
 use Rattle.sgb_ops.specs.inner.Intersection.{common_event}
 use Rattle.sgb_ops.proofs.CommonEvents.{commons_after, commons_at_places, left_after, left_at_first, left_more, event_there}
 use Rattle.sgb_ops.proofs.PlainLists.{part_more}
 use Rattle.sgb_ops.proofs.TallyLemmas.{no_arc}
-use Rattle.sgb_ops.proofs.intersections.push_common_of_many.Goals as goal
+use Rattle.sgb_ops.proofs.intersections.push_common_by.Goals as goal
 
 pub loop-arc-init : goal.loop-arc-init
 loop-arc-init c =
     let gs = c.args.ours.now in
     let hs = c.args.theirs.now in (
       ap (λ es. c.args.events.now.items ++ es) (sym (commons_at_places c.args.multi c.args.v gs hs [] hs 0 refl refl)),
-      (λ u. c.in_ok-left.ensures.ok u ∙ left_at_first c.args.multi u gs),
+      (λ u. c.note.ensures.noted u ∙ left_at_first c.args.multi u gs),
+      c.note.ensures.size,
     )
 
 pub loop-arc-preserved : goal.loop-arc-preserved
@@ -30,10 +30,9 @@ loop-arc-preserved c =
     let next : take (i + 1) hs ≡ before ++ l ∷ [] = take_more hs i no_arc (omega arith) in
     let rest : drop i hs ≡ l ∷ links = drop_more hs i no_arc (omega arith) in
     let is : hs ≡ before ++ l ∷ links = sym (take-append-drop i hs) ∙ ap (λ xs. before ++ xs) rest in
-    let theirs : c.copied.result ≡ tally_to l.tip hs = c.copied.ensures ∙ (c.get.ensures.value ∙ c.in_ok-shortest.ensures.ok l.tip) in
     let far : to_z w64 (of_z w64 c.second_length-len.result) ≡ second_length multi l.len (tally_to l.tip hs) =
-    to_z-of_z w64 c.second_length-len.result (search rules) ∙ (c.second_length-len.ensures ∙ ap (second_length multi l.len) theirs) in
-    let event = ap (λ k. event_left v l.tip k (get nat_eq c.loop-arc.left l.tip)) far
+    to_z-of_z w64 c.second_length-len.result (search rules) ∙ (c.second_length-len.ensures ∙ ap (second_length multi l.len) (c.note-2.ensures.noted l.tip)) in
+    let event = ap (λ k. event_left v l.tip k (tally_at c.loop-arc.left l.tip)) far
     ∙ (ap (event_left v l.tip (second_length multi l.len (tally_to l.tip hs))) (c.loop-arc.invariant.1 l.tip) ∙ event_there multi v gs hs before links l is) in
     let sofar = c.loop-arc.events.items in
     let now = common_event multi v gs hs before l in (
@@ -43,4 +42,5 @@ loop-arc-preserved c =
       (λ u. c.in_ok-push_if_left.ensures.left u
           ∙ (ap (λ o. if l.tip == u then without_one multi o else o) (c.loop-arc.invariant.1 u)
           ∙ (left_more multi u gs before l ∙ ap (left_after multi u gs) (sym next)))),
+      c.in_ok-push_if_left.ensures.size ∙ c.loop-arc.invariant.2,
     )

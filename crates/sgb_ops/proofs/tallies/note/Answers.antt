@@ -1,0 +1,9 @@
+use Rattle.std.proofs.Common.{rules}
+use Rattle.std.specs.Option.{option_map_or}
+use Rattle.std.proofs.lemmas.List.{length-take-le}
+use Rattle.sgb_ops.specs.inner.Tallies.{tally_at, tally_to}
+use Rattle.sgb_ops.proofs.TallyLemmas.{no_arc, few_to}
+use Rattle.sgb_ops.proofs.tallies.note.Goals as goal
+
+pub with_one_more-requires : goal.with_one_more-requires
+with_one_more-requires c = search (rules, no_arc, tally_at, tally_to, few_to, option_map_or, length-take-le)
