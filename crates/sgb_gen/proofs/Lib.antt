@@ -173,3 +173,5 @@ pub mod SubsetsPairs
 pub mod SubsetsMovePairs
 -- the place of a vector of a sum, by counts that are kept
 pub mod KeptCounts
+-- boards whose arcs need no sort, and how many displacements a board has
+pub mod PlainBoards
