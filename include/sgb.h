@@ -27,11 +27,12 @@
  *
  * Memory. sgb_open takes what it holds, and so do sgb_make, the operations and lists of entries; an operand that is a
  * generator's, and not built, is built while an operation runs. The other calls on an open graph hold nothing more when
- * they have answered. On a graph that is built they take none; on a generator's sgb_arcs and the calls on rows, tips
- * and names may take some while they run, and sgb_file and sgb_file_size build the graph for that time. All other calls
- * never take any. Where memory is refused the answer is SGB_NO_ROOM, and all is as it was before the call. A handle
- * that is not open, a run that is not there and `starts` of a wrong length are told before memory is taken, and so are
- * a handle that is open already, a text that is too large, and what is wrong with the arrays of sgb_make.
+ * they have answered. On a graph that is built they take none; on a generator's sgb_arcs, sgb_names and the calls on
+ * rows and tips may take some while they run, and sgb_file and sgb_file_size build the graph for that time. All other
+ * calls never take any, sgb_names_size among them. Where memory is refused the answer is SGB_NO_ROOM, and all is as it
+ * was before the call. A handle that is not open, a run that is not there and `starts` of a wrong length are told
+ * before memory is taken, and so are a handle that is open already, a text that is too large, and what is wrong with
+ * the arrays of sgb_make.
  *
  * Stack. A generator's call is opened with at most 64 KB of stack, any other expression with at most 96 KB and 36 KB
  * more for each pair of parentheses in one another, of which there may be 64. All other calls take at most 64 KB.

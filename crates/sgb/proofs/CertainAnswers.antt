@@ -22,14 +22,19 @@ use Rattle.sgb_requests.specs.declared.requests.Request.TheVariants as request
 use Rattle.sgb_requests.specs.declared.requests.Resume.{Resume}
 use Rattle.sgb_requests.specs.declared.requests.Resume.TheVariants as resumes
 use Rattle.sgb_gen.specs.Generators.{IsAcceptedAtOnce, IsGeneratorRefused, sort_made, sort_of}
-use Rattle.sgb_gen.specs.Sorts.{of_board, of_simplex, of_subsets}
+use Rattle.sgb_gen.specs.Sorts.{of_simplex, of_subsets}
 use Rattle.sgb_values.specs.FirstRefusals.{IsRefusedFirst}
-use Rattle.sgb.specs.Certain.{IsCertain, IsListedAtOnce, IsPast, IsRefusedAtOnce, ListsNoBoard, NeedsNoMemory}
+use Rattle.sgb.specs.Certain.{IsCertain, IsListedAtOnce, IsPast, IsRefusedAtOnce, NeedsNoMemory, TakesMemoryFirst}
 use Rattle.sgb.specs.Outcomes.{answer_of, left_out, outcome_of, reads_input}
 use Rattle.sgb.specs.Runs.{IsGiven, Left}
 use Rattle.sgb_gen.specs.Generators.{IsLocalOf}
 use Rattle.sgb_gen.specs.Generators.{described, generator_value, made}
 use Rattle.sgb_gen.specs.declared.locals.Local.{Local}
+use Rattle.sgb_gen.specs.declared.locals.Local.TheVariants as local
+use Rattle.sgb_gen.specs.Boards.{BoardData, KeepsNoList, accepted_board, board_vector_graph}
+use Rattle.sgb_gen.specs.VectorGraphs.{described_by}
+use Rattle.sgb_graph.specs.Descriptions.{Description}
+use Rattle.sgb_vec.specs.Results.{and_then}
 use Rattle.sgb.specs.inner.Certain.{HasListingAtOnce, HasNamesAtOnce}
 use Rattle.sgb.specs.Writing.{Effect, IsEndedFrom}
 use Rattle.sgb.proofs.Endings.{no_line, nothing_put}
@@ -102,16 +107,25 @@ listing_begun f resume l old new r is sort refused past subsets simplex (inr h) 
     let none = refused h.0 h.1 in
     absurd cc
 
--- where memory runs out for what is listed, the output is as it was, but for a board
-pub listing_untouched : {T S : Type 0} (f : Generator) (resume : Resume) (l : Local) (old new : S) (r : Result T Fault) → sort_of l ≡ sort_made f
+-- the board of parameters that are accepted
+board_accepted : (r : Result BoardData Panic) (d : Description) → and_then r (λ b. Ok (described_by (board_vector_graph b))) ≡ Ok d → (b : BoardData) × (r ≡ Ok b)
+board_accepted (Ok b) d is = (b, refl)
+board_accepted (Err p) d is = absurd cc
+
+-- where memory runs out for what is listed, the output is as it was, but for a board that keeps lists
+pub listing_untouched : {T S : Type 0} (f : Generator) (resume : Resume) (l : Local) (old new : S) (r : Result T Fault) → IsLocalOf (generator_value f) (Ok l) → sort_of l ≡ sort_made f
+    → ((p : BoardParams) (b : BoardData) → f ≡ generator.Board p → accepted_board p ≡ Ok b → ◌≡◌ {A = Result Local Panic} (Ok l) (Ok (local.Board b)))
     → (sort_of l ≡ of_subsets → IfErr r (λ g. g ≢ fault.Panic NoRoom))
     → (sort_of l ≡ of_simplex → IfErr r (λ g. g ≡ fault.Panic NoRoom → (resume ≡ resumes.Whole) × (new ≡ old)))
-    → sort_made f ≢ of_board → IfErr r (λ g. g ≡ fault.Panic NoRoom → new ≡ old)
-listing_untouched (generator.Board p) resume l old new r sort subsets simplex other = absurd (other refl)
-listing_untouched (generator.Simplex p) resume l old new (Ok x) sort subsets simplex other = tt
-listing_untouched (generator.Simplex p) resume l old new (Err f) sort subsets simplex other = λ none. (simplex sort none).1
-listing_untouched (generator.Subsets p) resume l old new (Ok x) sort subsets simplex other = tt
-listing_untouched (generator.Subsets p) resume l old new (Err f) sort subsets simplex other = λ none. absurd (subsets sort none)
+    → ((b : BoardData) → l ≡ local.Board b → KeepsNoList b → IfErr r (λ g. g ≡ fault.Panic NoRoom → new ≡ old))
+    → ((p : BoardParams) (b : BoardData) → f ≡ generator.Board p → accepted_board p ≡ Ok b → KeepsNoList b) → IfErr r (λ g. g ≡ fault.Panic NoRoom → new ≡ old)
+listing_untouched (generator.Board p) resume l old new r is sort same subsets simplex board keeps =
+    let (b, accepted) = board_accepted (accepted_board p) (described l) is in
+    board b (let e = same p b refl accepted in cc) (keeps p b refl accepted)
+listing_untouched (generator.Simplex p) resume l old new (Ok x) is sort same subsets simplex board keeps = tt
+listing_untouched (generator.Simplex p) resume l old new (Err f) is sort same subsets simplex board keeps = λ none. (simplex sort none).1
+listing_untouched (generator.Subsets p) resume l old new (Ok x) is sort same subsets simplex board keeps = tt
+listing_untouched (generator.Subsets p) resume l old new (Err f) is sort same subsets simplex board keeps = λ none. absurd (subsets sort none)
 
 -- what never runs out of memory does nothing where it does
 pub never : {T : Type 0} (P : Type 0) (r : Result T Fault) → IfErr r (λ f. f ≢ fault.Panic NoRoom) → IfErr r (λ f. f ≡ fault.Panic NoRoom → P)
@@ -122,6 +136,11 @@ never P (Err f) other = λ none. absurd (other none)
 pub write_alone : {T : Type 0} (P : Type 0) (r : Result T Fault) → IfErr r (λ f. f ≡ fault.Write) → IfErr r (λ f. f ≢ fault.Write → P)
 write_alone P (Ok x) write = tt
 write_alone P (Err f) write = λ other. absurd (other write)
+
+-- want of memory is no fault of a write
+pub room_alone : {T : Type 0} (P : Type 0) (r : Result T Fault) → IfErr r (λ f. f ≢ fault.Write → P) → IfErr r (λ f. f ≡ fault.Panic NoRoom → P)
+room_alone P (Ok x) left = tt
+room_alone P (Err f) left = λ none. left (λ write. absurd cc)
 
 -- a head that is not left out is asked for
 pub head_asked : (head : Bool) → (head ≡ false → ⊥) → head ≡ true
@@ -153,11 +172,10 @@ pub listing_of_generator : (e : Expr) (f : Generator) (resume : Resume) → e �
 listing_of_generator e f resume is (inl h) = inl (subst (λ f. IsListedAtOnce f resume) (same_generator h.0 f (sym h.1 ∙ is)) h.2)
 listing_of_generator e f resume is (inr h) = inr (h.code, rw is at (h.refused []))
 
--- an expression that is no board is of another generator
-pub other_sort : (e : Expr) (f : Generator) → e ≡ expr.Generator f → ((p : BoardParams) → e ≢ expr.Generator (generator.Board p)) → sort_made f ≢ of_board
-other_sort e (generator.Board p) is other = λ _. other p is
-other_sort e (generator.Simplex p) is other = λ board. absurd cc
-other_sort e (generator.Subsets p) is other = λ board. absurd cc
+-- an expression that is no board that keeps lists is of no such generator
+pub board_of_generator : (e : Expr) (f : Generator) → e ≡ expr.Generator f → ((p : BoardParams) (b : BoardData) → e ≡ expr.Generator (generator.Board p) → accepted_board p ≡ Ok b → KeepsNoList b)
+    → (p : BoardParams) (b : BoardData) → f ≡ generator.Board p → accepted_board p ≡ Ok b → KeepsNoList b
+board_of_generator e f is keeps p b same accepted = keeps p b (is ∙ ap expr.Generator same) accepted
 
 -- ---- graphs
 
@@ -183,9 +201,10 @@ at_once_unmade input e g r made h = search rules
 
 -- ---- runs
 
--- the listing that a request is for is of no board
-pub list_other : (r : Request) (e : Expr) (resume : Resume) → r ≡ request.List e resume → ListsNoBoard r → (p : BoardParams) → e ≢ expr.Generator (generator.Board p)
-list_other r e resume is other p same = other p resume (is ∙ ap (λ x. request.List x resume) same)
+-- the listing that a request is for is of no board that keeps lists
+pub board_of_request : (r : Request) (e : Expr) (resume : Resume) → r ≡ request.List e resume → TakesMemoryFirst r
+    → (p : BoardParams) (b : BoardData) → e ≡ expr.Generator (generator.Board p) → accepted_board p ≡ Ok b → KeepsNoList b
+board_of_request r e resume is first p b same accepted = first p resume b (is ∙ ap (λ x. request.List x resume) same) accepted
 
 -- a request whose answer takes no memory reads no input
 pub certain_unread : (r : Request) → NeedsNoMemory r → reads_input r ≡ false

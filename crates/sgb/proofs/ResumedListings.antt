@@ -1,10 +1,10 @@
 -- Where the answer to a request about a family begins.
-use Rattle.std.proofs.Common.{rules, ◌≡◌, ◌≢◌, ◌∙◌, [], Ok, inl, inr, ◌+◌, ◌-◌, ◌<◌, ◌≤◌, min, ℕ, suc, List, Bool, true, false, length, map, drop, Option, Some, None, option_map, Result, refl, sym, ap, arith}
+use Rattle.std.proofs.Common.{rules, ◌≡◌, ◌≢◌, ◌∙◌, [], Err, Ok, inl, inr, ◌+◌, ◌-◌, ◌<◌, ◌≤◌, min, ℕ, suc, List, Bool, true, false, not, length, map, drop, Option, Some, None, option_map, Result, refl, sym, ap, arith}
 use Rattle.std.specs.Bool.{OnTrue, OnFalse}
 use Rattle.std.specs.List.{Contains, slice_get}
-use Rattle.std.specs.Option.{IfSome}
+use Rattle.std.specs.Option.{IfNone, IfSome, is_some}
 use Rattle.std.proofs.lemmas.Bool.{cases_lt}
-use Rattle.std.proofs.lemmas.List.{drop_all, drop_min, length-drop}
+use Rattle.std.proofs.lemmas.List.{drop_all, drop_min, length-drop, length-map}
 use Rattle.sgb_vec.specs.Lexicographic.{IsRising}
 use Rattle.sgb_vec.specs.Names.{name_of_vector}
 use Rattle.sgb_graph.specs.Graphs.{GraphData}
@@ -72,3 +72,36 @@ none_left g r k start after from alike is (inl nowhere) = absurd (let e = from �
 none_left g r k start after from alike is (inr (other, (j, place, enough))) =
     let same : k ≡ j = let e = from ∙ place in cc in
     (other, rw is (sym alike ∙ drop_all k g.vectors (omega (arith, same, enough, names_count g))))
+
+-- an answer that has a head is not resumed after all vertices
+pub past_whole : (names : List (List ℕ)) (r : Resume) → r ≡ resume.Whole → IsPast names r → ⊥
+past_whole names r is (inl nowhere) = absurd (let e = rw is at nowhere in cc)
+past_whole names r is (inr (other, place)) = other is
+
+-- no vertex has the name
+pub past_nowhere : (names : List (List ℕ)) (r : Resume) (f : Fault) → left_out names r ≡ Err f → IsPast names r
+past_nowhere names resume.Whole f e = absurd cc
+past_nowhere names (resume.Skip k) f e = absurd cc
+past_nowhere names (resume.After name) f e = inl (grind (arith))
+
+-- nothing comes next
+pub none_next : {X : Type 0} (P : Type 0) (next : Option X) (none : Bool) → IfNone next P → is_some next ≡ not none → none ≡ true → P
+none_next P None none left found is = left
+none_next P (Some x) none left found is = absurd (let e = rw is at found in cc)
+
+-- none of these members is left where as many as there are, or more, are left out
+module _ (members : List (List ℕ)) (r : Resume) (start : Option (List ℕ)) (begins : BeginsAfter members r start) where
+  count : length (map name_of_vector members) ≡ length members
+  count = length-map members name_of_vector
+
+  pub past_all : r ≢ resume.Whole → drop (left_out_after members start) members ≡ [] → IsPast (map name_of_vector members) r
+  past_all other none =
+      let (k, place, alike) = begins.1 in
+      inr (other, (k, place, omega (arith, count, length-drop k members, ap length (alike ∙ none))))
+
+  pub past_left : IsPast (map name_of_vector members) r → drop (left_out_after members start) members ≡ []
+  past_left (inl nowhere) = absurd (let e = sym begins.1.1 ∙ nowhere in cc)
+  past_left (inr (other, (j, place, enough))) =
+      let (k, from, alike) = begins.1 in
+      let same : k ≡ j = let e = sym from ∙ place in cc in
+      sym alike ∙ drop_all k members (omega (arith, same, enough, count))

@@ -2,7 +2,7 @@
 use Rattle.std.specs.Prelude.{◌≡◌, ◌≢◌, ◌≤◌, ◌⊎◌, ℕ, false, List, length, Result, Ok, Err}
 use Rattle.sgb_vec.specs.declared.panics.Panic.{Panic}
 use Rattle.sgb_graph.specs.Graphs.{GraphData}
-use Rattle.sgb_gen.specs.Boards.{board}
+use Rattle.sgb_gen.specs.Boards.{BoardData, KeepsNoList, accepted_board, board}
 use Rattle.sgb_gen.specs.declared.params.BoardParams.{BoardParams}
 use Rattle.sgb_graph.specs.Vertices.{names_of}
 use Rattle.sgb_expr.specs.Expression.{Expression, expression_of}
@@ -53,6 +53,8 @@ NeedsNoMemory (request.Flip p) = Unit {0}
 abbrev pub IsCertain : {S : Type 0} → Request → Left S → Type 0
 IsCertain r l = NeedsNoMemory r → l.out.told.failed ≡ false → (stdin : Result GraphData Panic) → IsGiven (outcome_of (answer_of r stdin)) l
 
--- the request is for no listing of a board: all memory for its answer is taken before something is written
-abbrev pub ListsNoBoard : Request → Type 0
-ListsNoBoard r = (p : BoardParams) (resume : Resume) → r ≢ request.List (expr.Generator (generator.Board p)) resume
+-- a request whose answer takes all of its memory before something is written: each but for the listing of a board that keeps
+-- lists
+abbrev pub TakesMemoryFirst : Request → Type 0
+TakesMemoryFirst r =
+    (p : BoardParams) (resume : Resume) (b : BoardData) → r ≡ request.List (expr.Generator (generator.Board p)) resume → accepted_board p ≡ Ok b → KeepsNoList b

@@ -74,7 +74,8 @@ pub fn run_answer<A: Answer, R: Source, W: Sink, E: Sink>(
     ensures answered { (input : List ℕ) → (a : Result (List ℕ) Fault)
         × A.answers answer.now input a }
     // Where no input is read and writing takes no memory, the answer is never cut off for want of it.
-    ensures certain { A.reads answer.now ≡ false → A.certain answer.now → IsAnswerGiven (A.answers answer.now)
+    ensures certain { A.reads answer.now ≡ false → A.certain answer.now
+        → IsAnswerGiven (A.answers answer.now)
         (record {
           out = effect W.written W.has_failed out.old out.new;
           err = change E.written E.has_failed errors.old errors.new;

@@ -8,14 +8,14 @@ ghost use Rattle.sgb_vec.specs.declared.panics.Panic.TheVariants.{Early, NoRoom}
 ghost use Rattle.sgb_expr.specs.Expression.{expression_of};
 ghost use Rattle.sgb_file.specs.Saving.{text_of_graph};
 ghost use Rattle.sgb_graph.specs.Vertices.{names_of};
-ghost use Rattle.sgb.specs.Certain.{IsCertain, IsListedAtOnce, IsRefusedAtOnce, ListsNoBoard, NeedsNoMemory};
+ghost use Rattle.sgb.specs.Certain.{IsCertain, IsListedAtOnce, IsRefusedAtOnce, NeedsNoMemory, TakesMemoryFirst};
 ghost use Rattle.sgb.specs.inner.Certain.{HasListingAtOnce, HasNamesAtOnce};
 ghost use Rattle.sgb.specs.Outcomes.{IsAnswered, answer_from, list_answer, names_answer, queen_moves, queen_title, reads_input};
 ghost use Rattle.sgb.specs.Inputs.{LosesAtMost};
 ghost use Rattle.sgb.specs.Runs.{IsRunOn};
 ghost use Rattle.sgb.specs.Texts.{blocks, head};
-ghost use Rattle.sgb_gen.specs.Generators.{IsAcceptedAtOnce, generator_value, made, sort_made};
-ghost use Rattle.sgb_gen.specs.Sorts.{of_board};
+ghost use Rattle.sgb_gen.specs.Boards.{BoardData, KeepsNoList, accepted_board};
+ghost use Rattle.sgb_gen.specs.Generators.{IsAcceptedAtOnce, generator_value, made};
 ghost use Rattle.sgb_gen.specs.declared.params.BoardParams.{BoardParams};
 ghost use Rattle.sgb_values.specs.Values.{IsValueOn, most_input, value_of};
 ghost use Rattle.sgb.specs.Writing.{IsEnded, effect};
@@ -24,9 +24,9 @@ ghost use Rattle.sgb.specs.Outcomes.{answer_of};
 
 use crate::answers::{Answer, run_answer};
 use crate::queens::queen_moves;
-use crate::writing::families::ListAnswer;
 use crate::writing::files::write_file;
 use crate::writing::flips::write_flip;
+use crate::writing::list_answers::write_local_list;
 use crate::writing::listing::{write_listing, write_titled_listing};
 use crate::writing::names::NamesAnswer;
 use crate::writing::vertices::write_vertex_names;
@@ -41,7 +41,7 @@ use std::alloc::Global;
 /// answer is that of the definitions, unless `out` fails (3, a prefix of the output) or memory runs out (1, a prefix of
 /// the output). An answer that is given in full ends with one flush of `out`, which then holds nothing back. A request
 /// that is refused, or whose input fails, leaves `out` as it was, with no put and no flush; and so does one for which memory
-/// runs out, but for the listing of a board, of which a prefix may be written then.
+/// runs out, but for the listing of a board that keeps lists, of which a prefix may be written then.
 ///
 /// `source` is standard input. It is read, once and whole, only if the request's expression has `stdin`, and before all
 /// else; where it fails nothing is written (3). Of more than 2^30 bytes only so many and one more are read.
@@ -66,8 +66,8 @@ pub fn run<R: Source, W: Sink, E: Sink>(
       err = change E.written E.has_failed errors.old errors.new;
       status = result;
     }) }
-    // A refusal leaves the output as it was, and so does want of memory, but for a board's listing.
-    ensures untouched { ListsNoBoard request.now → result ≡ 1 → out.new ≡ out.old }
+    // A refusal leaves the output as it was, and so does want of memory, but for the listing of a board that keeps lists.
+    ensures untouched { TakesMemoryFirst request.now → result ≡ 1 → out.new ≡ out.old }
     ensures flushed { result ≡ 0 → W.held out.new ≡ [] }
     // What the request asks for is never that memory runs out: code 1 is the machine's alone.
     ensures apart { (input : List ℕ) (answer : Result (List ℕ) Fault)
@@ -86,7 +86,7 @@ impl Answer for Request {
 
     ghost certain = { λ r. NeedsNoMemory r };
 
-    ghost prepared = { λ r. ListsNoBoard r };
+    ghost prepared = { λ r. TakesMemoryFirst r };
 
     fn reads_input(&self) -> bool {
         reads_stdin(self)
@@ -122,7 +122,7 @@ fn write_answer<W: Sink>(
         (effect W.written W.has_failed out.old out.new) result }
     ensures certain { NeedsNoMemory request.now
         → IfErr result (λ f. f ≢ Fault.Panic NoRoom) }
-    ensures untouched { ListsNoBoard request.now
+    ensures untouched { TakesMemoryFirst request.now
         → IfErr result (λ f. f ≡ Fault.Panic NoRoom → out.new ≡ out.old) }
 {
     match request {
@@ -195,7 +195,9 @@ fn answer_list<W: Sink>(
         × IsListedAtOnce f resume.now)
         ⊎ IsRefusedAtOnce (expression_of expression.now)
         → IfErr result (λ f. f ≢ Fault.Panic NoRoom) }
-    ensures untouched { ((p : BoardParams) → expression.now ≢ Expr.Generator (Generator.Board p))
+    ensures untouched { ((p : BoardParams) (b : BoardData)
+        → expression.now ≡ Expr.Generator (Generator.Board p)
+        → accepted_board p ≡ Ok b → KeepsNoList b)
         → IfErr result (λ f. f ≡ Fault.Panic NoRoom → out.new ≡ out.old) }
 {
     if let Expr::Generator(generator) = expression {
@@ -218,16 +220,13 @@ fn answer_generator_list<W: Sink>(
         (effect W.written W.has_failed out.old out.new) result }
     ensures certain { HasListingAtOnce generator.now resume.now
         → IfErr result (λ f. f ≢ Fault.Panic NoRoom) }
-    ensures untouched { sort_made generator.now ≢ of_board
+    ensures untouched { ((p : BoardParams) (b : BoardData) → generator.now ≡ Generator.Board p
+        → accepted_board p ≡ Ok b → KeepsNoList b)
         → IfErr result (λ f. f ≡ Fault.Panic NoRoom → out.new ≡ out.old) }
 {
     let local = local_of(alloc, generator)?;
     let mut links = Links::new(alloc);
-    let answer = ListAnswer {
-        resume,
-        links: &mut links,
-    };
-    local.visit(answer, out)
+    write_local_list(&local, resume, &mut links, out)
 }
 
 // Writes the `.gb` file of an expression's graph.

@@ -15,6 +15,8 @@ pub(crate) mod flips;
 mod kept_names;
 // The lines of arcs that are handed out one by one.
 mod line_sink;
+// Answers to requests for the listing of a generator's graph.
+pub(crate) mod list_answers;
 // Listings of graphs.
 pub(crate) mod listing;
 // Names of a generator's vectors.
@@ -25,6 +27,8 @@ mod numerals;
 mod pages;
 // Where the names and the listing of a generator's vectors begin.
 pub(crate) mod resumed;
+// The blocks of vectors whose lists are had run by run.
+mod run_lines;
 // Names of a graph's vertices.
 pub(crate) mod vertices;
 

@@ -52,8 +52,8 @@ pub fn graph_given(
     directed: bool,
     id: &[u8],
 ) -> Result<Graph, Unmade>
-    ensures fits { IfOk result (λ _. fault_of starts.now names.now from.now to.now lengths.now id.now
-        ≡ None) }
+    ensures fits { IfOk result (λ _.
+        fault_of starts.now names.now from.now to.now lengths.now id.now ≡ None) }
     ensures made { IfOk result (λ g. g
         ≡ graph_given starts.now names.now from.now to.now lengths.now directed id.now) }
     ensures refused { IfErr result

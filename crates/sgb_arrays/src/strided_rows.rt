@@ -55,7 +55,8 @@ pub(crate) fn fill_strided_rows(
         × HaveRowLengths (graph_of_board board.now.board) first count
         starts.old tips.old lengths.old
         × AreRows (graph_of_board board.now.board) first count starts.new tips.new lengths.new) }
-    ensures refused { IfErr result (λ why. IsFillRefusal (graph_of_board board.now.board) first count
+    ensures refused { IfErr result (λ why. IsFillRefusal
+        (graph_of_board board.now.board) first count
         (HaveRowLengths (graph_of_board board.now.board) first count
         starts.old tips.old lengths.old) (⊤ × (length starts.old ≡ count + 1)) why
         × (starts.new ≡ starts.old) × (tips.new ≡ tips.old) × (lengths.new ≡ lengths.old)) }
@@ -80,7 +81,8 @@ pub(crate) fn fill_strided_tips(
     ensures filled { OnOk result (IsThere (graph_of_board board.now.board) first count
         × HaveTipLengths (graph_of_board board.now.board) first count starts.old tips.old
         × AreTips (graph_of_board board.now.board) first count starts.new tips.new) }
-    ensures refused { IfErr result (λ why. IsFillRefusal (graph_of_board board.now.board) first count
+    ensures refused { IfErr result (λ why. IsFillRefusal
+        (graph_of_board board.now.board) first count
         (HaveTipLengths (graph_of_board board.now.board) first count starts.old tips.old)
         (⊤ × (length starts.old ≡ count + 1)) why
         × (starts.new ≡ starts.old) × (tips.new ≡ tips.old)) }

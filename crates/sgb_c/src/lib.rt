@@ -163,10 +163,9 @@ pub extern "C" fn sgb_rows_size(
     }
 }
 
-/// How many bytes the names of a run have.
+/// How many bytes the names of a run have. No memory is taken.
 #[unsafe(no_mangle)]
 pub extern "C" fn sgb_names_size(
-    alloc: Global,
     graph: &mut GraphHandle,
     first: u32,
     count: u32,
@@ -175,12 +174,12 @@ pub extern "C" fn sgb_names_size(
     ensures answer { IsAnswerOn (graph_in graph.old)
         (λ g. IsThere g first count
         × (bytes.new ≡ length (parts_of (name_at g) first count)))
-        (λ g. IsAnswerFor (IsSizeRefusal g first count (IsListedIn graph.old)))
+        (λ g. IsAnswerFor (IsSizeRefusal g first count ⊥))
         (bytes.new ≡ bytes.old) result }
     ensures kept { graph.new.held.value ≡ graph.old.held.value }
 {
     match graph.lend() {
-        Some(held) => match held.graph.names_len(alloc, first, count) {
+        Some(held) => match held.graph.names_len(first, count) {
             Ok(names) => {
                 *bytes = names;
                 Answer::Done.number()

@@ -30,7 +30,8 @@ pub extern "C" fn sgb_complement(
     directed: bool,
     made: &mut GraphHandle,
 ) -> u64
-    ensures made { IsMade (option_map (λ g. complement_of g copy self_loops directed) (graph_in graph.old))
+    ensures made { IsMade
+        (option_map (λ g. complement_of g copy self_loops directed) (graph_in graph.old))
         (graph_in made.old) (graph_in made.new) result }
     ensures left { (result ≡ number_of Answer.Done → ⊥)
         → made.new.held.value ≡ made.old.held.value }
@@ -119,7 +120,8 @@ pub extern "C" fn sgb_intersection_of(
     made: &mut GraphHandle,
 ) -> u64
     ensures made { IsMade
-        (of_both (λ g h. intersection_of g h multi directed) (graph_in first.old) (graph_in second.old))
+        (of_both (λ g h. intersection_of g h multi directed)
+        (graph_in first.old) (graph_in second.old))
         (graph_in made.old) (graph_in made.new) result }
     ensures left { (result ≡ number_of Answer.Done → ⊥)
         → made.new.held.value ≡ made.old.held.value }
@@ -141,7 +143,8 @@ pub extern "C" fn sgb_intersection_self(
     made: &mut GraphHandle,
 ) -> u64
     ensures made { IsMade
-        (of_both (λ g h. intersection_of g h multi directed) (graph_in graph.old) (graph_in graph.old))
+        (of_both (λ g h. intersection_of g h multi directed)
+        (graph_in graph.old) (graph_in graph.old))
         (graph_in made.old) (graph_in made.new) result }
     ensures left { (result ≡ number_of Answer.Done → ⊥)
         → made.new.held.value ≡ made.old.held.value }
@@ -163,11 +166,13 @@ pub extern "C" fn sgb_product_of(
     made: &mut GraphHandle,
 ) -> u64
     ensures made { IsMade
-        (of_both (λ g h. product_graph_of g h kind directed) (graph_in first.old) (graph_in second.old))
+        (of_both (λ g h. product_graph_of g h kind directed)
+        (graph_in first.old) (graph_in second.old))
         (graph_in made.old) (graph_in made.new) result }
     ensures refused { (p : Panic) → graph_in made.old ≡ None
         → (IsListedIn first.old → ⊥) → (IsListedIn second.old → ⊥)
-        → of_both (λ g h. product_graph_of g h kind directed) (graph_in first.old) (graph_in second.old)
+        → of_both (λ g h. product_graph_of g h kind directed)
+        (graph_in first.old) (graph_in second.old)
         ≡ Some (Err p) → result ≡ number_of (Answer.Panic p) }
     ensures left { (result ≡ number_of Answer.Done → ⊥)
         → made.new.held.value ≡ made.old.held.value }
@@ -189,11 +194,13 @@ pub extern "C" fn sgb_product_self(
     made: &mut GraphHandle,
 ) -> u64
     ensures made { IsMade
-        (of_both (λ g h. product_graph_of g h kind directed) (graph_in graph.old) (graph_in graph.old))
+        (of_both (λ g h. product_graph_of g h kind directed)
+        (graph_in graph.old) (graph_in graph.old))
         (graph_in made.old) (graph_in made.new) result }
     ensures refused { (p : Panic) → graph_in made.old ≡ None
         → (IsListedIn graph.old → ⊥)
-        → of_both (λ g h. product_graph_of g h kind directed) (graph_in graph.old) (graph_in graph.old)
+        → of_both (λ g h. product_graph_of g h kind directed)
+        (graph_in graph.old) (graph_in graph.old)
         ≡ Some (Err p) → result ≡ number_of (Answer.Panic p) }
     ensures left { (result ≡ number_of Answer.Done → ⊥)
         → made.new.held.value ≡ made.old.held.value }
@@ -213,8 +220,8 @@ pub extern "C" fn sgb_bi_complete(
     directed: bool,
     made: &mut GraphHandle,
 ) -> u64
-    ensures made { IsMade (Some (bi_complete_of n1 n2 directed)) (graph_in made.old) (graph_in made.new)
-        result }
+    ensures made { IsMade (Some (bi_complete_of n1 n2 directed))
+        (graph_in made.old) (graph_in made.new) result }
     ensures refused { (p : Panic) → graph_in made.old ≡ None → accepted_parts n1 n2 ≡ Err p
         → result ≡ number_of (Answer.Panic p) }
     ensures left { (result ≡ number_of Answer.Done → ⊥)

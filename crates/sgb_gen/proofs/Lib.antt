@@ -175,3 +175,5 @@ pub mod SubsetsMovePairs
 pub mod SubsetsListCounts
 -- the place of a vector of a sum, by counts that are kept
 pub mod KeptCounts
+-- boards whose arcs need no sort, and how many displacements a board has
+pub mod PlainBoards

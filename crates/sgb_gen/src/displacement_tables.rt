@@ -2,13 +2,14 @@
 //!
 //! At most 65,536 entries are kept, each also turned round, and with each coordinate that moves its number: a few
 //! megabytes at most.
-ghost use Rattle.std.specs.Prelude.{◌≡◌, ◌<◌, ◌≤◌, length, nat_abs, slice_get, Some, All, IfSome};
+ghost use Rattle.std.specs.Prelude.{◌≡◌, ◌<◌, ◌≤◌, ◌/◌, length, max, nat_abs, slice_get, Some, All, IfNone, IfOk, IfSome, IsOkUnless};
 ghost use Rattle.sgb_vec.specs.Limits.{most_dimensions};
 ghost use Rattle.sgb_gen.specs.Limits.{most_piece};
 ghost use Rattle.sgb_gen.specs.Moves.{opposite};
 
 use crate::displacements::{Displacement, Displacements, put_opposite};
 use crate::steps::{KeptStep, Parts, Step};
+use sgb_vec::Panic;
 use std::alloc::Global;
 use std::marker::Model;
 
@@ -98,6 +99,25 @@ impl DisplacementTable {
         requires small { All (λ t. All (λ e. nat_abs e ≤ most_piece) t) left }
         ensures { IfSome result (λ d. d ≡ left) }
     {
+        match DisplacementTable::made(alloc, width, left) {
+            Ok(table) => table,
+            Err(_no_room) => None,
+        }
+    }
+
+    /// The same. `None` where they have more than 65,536 entries, and nothing else.
+    ///
+    /// `NoRoom` when out of memory, and nothing else.
+    pub(crate) fn made(
+        alloc: Global,
+        width: usize,
+        left: Displacements,
+    ) -> Result<Option<DisplacementTable>, Panic>
+        requires small { All (λ t. All (λ e. nat_abs e ≤ most_piece) t) left }
+        ensures table { IfOk result (λ o. IfSome o (λ d. d ≡ left)) }
+        ensures many { IfOk result (λ o. IfNone o (65_536 / max width 1 < length left)) }
+        ensures memory { IsOkUnless result Panic.NoRoom }
+    {
         let most = MOST_ENTRIES / width.max(1);
         let mut turned = Displacement::new();
         let mut parts = Parts::new();
@@ -105,17 +125,17 @@ impl DisplacementTable {
         let mut kept = Vec::new(alloc);
         while let Some(t) = left.front() {
             if kept.len() >= most {
-                return None;
+                return Ok(None);
             }
             let Some(pair) = KeptPair::new(alloc, t, &mut turned, &mut parts) else {
-                return None;
+                return Err(Panic::NoRoom);
             };
             let Ok(()) = kept.push(pair) else {
-                return None;
+                return Err(Panic::NoRoom);
             };
             let _some = left.advance();
         }
-        Some(DisplacementTable { kept })
+        Ok(Some(DisplacementTable { kept }))
     }
 
     /// How many displacements there are.

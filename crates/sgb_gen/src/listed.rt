@@ -1,21 +1,21 @@
 //! What a listing asks of a generator's graph, with no graph.
 //!
 //! Proofs of listings speak of a graph of vectors (`VectorGraph`), and of no generator. That of a board is listed by
-//! `BoardLists`, which makes a table only in `prepare`: names, sizes and where a listing begins take no memory. That
-//! moves have their ends among the vectors is a clause of `family` and no law: its proof would have to stand with the
-//! definitions.
-ghost use Rattle.std.specs.Prelude.{◌≡◌, ◌≤◌, ◌^◌, length, map, slice_get, All, Contains, IfErr, IfOk, IfSome, IsOk, OnOk, IsOkUnless, Some};
+//! `BoardLists`, which makes a table only in `prepare`: names, sizes and where a listing begins take no memory; or by an
+//! `OrderedBoard`, which has its table, so that nothing after it wants memory. That moves have their ends among the
+//! vectors is a clause of `family` and no law: its proof would have to stand with the definitions.
+ghost use Rattle.std.specs.Prelude.{◌≡◌, ◌⊎◌, ◌≤◌, ◌^◌, length, map, slice_get, All, Contains, IfErr, IfOk, IfSome, IsOk, OnOk, IsOkUnless, Some};
 ghost use Rattle.sgb_graph.specs.Graphs.{chain_of};
 ghost use Rattle.sgb_graph.specs.Made.{graph_described};
 ghost use Rattle.sgb_gen.specs.ArcSinks.{AreGiven};
 ghost use Rattle.sgb_gen.specs.Boards.{board_vector_graph};
 ghost use Rattle.sgb_gen.specs.LocalLists.{list_in};
 ghost use Rattle.sgb_gen.specs.Simplexes.{simplex_vector_graph};
-ghost use Rattle.sgb_gen.specs.Sorts.{Sort, of_board, of_simplex, of_subsets};
+ghost use Rattle.sgb_gen.specs.Sorts.{Sort, of_board, of_ordered_board, of_simplex, of_subsets};
 ghost use Rattle.sgb_gen.specs.Subsets.{subsets_vector_graph};
 ghost use Rattle.sgb_gen.specs.VectorGraphs.{HasEnds, VectorGraph, described_by, vertex_among};
 
-use crate::accepted::{BoardLists, Runs, Simplex, Strides, Subsets};
+use crate::accepted::{BoardLists, OrderedBoard, Runs, Simplex, Strides, Subsets};
 use crate::arc_sinks::ArcSink;
 use crate::counted_places::CountedPlaces;
 use crate::links::Links;
@@ -49,8 +49,8 @@ pub trait Listed<'a> {
     fn arcs_count(&self, links: &Links) -> Result<u128, Panic>
         ensures count { IfOk result (λ m. m ≡ (graph_described (described_by (graph self.now))).m) }
         ensures memory { IsOkUnless result Panic.NoRoom }
-        ensures board { sort self.now ≡ of_board → IfErr result (λ e.
-            2 ^ 128 ≤ (graph_described (described_by (graph self.now))).m) }
+        ensures board { (sort self.now ≡ of_board) ⊎ (sort self.now ≡ of_ordered_board)
+            → IfErr result (λ e. 2 ^ 128 ≤ (graph_described (described_by (graph self.now))).m) }
         ensures subsets { sort self.now ≡ of_subsets → IsOk result };
 
     /// Makes what all lists have in common, where there is memory for it: they are then made faster. A listing calls it once,
@@ -72,9 +72,9 @@ pub trait Listed<'a> {
         ensures same { graph self.new ≡ graph self.old }
         ensures sort { sort self.new ≡ sort self.old };
 
-    /// Hands the arcs of the vertex of `x` to a sink, one by one, in the order of its list in the graph. Of a simplex and of
-    /// subsets no list is kept, and no memory is taken but by the sink; nor of a board that is prepared, where its arcs are had
-    /// in order with no sort. Another board's list is made in `links` first.
+    /// Hands the arcs of the vertex of `x` to a sink, one by one, in the order of its list in the graph. Of a simplex, of subsets
+    /// and of an `OrderedBoard` no list is kept, and no memory is taken but by the sink; nor of a `BoardLists` that is prepared,
+    /// where its arcs are had in order with no sort. Another board's list is made in `links` first.
     ///
     /// The sink's fault, inside; or `NoRoom` when out of memory for a board's list, and nothing else: the sink was then handed
     /// nothing.
@@ -110,7 +110,8 @@ pub trait Listed<'a> {
         requires { Contains (graph self.now).vectors x.now }
         ensures vector { IfSome result (λ r. r.x ≡ x.now) }
         ensures arcs { IfSome result (λ r. r.arcs ≡ list_in (graph self.now) x.now) }
-        ensures board { IfSome result (λ r. sort self.now ≡ of_board) };
+        ensures board { IfSome result (λ r. (sort self.now ≡ of_board)
+            ⊎ (sort self.now ≡ of_ordered_board)) };
 
     /// The list of vertex `v`, which is that of `x`, by the vertices where its arcs lead, where it can be had so: no vector of
     /// theirs is then made. No memory is taken.
@@ -194,6 +195,59 @@ impl<'a> Listed<'a> for BoardLists<'a> {
 
     fn place_of(&self, x: &[u32]) -> u32 {
         self.board.family().place_of(x)
+    }
+}
+
+impl<'a> Listed<'a> for OrderedBoard<'a> {
+    type Members = BoxFamily;
+
+    ghost graph = { board_vector_graph };
+
+    ghost sort = { λ _. of_ordered_board };
+
+    fn family(&self) -> &'a BoxFamily {
+        self.board.family()
+    }
+
+    fn id(&self) -> Id {
+        self.board.id()
+    }
+
+    fn arcs_count(&self, _links: &Links) -> Result<u128, Panic> {
+        self.board.arcs_count()
+    }
+
+    fn prepare(&mut self, _links: &Links) {}
+
+    fn arcs_at(&mut self, x: &[u32], links: &mut Links) -> Result<(), Panic> {
+        self.board.arcs_at(x, links)
+    }
+
+    fn give_arcs<K: ArcSink<R, S>, R, S>(
+        &mut self,
+        x: &[u32],
+        _links: &mut Links,
+        sink: &K,
+        room: &mut R,
+        out: &mut S,
+    ) -> Result<Result<(), K::Fault>, Panic> {
+        Ok(self.give(x, sink, room, out))
+    }
+
+    fn runs<'b>(&'b self, x: &'b [u32]) -> Option<Runs<'b>> {
+        OrderedBoard::runs(self, x)
+    }
+
+    fn strides<'b>(&'b self, _x: &'b [u32], _v: u32) -> Option<Strides<'b>> {
+        None
+    }
+
+    fn places(&self, _links: &Links) -> Option<CountedPlaces<'a>> {
+        None
+    }
+
+    fn place_of(&self, x: &[u32]) -> u32 {
+        self.family().place_of(x)
     }
 }
 

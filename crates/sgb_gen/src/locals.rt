@@ -3,6 +3,8 @@ ghost use Rattle.std.specs.Prelude.{◌≡◌, ◌≢◌, length, Err, Ok, IfErr
 ghost use Rattle.sgb_graph.specs.Descriptions.{IsAnswerOf};
 ghost use Rattle.sgb_gen.specs.Generators.{IsAcceptedAtOnce, IsGeneratorRefused, IsLocalOf, described, generator_value, sort_made, sort_of};
 ghost use Rattle.sgb_graph.specs.Made.{graph_described};
+ghost use Rattle.sgb_gen.specs.Boards.{BoardData, accepted_board};
+ghost use Rattle.sgb_gen.specs.declared.params.BoardParams.{BoardParams};
 
 use crate::accepted::{Board, Simplex, Subsets};
 use crate::links::Links;
@@ -36,6 +38,8 @@ pub fn local_of(alloc: Global, generator: &Generator) -> Result<Local, Panic>
     ensures value { IsLocalOf (generator_value generator.now) result }
     ensures sort { IfOk result (λ l. sort_of l ≡ sort_made generator.now) }
     ensures refused { (p : Panic) → IsGeneratorRefused generator.now p → result ≡ Err p }
+    ensures board { (p : BoardParams) (b : BoardData) → generator.now ≡ Generator.Board p
+        → accepted_board p ≡ Ok b → result ≡ Ok (Local.Board b) }
     ensures certain { IsAcceptedAtOnce generator.now → IfErr result (λ p. p ≢ Panic.NoRoom) }
 {
     match generator {

@@ -6,41 +6,37 @@
 //! `Buffered` holds it until the first page comes. Where memory runs out for a list the page is not put any more: a
 //! listing that is cut off there ends with its head or with a page. A put after that fault could fail, and turn its
 //! status.
-ghost use Rattle.std.specs.Prelude.{◌≡◌, ◌≢◌, ◌≤◌, ◌+◌, [], ◌++◌, false, true, drop, length, option_map, reverse, Contains, IfErr, IfSome, IsOk, IsOkUnless, OnOk};
+ghost use Rattle.std.specs.Prelude.{◌≡◌, ◌≢◌, ◌≤◌, ◌+◌, [], ◌++◌, false, true, drop, length, option_map, Contains, IfErr, IfSome, IsOk, IsOkUnless, OnOk};
 ghost use Rattle.std.specs.List.{flat_map};
 ghost use Rattle.sgb_file.specs.Devices.{change};
+ghost use Rattle.sgb_vec.specs.Boxes.{box};
 ghost use Rattle.sgb_vec.specs.Limits.{most_dimensions};
-ghost use Rattle.sgb_vec.specs.Names.{name_of_vector};
-ghost use Rattle.sgb_gen.specs.Runs.{AreMoved, arc_along, arcs_along};
+ghost use Rattle.sgb_gen.specs.Boards.{BoardData, KeepsNoList, board_vector_graph};
 ghost use Rattle.sgb_gen.specs.VectorGraphs.{described_by};
 ghost use Rattle.sgb_graph.specs.Made.{graph_described};
-ghost use Rattle.sgb_graph.specs.Vertices.{names_of};
 ghost use Rattle.sgb_requests.specs.declared.faults.Fault.TheVariants as fault;
-ghost use Rattle.sgb_requests.specs.declared.requests.Resume.TheVariants.{Whole};
 ghost use Rattle.sgb_gen.specs.Generators.{described, sort_of, vectors_of};
 ghost use Rattle.sgb_gen.specs.Sorts.{of_board, of_simplex, of_subsets};
 ghost use Rattle.sgb.specs.Locals.{family_text, head_if, left_out_after};
-ghost use Rattle.sgb.specs.inner.Locals.{local_block, local_line};
+ghost use Rattle.sgb.specs.inner.Locals.{local_block};
 ghost use Rattle.sgb.specs.inner.Pages.{IsPaged, page_bytes};
 ghost use Rattle.sgb.specs.inner.Remaining.{IsRest};
 ghost use Rattle.sgb.specs.inner.Texts.{most_line_bytes};
-ghost use Rattle.sgb.specs.Texts.{head, name_line};
-ghost use Rattle.sgb.specs.Certain.{IsPast};
-ghost use Rattle.sgb.specs.Outcomes.{list_answer};
+ghost use Rattle.sgb.specs.Texts.{head};
 ghost use Rattle.sgb_vec.specs.declared.panics.Panic.TheVariants.{NoRoom};
-ghost use Rattle.sgb.specs.Writing.{IsEnded, IsLeftOrBegun, IsWritten, effect};
+ghost use Rattle.sgb.specs.Writing.{IsLeftOrBegun, IsWritten, effect};
 // For the search alone.
 ghost use Rattle.std.specs.Prelude.{IfOk};
 
-use super::arc_lines::{begin_arc, end_counted_arc};
 use super::kept_names::KeptName;
 use super::line_sink::ArcLines;
 use super::listing::push_head_of;
-use super::pages::{Page, make_room, put_page};
-use super::resumed::{has_head, slice_of, start_of, vectors_after};
+use super::pages::{Page, put_page};
+use super::resumed::vectors_after;
+use super::run_lines::push_block_of_runs;
 use sgb_file::Sink;
-use sgb_gen::{Links, Listed, Local, Runs, Visit, Visitor};
-use sgb_requests::{Fault, Resume};
+use sgb_gen::{Board, Links, Listed, Local, Visit, Visitor};
+use sgb_requests::Fault;
 use sgb_vec::{Family, Panic, Vectors};
 
 /// Writes the listing of a generator's graph, one arc list after another: the head where `head` asks for it, and a
@@ -69,8 +65,41 @@ pub fn list_family<W: Sink>(
     ensures subsets { sort_of local.now ≡ of_subsets → IfErr result (λ f. f ≡ Fault.Write) }
     ensures simplex { sort_of local.now ≡ of_simplex → IfErr result (λ f. f ≢ Fault.Write
         → (head ≡ true) × (out.new ≡ out.old)) }
+    ensures board { (b : BoardData) → local.now ≡ Local.Board b → KeepsNoList b
+        → IfErr result (λ f. f ≢ Fault.Write → out.new ≡ out.old) }
 {
+    if let Local::Board(board) = local {
+        return list_board(board, head, after, links, out);
+    }
     local.visit(FamilyListing { head, after, links }, out)
+}
+
+// The same of a board. Where it keeps no list, what the table wants of memory is told before something is written.
+fn list_board<W: Sink>(
+    board: &Board,
+    head: bool,
+    after: Option<&[u32]>,
+    links: &mut Links,
+    out: &mut W,
+) -> Result<(), Fault>
+    requires member { IfSome after (λ x. Contains (box board.now.sizes) x.now) }
+    requires sound { W.has_failed out.old ≡ false }
+    ensures written { IsWritten
+        (family_text (graph_described (described_by (board_vector_graph board.now))) head
+        (left_out_after (box board.now.sizes) (option_map (λ x. x.now) after.entry)))
+        (change W.written W.has_failed out.old out.new) result }
+    ensures head { IfErr result (λ f. f ≢ Fault.Write → IsLeftOrBegun
+        (head_if head (graph_described (described_by (board_vector_graph board.now))))
+        (effect W.written W.has_failed out.old out.new)) }
+    ensures untouched { KeepsNoList board.now
+        → IfErr result (λ f. f ≢ Fault.Write → out.new ≡ out.old) }
+{
+    if let Some(ordered) = board.in_order(links)? {
+        let mut ordered = ordered;
+        return list_vectors(&mut ordered, head, after, links, out);
+    }
+    let mut lists = board.lists(links);
+    list_vectors(&mut lists, head, after, links, out)
 }
 
 // The listing of a generator's graph, as `list_family` writes it.
@@ -90,8 +119,9 @@ impl<'l, W: Sink> Visitor<W> for FamilyListing<'l> {
     ghost needs = { λ v g _ old. IfSome v.after (λ x. Contains g.vectors x.now)
         × (W.has_failed old ≡ false) };
 
-    ghost gives = { λ v g sort old new result. IsWritten (family_text (graph_described (described_by g))
-        v.head (left_out_after g.vectors (option_map (λ x. x.now) v.after)))
+    ghost gives = { λ v g sort old new result. IsWritten
+        (family_text (graph_described (described_by g)) v.head
+        (left_out_after g.vectors (option_map (λ x. x.now) v.after)))
         (change W.written W.has_failed old new) result
         × IfErr result (λ f. f ≢ fault.Write → IsLeftOrBegun
         (head_if v.head (graph_described (described_by g))) (effect W.written W.has_failed old new))
@@ -107,49 +137,8 @@ impl<'a, 'l, L: Listed<'a>, W: Sink> Visit<'a, L, W> for FamilyListing<'l> {
     }
 }
 
-/// The answer to a request for the listing of a generator's graph: the head, and a block for each vertex; or, where it
-/// begins further on, the blocks from there.
-///
-/// `NoVertex` where it is to begin after a name that no vertex has.
-#[derive(Drop)]
-pub(crate) struct ListAnswer<'l> {
-    /// Where it begins.
-    pub(crate) resume: &'l Resume,
-    /// Room for one list after another.
-    pub(crate) links: &'l mut Links,
-}
-
-impl<'l, W: Sink> Visitor<W> for ListAnswer<'l> {
-    type Answer = Result<(), Fault>;
-
-    ghost needs = { λ _ _ _ old. W.has_failed old ≡ false };
-
-    ghost gives = { λ v g sort old new result.
-        IsEnded (list_answer (graph_described (described_by g)) v.resume.now)
-        (effect W.written W.has_failed old new) result
-        × (IsPast (names_of (graph_described (described_by g))) v.resume.now
-        → IfErr result (λ f. f ≢ fault.Panic NoRoom))
-        × (sort ≡ of_subsets → IfErr result (λ f. f ≢ fault.Panic NoRoom))
-        × (sort ≡ of_simplex → IfErr result (λ f. f ≡ fault.Panic NoRoom
-        → (v.resume.now ≡ Whole) × (new ≡ old))) };
-}
-
-impl<'a, 'l, L: Listed<'a>, W: Sink> Visit<'a, L, W> for ListAnswer<'l> {
-    fn visit(self, listed: &mut L, out: &mut W) -> Result<(), Fault> {
-        let start = start_of(listed.family(), self.resume)?;
-        listed.prepare(self.links);
-        list_vectors(
-            listed,
-            has_head(self.resume),
-            slice_of(&start),
-            self.links,
-            out,
-        )
-    }
-}
-
-// Writes the listing of a graph by what a listing asks of it, as `list_family` does.
-fn list_vectors<'a, L: Listed<'a>, W: Sink>(
+/// Writes the listing of a graph by what a listing asks of it, as `list_family` does.
+pub(super) fn list_vectors<'a, L: Listed<'a>, W: Sink>(
     listed: &mut L,
     head: bool,
     after: Option<&[u32]>,
@@ -172,6 +161,8 @@ fn list_vectors<'a, L: Listed<'a>, W: Sink>(
     ensures subsets { L.sort listed.old ≡ of_subsets → IfErr result (λ f. f ≡ Fault.Write) }
     ensures simplex { L.sort listed.old ≡ of_simplex → IfErr result (λ f. f ≢ Fault.Write
         → (head ≡ true) × (out.new ≡ out.old)) }
+    ensures untouched { L.sort listed.old ≢ of_board
+        → IfErr result (λ f. f ≢ Fault.Write → out.new ≡ out.old) }
 {
     let vectors = vectors_after(listed.family(), after);
     let mut page = Page::new();
@@ -263,117 +254,6 @@ fn push_block<'a, L: Listed<'a>, W: Sink>(
         return push_block_of_runs(runs, name, page, out);
     }
     push_listed_block(listed, x, links, name, page, out)
-}
-
-// The same of the vector of this name, where its list is had run by run.
-fn push_block_of_runs<W: Sink>(
-    runs: Runs<'_>,
-    name: &KeptName,
-    page: &mut Page,
-    out: &mut W,
-) -> Result<(), Fault>
-    requires named { name.now ≡ runs.x }
-    requires short { length name.now ≤ most_dimensions + 1 }
-    requires sound { W.has_failed out.old ≡ false }
-    ensures { IsPaged page.old
-        (name_line (name_of_vector name.now) ++ flat_map local_line runs.entry.arcs) page.new
-        (change W.written W.has_failed out.old out.new) result }
-{
-    name.push_line(page, out)?;
-    push_runs(runs, name, page, out)?;
-    Ok(())
-}
-
-// Hands the lines of a list's arcs to a page, run by run.
-fn push_runs<W: Sink>(
-    runs: Runs<'_>,
-    name: &KeptName,
-    page: &mut Page,
-    out: &mut W,
-) -> Result<(), Fault>
-    requires named { name.now ≡ runs.x }
-    requires short { length name.now ≤ most_dimensions + 1 }
-    requires sound { W.has_failed out.old ≡ false }
-    ensures { IsPaged page.old (flat_map local_line runs.entry.arcs) page.new
-        (change W.written W.has_failed out.old out.new) result }
-{
-    let mut left = runs;
-    for _run in 0..left.len() {
-        let run = left.next_run();
-        push_ahead(&left, run.ahead, run.farthest, name, page, out)?;
-        push_back(&left, run.back, run.farthest_back, name, page, out)?;
-    }
-    Ok(())
-}
-
-// Hands the lines of the arcs by a displacement that moves these coordinates to a page: those of the lengths up to `farthest`,
-// the longest first.
-fn push_ahead<W: Sink>(
-    runs: &Runs,
-    parts: &[(usize, i32)],
-    farthest: u32,
-    name: &KeptName,
-    page: &mut Page,
-    out: &mut W,
-) -> Result<(), Fault>
-    requires named { name.now ≡ runs.now.x }
-    requires parts { AreMoved (length name.now) parts.now }
-    requires short { length name.now ≤ most_dimensions + 1 }
-    requires sound { W.has_failed out.old ≡ false }
-    ensures { IsPaged page.old (flat_map local_line
-        (reverse (arcs_along runs.now.sizes runs.now.wrap name.now parts.now farthest))) page.new
-        (change W.written W.has_failed out.old out.new) result }
-{
-    for shorter in (0..farthest).rev() {
-        push_moved_arc(runs, parts, shorter + 1, name, page, out)?;
-    }
-    Ok(())
-}
-
-// The same, the shortest first.
-fn push_back<W: Sink>(
-    runs: &Runs,
-    parts: &[(usize, i32)],
-    farthest: u32,
-    name: &KeptName,
-    page: &mut Page,
-    out: &mut W,
-) -> Result<(), Fault>
-    requires named { name.now ≡ runs.now.x }
-    requires parts { AreMoved (length name.now) parts.now }
-    requires short { length name.now ≤ most_dimensions + 1 }
-    requires sound { W.has_failed out.old ≡ false }
-    ensures { IsPaged page.old (flat_map local_line
-        (arcs_along runs.now.sizes runs.now.wrap name.now parts.now farthest)) page.new
-        (change W.written W.has_failed out.old out.new) result }
-{
-    for shorter in 0..farthest {
-        push_moved_arc(runs, parts, shorter + 1, name, page, out)?;
-    }
-    Ok(())
-}
-
-// Hands the line of the arc of length `l` by a displacement that moves these coordinates to a page.
-fn push_moved_arc<W: Sink>(
-    runs: &Runs,
-    parts: &[(usize, i32)],
-    l: u32,
-    name: &KeptName,
-    page: &mut Page,
-    out: &mut W,
-) -> Result<(), Fault>
-    requires named { name.now ≡ runs.now.x }
-    requires parts { AreMoved (length name.now) parts.now }
-    requires short { length name.now ≤ most_dimensions + 1 }
-    requires sound { W.has_failed out.old ≡ false }
-    ensures { IsPaged page.old (local_line (arc_along runs.now.sizes runs.now.wrap name.now
-        parts.now l)) page.new (change W.written W.has_failed out.old out.new) result }
-{
-    make_room(page, out)?;
-    begin_arc(page);
-    name.push_moved(runs, parts, l, page);
-    end_counted_arc(page, l);
-    Ok(())
 }
 
 // The same of a vector's list that is kept.

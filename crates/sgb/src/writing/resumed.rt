@@ -2,10 +2,12 @@
 //!
 //! A name, or a number of vertices, is turned into the vector after which an answer begins (`start_of`, for names and
 //! for listings). So what `list_family` promises speaks of the graph alone.
-ghost use Rattle.std.specs.Prelude.{◌≡◌, ◌≢◌, false, drop, map, option_map, Contains, Err, IfSome};
+ghost use Rattle.std.specs.Prelude.{◌≡◌, ◌≢◌, false, true, drop, map, option_map, Contains, Err, IfSome};
+ghost use Rattle.std.specs.Bool.{OnFalse, OnTrue};
 ghost use Rattle.std.specs.Result.{MatchResult};
 ghost use Rattle.sgb_graph.specs.Graphs.{GraphData};
 ghost use Rattle.sgb_vec.specs.Names.{name_of_vector};
+ghost use Rattle.sgb.specs.Certain.{IsPast};
 ghost use Rattle.sgb.specs.Locals.{head_if, left_out_after};
 ghost use Rattle.sgb.specs.Outcomes.{head_for, left_out};
 ghost use Rattle.sgb.specs.Texts.{head};
@@ -18,6 +20,7 @@ use sgb_vec::{Family, Vector, Vectors, vector_of};
 pub(super) fn has_head(resume: &Resume) -> bool
     ensures head { (g : GraphData) → head_if result g ≡ head_for resume.now (head g) }
     ensures resumed { resume.now ≢ Resume.Whole → result ≡ false }
+    ensures whole { resume.now ≡ Resume.Whole → result ≡ true }
 {
     match resume {
         Resume::Whole => true,
@@ -41,6 +44,22 @@ pub(super) fn start_of<F: Family>(family: &F, resume: &Resume) -> Result<Option<
             Some(vector) => Ok(Some(vector)),
             None => Err(Fault::NoVertex),
         },
+    }
+}
+
+/// Whether the answer is to begin after a name that no vector has, or is resumed after all vectors.
+pub(super) fn is_past<F: Family>(family: &F, resume: &Resume) -> bool
+    ensures past { OnTrue result
+        (IsPast (map name_of_vector (F.members family.now)) resume.now) }
+    ensures before { OnFalse result
+        (IsPast (map name_of_vector (F.members family.now)) resume.now → ⊥) }
+{
+    if has_head(resume) {
+        return false;
+    }
+    match start_of(family, resume) {
+        Ok(start) => vectors_after(family, slice_of(&start)).front().is_none(),
+        Err(_no_vertex) => true,
     }
 }
 

@@ -28,7 +28,8 @@ impl<'a> Sink for FillSink<'a> {
     fn put(&mut self, bytes: &[u8]) -> Result<usize, Failed>
         ensures bound { WritesAtMost result bytes.now }
         ensures progress { IfOk result (λ count. 0 < length bytes.now → 0 < count) }
-        ensures took { WriteAppends (Some (self.old.out.ghost_name ∷ take self.old.at self.old.out.now))
+        ensures took { WriteAppends
+            (Some (self.old.out.ghost_name ∷ take self.old.at self.old.out.now))
             (Some (self.new.out.ghost_name ∷ take self.new.at self.new.out.now)) result bytes.now }
         ensures failed { self.new.failed ≡ is_err result }
         ensures stays_failed { self.old.failed ≡ true → self.new.failed ≡ true }

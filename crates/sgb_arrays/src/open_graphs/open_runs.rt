@@ -38,12 +38,11 @@ impl OpenGraph {
 
     /// How many bytes their names have. No memory is taken.
     ///
-    /// Refused as `arcs_len` is.
-    pub fn names_len(&self, _alloc: Global, first: u32, count: u32) -> Result<u64, Wrong>
+    /// `Vertices` where there are not so many vertices.
+    pub fn names_len(&self, first: u32, count: u32) -> Result<u64, Wrong>
         ensures count { IfOk result (λ bytes. IsThere (graph_open self.now) first count
             × (bytes ≡ length (parts_of (name_at (graph_open self.now)) first count))) }
-        ensures refused { IfErr result
-            (IsSizeRefusal (graph_open self.now) first count (IsListed self.now)) }
+        ensures refused { IfErr result (IsSizeRefusal (graph_open self.now) first count ⊥) }
     {
         match self {
             OpenGraph::Built(packed) => names_len(packed.graph(), first, count),
@@ -227,7 +226,7 @@ fn local_names_len(local: &Local, first: u32, count: u32) -> Result<u64, Wrong>
         × (bytes ≡ length (parts_of (name_at (graph_open (OpenGraph.Listed local.now))) first
         count))) }
     ensures refused { IfErr result
-        (IsSizeRefusal (graph_open (OpenGraph.Listed local.now)) first count ⊤) }
+        (IsSizeRefusal (graph_open (OpenGraph.Listed local.now)) first count ⊥) }
 {
     if !is_there(local.size(), first, count) {
         return Err(Wrong::Vertices);

@@ -7,13 +7,15 @@ returns-in_err-local-clause-certain g c = λ needs.
 
 pub returns-clause-certain : goal.returns-clause-certain
 returns-clause-certain g c = λ needs.
-    let (ended, past, subsets, simplex) = c.visit.ensures in
-    listing_begun c.args.generator.now c.args.resume.now c.in_ok-local.local _ _ _ c.in_ok-local.ensures.value c.in_ok-local.ensures.sort c.in_ok-local.ensures.refused past subsets simplex needs
+    let listed = c.write_local_list.ensures in
+    listing_begun c.args.generator.now c.args.resume.now c.in_ok-local.local _ _ _ c.in_ok-local.ensures.value c.in_ok-local.ensures.sort c.in_ok-local.ensures.refused listed.past listed.subsets
+    listed.simplex needs
 
 pub returns-in_err-local-clause-untouched : goal.returns-in_err-local-clause-untouched
 returns-in_err-local-clause-untouched g c = λ other. exit_untouched _ _
 
 pub returns-clause-untouched : goal.returns-clause-untouched
-returns-clause-untouched g c = λ other.
-    let (ended, past, subsets, simplex) = c.visit.ensures in
-    listing_untouched c.args.generator.now c.args.resume.now c.in_ok-local.local _ _ _ c.in_ok-local.ensures.sort subsets simplex other
+returns-clause-untouched g c = λ keeps.
+    let listed = c.write_local_list.ensures in
+    listing_untouched c.args.generator.now c.args.resume.now c.in_ok-local.local _ _ _ c.in_ok-local.ensures.value c.in_ok-local.ensures.sort c.in_ok-local.ensures.board listed.subsets listed.simplex
+    listed.board keeps

@@ -1,6 +1,6 @@
 use Rattle.sgb_gen.specs.Generators.{generator_value, made}
 use Rattle.sgb_values.proofs.StdinValues.{generated_on}
-use Rattle.sgb.proofs.CertainAnswers.{at_once_other, at_once_unmade, exit_panic, exit_untouched, listing_of_generator, listing_of_graph, never, other_sort}
+use Rattle.sgb.proofs.CertainAnswers.{at_once_other, at_once_unmade, exit_panic, exit_untouched, listing_of_generator, listing_of_graph, never, board_of_generator}
 use Rattle.sgb.proofs.Endings.{ended_value, refused_value}
 use Rattle.sgb.proofs.runs.answer_list.Goals as goal
 
@@ -37,4 +37,4 @@ pub returns-clause-untouched : goal.returns-clause-untouched
 returns-clause-untouched g c = λ other. never _ _ c.write_listing.ensures.certain
 
 pub returns-in-Generator-clause-untouched : goal.returns-in-Generator-clause-untouched
-returns-in-Generator-clause-untouched g c = λ other. c.answer_generator_list.ensures.untouched (other_sort _ _ c.in-Generator.is other)
+returns-in-Generator-clause-untouched g c = λ other. c.answer_generator_list.ensures.untouched (board_of_generator _ _ c.in-Generator.is other)

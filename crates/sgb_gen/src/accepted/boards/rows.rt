@@ -85,7 +85,8 @@ impl Board {
         requires vertex { u < length (box self.now.sizes) }
         requires row { IsRowAt self.now t.now u row.old.coordinate row.old.most }
         ensures row { IsRowAt self.now t.now (u + 1) row.new.coordinate row.new.most }
-        ensures farthest { IsFarthest self.now (vector_at self.now.sizes u) (parts_of t.now) result }
+        ensures farthest { IsFarthest self.now (vector_at self.now.sizes u) (parts_of t.now)
+            result }
     {
         let width = self.last_size();
         self.enter_row(others, u, width, row);
@@ -169,7 +170,8 @@ impl Board {
     #[inline(always)]
     fn add_run(&self, graph: &mut Graph, u: u32, places: u32, farthest: u32) -> Result<(), Panic>
         requires vertex { u < length graph.old.vertices }
-        requires tips { (l : ℕ) → 0 < l → l ≤ farthest → u + l * places < length graph.old.vertices }
+        requires tips { (l : ℕ) → 0 < l → l ≤ farthest
+            → u + l * places < length graph.old.vertices }
         requires few { (l : ℕ) → 0 < l → l ≤ farthest → u + l * places < most_vertices }
         requires plain { HasPlainArcs graph.old }
         ensures ok { OnOk result (AddsEvents self.now.directed graph.old graph.new

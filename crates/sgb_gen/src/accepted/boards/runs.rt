@@ -18,6 +18,7 @@ ghost use Rattle.sgb_gen.specs.LocalLists.{list_at};
 ghost use Rattle.sgb_gen.specs.MovedCoordinates.{part_at, parts_of};
 ghost use Rattle.sgb_gen.specs.Moves.{opposite, place, sides_of};
 ghost use Rattle.sgb_gen.specs.Runs.{AreMoved, arcs_along, arcs_of_run};
+ghost use Rattle.sgb_gen.specs.inner.EntryBounds.{displacements_within, entry_bounds};
 ghost use Rattle.sgb_gen.specs.inner.Moves.{destination, longest_move};
 ghost use Rattle.sgb_gen.specs.inner.MovedCoordinates.{IsInside, StayAtOne, parts_stay};
 ghost use Rattle.sgb_gen.specs.inner.StraightLists.{AreOnward, IsLeaper, IsRun, arcs_back, arcs_from};
@@ -233,6 +234,42 @@ impl Board {
         }
         self.farthest(x, t, near)
     }
+
+    // The list of the vertex of `x` run by run, by the displacements in a table, of which no entry is greater than `widest`:
+    // where all of them lead to later vectors (`straight`), or those of a leaper do (`leaping`) and no side is near.
+    pub(super) fn runs_of<'b>(
+        &'b self,
+        x: &'b [u32],
+        table: &'b DisplacementTable,
+        straight: bool,
+        leaping: bool,
+        widest: u32,
+    ) -> Option<Runs<'b>>
+        requires member { Contains (box self.now.sizes) x.now }
+        requires table { table.now ≡ displacements_within (nat_abs self.now.piece)
+            (entry_bounds (nat_abs self.now.piece) (sides_of self.now.sizes self.now.wrap)) }
+        requires straight { OnTrue straight (AreOnward self.now.wrap table.now) }
+        requires widest { All (All (λ e. nat_abs e ≤ widest)) table.now }
+        requires leaper { OnTrue leaping (IsLeaper self.now) }
+        requires flat { OnTrue leaping (AreOnward (pos 0) table.now) }
+        ensures sizes { IfSome result (λ r. r.sizes ≡ self.now.sizes) }
+        ensures wrap { IfSome result (λ r. r.wrap ≡ self.now.wrap) }
+        ensures vector { IfSome result (λ r. r.x ≡ x.now) }
+        ensures arcs { IfSome result (λ r. r.arcs ≡ list_at self.now.directed (box self.now.sizes)
+            (moves_of_board self.now) x.now) }
+    {
+        let near = self.is_inside(x, widest);
+        if !have_runs(straight, leaping, near) {
+            return None;
+        }
+        Some(Runs {
+            board: self,
+            table,
+            x,
+            left: table.len(),
+            near,
+        })
+    }
 }
 
 impl<'a> BoardLists<'a> {
@@ -247,18 +284,11 @@ impl<'a> BoardLists<'a> {
         ensures arcs { IfSome result (λ r. r.arcs ≡ list_at self.now.directed (box self.now.sizes)
             (moves_of_board self.now) x.now) }
     {
-        let near = self.board.is_inside(x, self.widest);
-        if !have_runs(self.straight, self.leaping, near) {
-            return None;
-        }
         match &self.table {
-            Some(table) => Some(Runs {
-                board: self.board,
-                table,
-                x,
-                left: table.len(),
-                near,
-            }),
+            Some(table) => {
+                self.board
+                    .runs_of(x, table, self.straight, self.leaping, self.widest)
+            }
             None => None,
         }
     }

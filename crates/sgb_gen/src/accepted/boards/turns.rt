@@ -129,7 +129,8 @@ impl Board {
             (moves_by (sides_of self.now.sizes self.now.wrap) self.now.piece (box self.now.sizes)
             t.now))
             ≡ (map (arc_along self.now.sizes self.now.wrap x.now (parts_of (opposite t.now)))
-            (range_with_len (result + 1) (behind - result)) ++ reverse (arcs_from self.now x.now t.now))
+            (range_with_len (result + 1) (behind - result))
+            ++ reverse (arcs_from self.now x.now t.now))
             ++ arcs_along self.now.sizes self.now.wrap x.now (parts_of (opposite t.now)) result }
     {
         if self.directed {
@@ -155,7 +156,8 @@ impl Board {
             (moves_by (sides_of self.now.sizes self.now.wrap) self.now.piece (box self.now.sizes)
             t.now))
             ≡ (map (arc_along self.now.sizes self.now.wrap x.now (parts_of (opposite t.now)))
-            (range_with_len (result + 1) (behind - result)) ++ reverse (arcs_from self.now x.now t.now))
+            (range_with_len (result + 1) (behind - result))
+            ++ reverse (arcs_from self.now x.now t.now))
             ++ arcs_along self.now.sizes self.now.wrap x.now (parts_of (opposite t.now)) result }
     {
         let (k, entry) = t.parts()[0];

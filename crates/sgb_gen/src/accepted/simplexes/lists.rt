@@ -134,7 +134,8 @@ fn push_on<K: ArcSink<R, S>, R, S>(
     requires ready { K.ready sink.now room.old out.old }
     ensures same { OnOk result (tip.new ≡ tip.old) }
     ensures given { AreGiven (K.took sink.now) (K.cut sink.now) room.old out.old
-        (arcs_on bounds.now tip.old (reverse (pairs_of_places (length tip.old)))) room.new out.new result }
+        (arcs_on bounds.now tip.old (reverse (pairs_of_places (length tip.old))))
+        room.new out.new result }
     ensures ready { OnOk result (K.ready sink.now room.new out.new) }
 {
     for lower in (0..tip.len()).rev() {

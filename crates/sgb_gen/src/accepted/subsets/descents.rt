@@ -231,7 +231,8 @@ fn push_greater<K: ArcSink<R, S>, R, S>(
     ensures given { AreGiven (K.took sink.now) (K.cut sink.now) room.old out.old
         (arcs_under begun.size_bits (front_of tip.old (own ∷ x.now))
         begun.common (own ∷ x.now)
-        (rows begun.left bounds.now (entries.least + 1) (entries.count - 1))) room.new out.new result }
+        (rows begun.left bounds.now (entries.least + 1) (entries.count - 1)))
+        room.new out.new result }
     ensures ready { OnOk result (K.ready sink.now room.new out.new) }
 {
     if entries.count < 2 {
@@ -271,7 +272,8 @@ fn push_rows<K: ArcSink<R, S>, R, S>(
     ensures same { OnOk result (front_of tip.new (own ∷ x.now) ≡ front_of tip.old (own ∷ x.now)) }
     ensures given { AreGiven (K.took sink.now) (K.cut sink.now) room.old out.old
         (arcs_under begun.size_bits (front_of tip.old (own ∷ x.now))
-        begun.common (own ∷ x.now) (rows begun.left bounds.now entries.least entries.count)) room.new out.new result }
+        begun.common (own ∷ x.now) (rows begun.left bounds.now entries.least entries.count))
+        room.new out.new result }
     ensures ready { OnOk result (K.ready sink.now room.new out.new) }
 {
     for k in (0..entries.count).rev() {

@@ -147,7 +147,8 @@ fn take_in(table: &mut PairTable, total: usize, bound: usize)
 fn count_pairs(table: &PairTable, bound: usize, first: usize, second: usize, common: usize) -> u64
     requires { max first second + common < 20 }
     ensures { (size_bits total : ℕ) (bounds : List ℕ) → max first second + common ≤ total
-        → HasTurnedPairs size_bits total ((first * 20 + second) * 20 + common + 1) bound bounds table.now
+        → HasTurnedPairs size_bits total ((first * 20 + second) * 20 + common + 1) bound bounds
+        table.now
         → result ≡ pair_cell size_bits (bound ∷ bounds) first second common }
 {
     let mut counted: u64 = 0;
@@ -169,7 +170,8 @@ fn count_row(
     requires entry { entry ≤ first }
     requires small { max first second + common < 20 }
     ensures { (size_bits total : ℕ) (bounds : List ℕ) → max first second + common ≤ total
-        → HasTurnedPairs size_bits total ((first * 20 + second) * 20 + common + 1) bound bounds table.now
+        → HasTurnedPairs size_bits total ((first * 20 + second) * 20 + common + 1) bound bounds
+        table.now
         → result ≡ kept (pairs_among size_bits common (row first bounds entry)
         (rows second bounds 0 (min second bound + 1))) }
 {

@@ -47,6 +47,13 @@ returns-in_err-put_page-clause-subsets g c = λ same. exit_write _ _ c.from_resi
 pub returns-in_err-put_page-clause-simplex : goal.returns-in_err-put_page-clause-simplex
 returns-in_err-put_page-clause-simplex g c = λ same. write_alone _ _ (exit_write _ _ c.from_residual-in_err-put_page.ensures.1 c.in_err-put_page.ensures.fault)
 
+-- where no list is kept what comes before the blocks is all that wants memory
+pub returns-in_err-push_head_if-clause-untouched : goal.returns-in_err-push_head_if-clause-untouched
+returns-in_err-push_head_if-clause-untouched g c = λ other. all_err _ c.from_residual.result (λ f none. refl)
+
+pub returns-in_err-put_page-clause-untouched : goal.returns-in_err-put_page-clause-untouched
+returns-in_err-put_page-clause-untouched g c = λ other. write_alone _ _ (exit_write _ _ c.from_residual-in_err-put_page.ensures.1 c.in_err-put_page.ensures.fault)
+
 pub returns : goal.returns
 returns g c =
     let graph = g.L.Listed.graph c.args.listed.now in
@@ -59,4 +66,5 @@ returns g c =
       end = λ plain none. c.write_blocks.ensures.end (rest ∙ none);
       subsets = λ same. c.write_blocks.ensures.fault (λ board. absurd cc);
       simplex = λ same. write_alone _ _ (c.write_blocks.ensures.fault (λ board. absurd cc));
+      untouched = λ other. write_alone _ _ (c.write_blocks.ensures.fault other);
     }

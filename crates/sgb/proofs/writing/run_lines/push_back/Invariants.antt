@@ -1,0 +1,13 @@
+use Rattle.std.proofs.Common.{◌≡◌, ◌+◌, ◌-◌, false, map}
+use Rattle.std.specs.List.{flat_map, range_with_len}
+use Rattle.sgb_gen.specs.Runs.{arc_along, arcs_along}
+use Rattle.sgb.specs.inner.Locals.{local_line}
+use Rattle.sgb.proofs.Pages.{PagedSoFar}
+use Rattle.sgb.proofs.writing.run_lines.push_back.Given as goal
+
+-- the lines of the arcs of greater lengths are left
+abbrev pub invariant-loop-shorter : goal.invariant-loop-shorter
+invariant-loop-shorter g l =
+    PagedSoFar (flat_map local_line (arcs_along l.runs.sizes l.runs.wrap l.name l.parts l.farthest))
+    (flat_map local_line (map (arc_along l.runs.sizes l.runs.wrap l.name l.parts) (range_with_len (l.shorter + 1) (l.farthest - l.shorter)))) l.fn.page l.page (g.W.Sink.written l.fn.out) (g.W.Sink.written l.out)
+    × (g.W.Sink.has_failed l.out ≡ false)
