@@ -3,6 +3,6 @@ mod boards;
 mod simplexes;
 mod subsets;
 
-pub use boards::{Board, BoardLists, Run, Runs, Stride, StridedBoard, Strides};
+pub use boards::{Board, BoardLists, FlatLists, Run, Runs, Stride, StridedBoard, Strides};
 pub use simplexes::Simplex;
 pub use subsets::{Subsets, common};
