@@ -46,6 +46,7 @@ CALLS = [
     "Subsets::new",
     "complement",
     "gunion",
+    "gunion_of",
     "intersection",
     "lines",
     "product",
