@@ -45,6 +45,7 @@ CALLS = [
     "Subsets::new",
     "complement",
     "gunion",
+    "gunion_of",
     "intersection",
     "lines",
     "product",

@@ -34,6 +34,8 @@ mod InsideRuns
 mod StrideTips
 -- vertices one after another that no side is near, by strides
 mod InsideRows
+-- boards with no side that wraps around: no arc leads to its own vertex
+mod FlatBoards
 -- a board's arcs that are handed out one by one
 pub mod GivenArcs
 -- how many lengths a piece moves at most

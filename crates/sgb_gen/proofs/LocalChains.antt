@@ -1,6 +1,7 @@
 -- The lists of a graph of vectors, by the arcs of its vectors.
-use Rattle.std.proofs.Common.{rules, ◌≡◌, ◌∙◌, ◌<◌, ℕ, suc, Bool, List, [], ◌∷◌, length, map, Some, refl, sym, ap, subst, arith}
+use Rattle.std.proofs.Common.{rules, ◌≡◌, ◌∙◌, ◌<◌, ℕ, suc, Bool, List, [], ◌∷◌, get_or, length, map, Some, refl, sym, ap, subst, arith}
 use Rattle.std.specs.List.{All, Contains, slice_get}
+use Rattle.std.proofs.lemmas.List.Elements.{Contains-get_or}
 use Rattle.std.proofs.lemmas.Option.{get_or_from_slice_get, slice_get-get_or, slice_get_within}
 use Rattle.sgb_vec.specs.Lexicographic.{IsRising}
 use Rattle.sgb_vec.proofs.Lists.{All-flat_map}
@@ -68,3 +69,11 @@ pub chain_said : (g : VectorGraph) → IsRising g.vectors → All (HasEnds g.vec
     → SayList g.vectors (list_in g x) (chain_of (graph_described (described_by g)) v)
 chain_said g rise ends v x there =
     say_list g.directed g.vectors g.moves rise ends (graph_described (described_by g)) (lists_of_graph g rise ends) v x there
+
+-- the arcs of each list lead to vertices
+pub tips_within : (g : VectorGraph) → IsRising g.vectors → All (HasEnds g.vectors) g.moves → (v : ℕ) → v < length g.vectors
+    → All (λ l. l.tip < length g.vectors) (chain_of (graph_described (described_by g)) v)
+tips_within g rise ends v within =
+    let events = map (event_among g.vectors) g.moves in
+    subst (All (λ (l : Link). l.tip < length g.vectors)) (sym (lists_of_graph g rise ends v within))
+    (λ k d h. tip_of_link (length g.vectors) g.directed events v (get_or (list_of g.directed events v) k d) (events_within g.vectors g.moves rise ends) (Contains-get_or (list_of g.directed events v) k d h))

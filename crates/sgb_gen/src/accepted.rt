@@ -3,6 +3,8 @@ mod boards;
 mod simplexes;
 mod subsets;
 
-pub use boards::{Board, BoardLists, OrderedBoard, Run, Runs, Stride, StridedBoard, Strides};
+pub use boards::{
+    Board, BoardLists, FlatLists, OrderedBoard, Run, Runs, Stride, StridedBoard, Strides,
+};
 pub use simplexes::Simplex;
 pub use subsets::{Subsets, common};

@@ -41,8 +41,8 @@ mod vector_tables;
 mod visits;
 
 pub use accepted::{
-    Board, BoardLists, OrderedBoard, Run, Runs, Simplex, Stride, StridedBoard, Strides, Subsets,
-    common,
+    Board, BoardLists, FlatLists, OrderedBoard, Run, Runs, Simplex, Stride, StridedBoard, Strides,
+    Subsets, common,
 };
 pub use arc_sinks::ArcSink;
 pub use counted_places::CountedPlaces;

@@ -234,6 +234,10 @@ impl<'a> Listed<'a> for OrderedBoard<'a> {
         Ok(self.give(x, sink, room, out))
     }
 
+    fn count_at(&self, _x: &[u32]) -> Option<u64> {
+        None
+    }
+
     fn runs<'b>(&'b self, x: &'b [u32]) -> Option<Runs<'b>> {
         OrderedBoard::runs(self, x)
     }

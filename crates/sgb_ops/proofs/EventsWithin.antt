@@ -31,7 +31,7 @@ merged_unless_within n true directed events all = all
 merged_unless_within n false directed events all = merged_keeps (HasEndsBelow n) (λ e far h. h) directed events all
 
 -- the arcs of a graph lead to its vertices
-chain_tips : (g : GraphData) (v : ℕ) → IsKept g → v < length g.vertices → All (TipBelow (length g.vertices)) (chain_of g v)
+pub chain_tips : (g : GraphData) (v : ℕ) → IsKept g → v < length g.vertices → All (TipBelow (length g.vertices)) (chain_of g v)
 chain_tips g v kept below = grind (arith, All-nil, tips_below, parts_of)
 
 -- what is true of all arcs is true of those that are taken

@@ -21,6 +21,8 @@ pub mod EventsWithin
 pub mod WantedEvents
 -- the names and the events of copies fit
 pub mod CopiesWithin
+-- the events of a list by its tips and lengths
+pub mod ListedEvents
 -- the events of a union
 pub mod UnionEvents
 -- what is noted of arcs

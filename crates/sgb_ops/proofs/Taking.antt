@@ -102,7 +102,7 @@ pub step_directed : (v : ℕ) (after_loop : Option ℕ) (l : Link) → is_other 
 step_directed v after_loop l out = grind (arith)
 
 -- one arc of the list of an undirected graph
-one_taken : (v : ℕ) (l : Link) (links : List Link)
+pub one_taken : (v : ℕ) (l : Link) (links : List Link)
     → each_edge_once v (l ∷ links) ≡ (if nat_lt l.tip v then each_edge_once v links else l ∷ each_edge_once v (without_other (if l.tip == v then Some l.number else None) links))
 unfolding each_edge_once
 one_taken v l links = grind (arith, nat_lt)

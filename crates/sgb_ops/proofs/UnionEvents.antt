@@ -7,7 +7,6 @@ use Rattle.std.proofs.lemmas.List.Elements.{All-append, All-filter, All-map, All
 use Rattle.sgb_vec.proofs.Lists.{filter-all}
 use Rattle.sgb_graph.specs.Graphs.{GraphData}
 use Rattle.sgb_graph.specs.Events.{Event}
-use Rattle.sgb_graph.specs.Growth.{IsKept}
 use Rattle.sgb_graph.specs.declared.fields.Link.{Link}
 use Rattle.sgb_ops.specs.inner.Ends.{AllWithin, event_of}
 use Rattle.sgb_ops.specs.Gunion.{union_events}
@@ -15,7 +14,9 @@ use Rattle.sgb_graph.specs.Vertices.{order_of, places_of}
 use Rattle.sgb_ops.specs.Taken.{taken}
 use Rattle.sgb_ops.specs.Merged.{has_ends_of, merged_unless}
 use Rattle.sgb_ops.specs.inner.Gunion.{union_arcs}
-use Rattle.sgb_ops.proofs.EventsWithin.{TipBelow, taken_tips, events_of_within, merged_unless_within}
+use Rattle.sgb_ops.proofs.EventsWithin.{TipBelow, events_of_within, merged_unless_within}
+use Rattle.sgb_ops.specs.inner.Sources.{HasTips}
+use Rattle.sgb_ops.proofs.ListedEvents.{listed_tips}
 use Rattle.sgb_ops.proofs.MergedParts.{AreApart, merged_parts}
 use Rattle.sgb_ops.proofs.Taking.{taken_up}
 
@@ -34,24 +35,24 @@ lead_below n links = λ k d h. ltb-true _ n (filter_passes (λ l. nat_lt l.tip n
 abbrev pub events_of : GraphData → GraphData → Bool → ℕ → List Event
 events_of g h directed v = map (event_of v) (union_arcs g h directed v)
 
-module _ (g h : GraphData) (directed : Bool) (v : ℕ) (kept : IsKept g) (below : v < order_of g) where
+module _ (g h : GraphData) (directed : Bool) (v : ℕ) (tips : HasTips g) (below : v < order_of g) where
   -- a vertex that both have
   pub of_both : (none old new : List Event) → v < order_of h → none ≡ []
       → old ≡ none ++ map (event_of v) (leading_below (order_of g) (taken directed g v))
       → new ≡ old ++ map (event_of v) (leading_below (order_of g) (taken directed h v))
       → new ≡ events_of g h directed v
-  of_both none old new has empty first second = search (rules, all_lead_below, taken_tips, lt-ltb, map-append)
+  of_both none old new has empty first second = search (rules, all_lead_below, listed_tips, lt-ltb, map-append)
 
   -- one that the second graph has not
   pub of_first : (none new : List Event) → order_of h ≤ v → none ≡ []
       → new ≡ none ++ map (event_of v) (leading_below (order_of g) (taken directed g v))
       → new ≡ events_of g h directed v
-  of_first none new past empty first = grind (arith, all_lead_below, taken_tips, le-ltb, append-nil)
+  of_first none new past empty first = grind (arith, all_lead_below, listed_tips, le-ltb, append-nil)
 
   -- its arcs lead to vertices of the first graph
   arcs_lead_below : All (TipBelow (order_of g)) (union_arcs g h directed v)
   arcs_lead_below =
-      All-append (TipBelow (order_of g)) (taken directed g v) _ (taken_tips directed g v kept below)
+      All-append (TipBelow (order_of g)) (taken directed g v) _ (listed_tips directed g v tips below)
       (cond_both (nat_lt v (order_of h)) (leading_below (order_of g) (taken directed h v)) [] (All (TipBelow (order_of g))) (λ _. lead_below (order_of g) (taken directed h v)) (λ _. All-nil (TipBelow (order_of g))))
 
   -- so the ends of its events that are left are vertices of a graph of that size

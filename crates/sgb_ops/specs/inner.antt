@@ -31,6 +31,8 @@ pub mod Merged
 pub mod Pairs
 -- when events may be merged part by part
 pub mod Parts
+-- the graphs that an operation reads
+pub mod Sources
 -- the steps of a product, part by part
 pub mod Steps
 -- the arcs taken of a list, met one by one

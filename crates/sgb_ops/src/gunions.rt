@@ -1,23 +1,19 @@
 //! The union of two graphs on the vertices of the first (GB_BASIC, gunion).
-ghost use Rattle.std.specs.Prelude.{◌≡◌, ◌<◌, ◌++◌, [], ◌∷◌, length, map, filter, nat_lt, OnOk, IfOk, IsOkUnless, if◌then◌else◌};
+ghost use Rattle.std.specs.Prelude.{◌≡◌, ◌<◌, length, map, OnOk, IfOk, IsOkUnless};
 ghost use Rattle.sgb_graph.specs.Descriptions.{IsAnswerOf};
 ghost use Rattle.sgb_graph.specs.Growth.{AddsEvents, HasPlainArcs};
 ghost use Rattle.sgb_ops.specs.inner.Ends.{event_of};
 ghost use Rattle.sgb_ops.specs.Gunion.{gunion_of, union_events};
 ghost use Rattle.sgb_ops.specs.Merged.{merged_unless};
-ghost use Rattle.sgb_ops.specs.Taken.{taken};
 ghost use Rattle.sgb_ops.specs.inner.Compounds.{gunion_id};
 ghost use Rattle.sgb_ops.specs.inner.Gunion.{union_arcs};
-// For the search alone.
-ghost use Rattle.sgb_graph.specs.declared.fields.Link.{Link};
 
 use crate::compounds::flag_byte;
 use crate::events::{Event, add_events};
 use crate::merged::merged_unless;
-use crate::operands::names_of;
-use crate::taken::taken;
-use sgb_graph::{Graph, Id, Link, double_compound_id};
-use sgb_vec::Panic;
+use crate::sources::Source;
+use sgb_graph::{Graph, Id, double_compound_id};
+use sgb_vec::{Panic, Vector};
 use std::alloc::Global;
 
 /// The union of two graphs (GB_BASIC, gunion): the graph of the names of `first` whose arcs, or edges unless
@@ -36,7 +32,28 @@ pub fn gunion(
 ) -> Result<Graph, Panic>
     ensures { IsAnswerOf (gunion_of first.now second.now multi directed) result }
 {
-    let names = names_of(alloc, first)?;
+    gunion_of(
+        alloc,
+        &Source::built(first),
+        &Source::built(second),
+        multi,
+        directed,
+    )
+}
+
+/// The same of graphs that need not be built.
+///
+/// `NoRoom` when out of memory, and nothing else.
+pub fn gunion_of(
+    alloc: Global,
+    first: &Source<'_>,
+    second: &Source<'_>,
+    multi: bool,
+    directed: bool,
+) -> Result<Graph, Panic>
+    ensures { IsAnswerOf (gunion_of first.now second.now multi directed) result }
+{
+    let names = first.names(alloc)?;
     let mut built = Graph::new(alloc, names)?;
     add_union_events(&mut built, alloc, first, second, multi, directed)?;
     built.set_id(gunion_id(first.id(), second.id(), multi, directed));
@@ -56,8 +73,8 @@ fn gunion_id(id1: &Id, id2: &Id, multi: bool, directed: bool) -> Id
 fn add_union_events(
     built: &mut Graph,
     alloc: Global,
-    first: &Graph,
-    second: &Graph,
+    first: &Source<'_>,
+    second: &Source<'_>,
     multi: bool,
     directed: bool,
 ) -> Result<(), Panic>
@@ -69,10 +86,11 @@ fn add_union_events(
 {
     // The events of each vertex take the memory of those of the vertex before.
     let mut room = Vec::new(alloc);
+    let mut x = Vector::new();
     for v in 0..first.n() {
         first.read_ahead(v);
         second.read_ahead(v);
-        let all = events_from(room, first, second, directed, v)?;
+        let all = events_from(room, first, second, directed, v, &mut x)?;
         let events = merged_unless(alloc, multi, directed, all)?;
         add_events(built, directed, &events)?;
         room = events;
@@ -80,13 +98,15 @@ fn add_union_events(
     Ok(())
 }
 
-// The events of vertex `v`, with parallel ones. They take the memory of those in `events`.
+// The events of vertex `v`, with parallel ones. They take the memory of those in `events`. `x` is what they are found with:
+// what it holds is open.
 fn events_from(
     mut events: Vec<Event>,
-    first: &Graph,
-    second: &Graph,
+    first: &Source<'_>,
+    second: &Source<'_>,
     directed: bool,
     v: u32,
+    x: &mut Vector,
 ) -> Result<Vec<Event>, Panic>
     requires vertex { v < length first.now.vertices }
     ensures ok { IfOk result (λ events. events.items
@@ -94,41 +114,10 @@ fn events_from(
     ensures memory { IsOkUnless result Panic.NoRoom }
 {
     events.clear();
-    push_taken(&mut events, first, directed, v, first.n())?;
+    first.push_taken(&mut events, directed, v, first.n(), x)?;
     if v >= second.n() {
         return Ok(events);
     }
-    push_taken(&mut events, second, directed, v, first.n())?;
+    second.push_taken(&mut events, directed, v, first.n(), x)?;
     Ok(events)
-}
-
-// Appends the events of the arcs taken of `v` in `graph` whose tip is below `n`.
-fn push_taken(
-    events: &mut Vec<Event>,
-    graph: &Graph,
-    directed: bool,
-    v: u32,
-    n: u32,
-) -> Result<(), Panic>
-    requires vertex { v < length graph.now.vertices }
-    ensures ok { OnOk result (events.new.items ≡ events.old.items
-        ++ map (event_of v) (filter (λ l. nat_lt l.tip n) (taken directed graph.now v))) }
-    ensures memory { IsOkUnless result Panic.NoRoom }
-{
-    for link in taken(graph, directed, v) {
-        push_arc(events, v, link, n)?;
-    }
-    Ok(())
-}
-
-// Appends the event of this arc of `v`, where its tip is below `n`.
-fn push_arc(events: &mut Vec<Event>, v: u32, link: Link, n: u32) -> Result<(), Panic>
-    ensures ok { OnOk result (events.new.items ≡ events.old.items
-        ++ (if nat_lt link.tip n then event_of v link ∷ [] else [])) }
-    ensures memory { IsOkUnless result Panic.NoRoom }
-{
-    if link.tip < n {
-        events.push(Event::new(v, link.tip, link.len))?;
-    }
-    Ok(())
 }

@@ -27,6 +27,8 @@ mod merged;
 mod operands;
 // The product of two graphs.
 mod products;
+// The graphs that an operation reads.
+mod sources;
 // The arcs taken of a vertex, each edge once.
 mod taken;
 // How many arcs lead to each vertex, and the least length.
@@ -36,7 +38,7 @@ mod wheels;
 
 pub use bipartite_graphs::bi_complete;
 pub use complements::complement;
-pub use gunions::gunion;
+pub use gunions::{gunion, gunion_of};
 pub use induced_graphs::{Entry, induced, induced_from};
 pub use intersections::intersection;
 pub use laws::{
@@ -45,4 +47,5 @@ pub use laws::{
 };
 pub use line_graphs::lines;
 pub use products::product;
+pub use sources::Source;
 pub use wheels::wheel;

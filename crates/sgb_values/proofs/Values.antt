@@ -1,15 +1,18 @@
 -- Values of expressions, from those of their operands.
-use Rattle.std.proofs.Common.{arith, ◌≡◌, ◌+◌, ℕ, Result, Ok, Err, ap, refl, ◌||◌, ◌++◌, Bool, Box, Global, List, [], ◌∷◌, ◌∙◌, append_assoc}
+use Rattle.std.proofs.Common.{arith, ◌≡◌, ◌+◌, ℕ, Result, Ok, Err, ap, refl, ◌||◌, ◌++◌, Bool, Box, Global, List, [], ◌∷◌, ◌∙◌, append_assoc, IfOk, IfErr}
 use Rattle.sgb_vec.specs.Results.{and_then, IsValue}
 use Rattle.sgb_vec.specs.declared.panics.Panic.{Panic}
 use Rattle.sgb_graph.specs.Descriptions.{Description, IsAnswerOf}
 use Rattle.sgb_graph.proofs.Described.{described_only}
 use Rattle.sgb_graph.specs.Graphs.{GraphData}
-use Rattle.sgb_expr.specs.Expression.{Expression, Generated, OfNumbers, OfGraph, OfGraphs, Induced, Stdin, Entry, Number, Graph, Entries, NoEntries, EntryThen, expression_of, entries_of}
+use Rattle.sgb_expr.specs.Expression.{Expression, Generated, OfNumbers, OfGraph, OfGraphs, Induced, Stdin, Gunion, Entry, Number, Graph, Entries, NoEntries, EntryThen, expression_of, entries_of}
 use Rattle.sgb_expr.specs.declared.expressions.Expr.{Expr}
 use Rattle.sgb_gen.specs.Generators.{made}
 use Rattle.sgb_values.specs.Values.{both, value_of, values_of}
+use Rattle.sgb_ops.specs.Gunion.{gunion_of}
 use Rattle.sgb_ops.specs.Induced.{induced_of}
+use Rattle.sgb_values.specs.inner.Operands.{graph_held}
+use Rattle.sgb_values.specs.declared.evaluation.unions.Operand.{Operand}
 use Rattle.sgb_expr.proofs.CodeExpressions.{induced_is}
 use Rattle.sgb_expr.specs.CodeEntries.{items_of}
 use Rattle.sgb_expr.specs.Listed.{listed}
@@ -50,13 +53,37 @@ pub value_two : (make : GraphData → GraphData → Result Description Panic) (s
     → IsAnswerOf (make operands.0 operands.1) r → IsValue (and_then (both (value_of stdin (expression_of e')) (value_of stdin (expression_of f'))) (λ x. made (make x.0 x.1))) r
 value_two make stdin e f e' f' operands r same alike is answer = rw (← same, ← alike, is) (value_made (make operands.0 operands.1) r answer)
 
+-- a refusal of what something is made of
+pub then_refused : {T U : Type 0} (v : Result T Panic) (make : T → Result U Panic) (p : Panic) → IsValue v (Err p) → IsValue (and_then v make) (Err p)
+then_refused v make p h = grind (arith)
+
+-- the value of a union, where the second operand may be refused
+pub union_answered : (stdin : Result GraphData Panic) (e f : Expression) (g : GraphData) (second : Result Operand Panic) (result : Result GraphData Panic) (multi directed : Bool)
+    → value_of stdin e ≡ Ok g → IfOk second (λ o. value_of stdin f ≡ Ok (graph_held o)) → IfErr second (λ p. IsValue (value_of stdin f) (Err p))
+    → IfOk second (λ o. IsAnswerOf (gunion_of g (graph_held o) multi directed) result) → IfErr second (λ p. result ≡ Err p)
+    → IsValue (value_of stdin (OfGraphs (Gunion multi directed) e f)) result
+union_answered stdin e f g (Ok o) result multi directed first is refused answer err = rw (first, is) (value_made (gunion_of g (graph_held o) multi directed) result answer)
+union_answered stdin e f g (Err p) result multi directed first is refused answer err = rw err (then_refused _ _ p (both_refused _ _ g p first refused))
+
+-- what it leaves, where it is made
+pub union_leaves : {T : Type 0} (second : Result Operand Panic) (result : Result T Panic) (P : Type 0) → IfErr second (λ p. result ≡ Err p) → IfOk second (λ _. P) → IfOk result (λ _. P)
+union_leaves (Ok o) (Ok x) P err left = left
+union_leaves (Ok o) (Err p) P err left = tt
+union_leaves (Err q) result P err left = rw err tt
+
+-- the same of operands that stand in boxes
+pub union_same : (multi directed : Bool) (stdin : Result GraphData Panic) (e f e' f' : Expr) (r : Result GraphData Panic) → e ≡ e' → f ≡ f'
+    → IsValue (value_of stdin (OfGraphs (Gunion multi directed) (expression_of e) (expression_of f))) r
+    → IsValue (value_of stdin (OfGraphs (Gunion multi directed) (expression_of e') (expression_of f'))) r
+union_same multi directed stdin e f e' f' r same alike is = rw (← same, ← alike) is
+
 abbrev mutual
   -- how large an expression is: larger than its operands together
   pub size_of : Expression → ℕ
   size_of (Generated f) = 1
   size_of (OfNumbers operation) = 1
   size_of (OfGraph operation e) = size_of e + 1
-  size_of (OfGraphs operation e f) = size_of e + size_of f + 2
+  size_of (OfGraphs operation e f) = size_of e + size_of f + 3
   size_of (Induced e entries self_loops multi directed) = size_of e + size_of_entries entries + 2
   size_of Stdin = 1
 
@@ -100,7 +127,3 @@ pub induced_reads : (e f : Expr) (es : List EntryExpr) (graph : Box Expr Global)
 induced_reads e f es graph entries self_loops multi directed is alike same =
     let whole = ap (λ x. has_stdin (expression_of x)) is ∙ ap has_stdin (induced_is graph entries self_loops multi directed) in
     grind (arith)
-
--- a refusal of what something is made of
-pub then_refused : {T U : Type 0} (v : Result T Panic) (make : T → Result U Panic) (p : Panic) → IsValue v (Err p) → IsValue (and_then v make) (Err p)
-then_refused v make p h = grind (arith)

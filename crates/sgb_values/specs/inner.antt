@@ -3,5 +3,7 @@
 pub mod EntryValues
 -- what is left of standard input
 pub mod Inputs
+-- operands that need not be built
+pub mod Operands
 -- functions that give the value of `stdin`
 pub mod StdinValues

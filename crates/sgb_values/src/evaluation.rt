@@ -3,16 +3,18 @@ ghost use Rattle.std.specs.Prelude.{◌≡◌, ◌||◌, ℕ, List, Result, Err,
 ghost use Rattle.sgb_vec.specs.declared.panics.Panic.{Panic};
 ghost use Rattle.sgb_graph.specs.Graphs.{GraphData};
 ghost use Rattle.sgb_expr.specs.Listed.{listed};
-ghost use Rattle.sgb_expr.specs.Expression.{entries_of, entry_of, expression_of};
+ghost use Rattle.sgb_expr.specs.Expression.{Gunion, OfGraphs, entries_of, entry_of, expression_of};
 ghost use Rattle.sgb_expr.specs.StdinUses.{entries_have_stdin, entry_has_stdin, has_stdin};
 ghost use Rattle.sgb_values.specs.FirstRefusals.{IsRefusedFirst};
 ghost use Rattle.sgb_vec.specs.Results.{IsValue};
 ghost use Rattle.sgb_values.specs.Values.{IsValueOn, both, entry_value, value_of, values_of};
 ghost use Rattle.sgb_values.specs.inner.EntryValues.{handed_entry};
 ghost use Rattle.sgb_values.specs.inner.Inputs.{left_after};
+ghost use Rattle.sgb_values.specs.inner.Operands.{graph_held};
 ghost use Rattle.sgb_values.specs.inner.StdinValues.{GivesStdin};
 
 mod entries;
+mod unions;
 
 use crate::kept::Kept;
 use crate::stdin::read_kept;
@@ -20,9 +22,10 @@ pub use entries::numbered_entry;
 use entries::{EntryValue, graph_value, handed_entries};
 use sgb_expr::{EntryExpr, Expr, have_stdin};
 use sgb_graph::Graph;
-use sgb_ops::{bi_complete, complement, gunion, induced_from, intersection, lines, product, wheel};
+use sgb_ops::{bi_complete, complement, induced_from, intersection, lines, product, wheel};
 use sgb_vec::Panic;
 use std::alloc::Global;
+use unions::{Operand, generated, union_of};
 
 /// The graph of an expression, where `input` is what was kept of standard input. Operands come before their operation,
 /// from left to right; each is dropped when the operation is made.
@@ -85,10 +88,7 @@ fn evaluate(
             second,
             multi,
             directed,
-        } => {
-            let (left, right) = operands(alloc, first, second, input, more)?;
-            gunion(alloc, &left, &right, *multi, *directed)
-        }
+        } => union(alloc, first, second, input, more, *multi, *directed),
         Expr::Intersection {
             first,
             second,
@@ -128,6 +128,56 @@ fn evaluate(
         Expr::Wheel { n, n1, directed } => wheel(alloc, *n, *n1, *directed),
         Expr::Stdin => read_kept(alloc, input, more),
     }
+}
+
+// The union of the graphs of two expressions; the first one's refusal before the second's.
+#[cycle(graphs)]
+fn union(
+    alloc: Global,
+    first: &Expr,
+    second: &Expr,
+    input: &mut Kept<'_>,
+    more: bool,
+    multi: bool,
+    directed: bool,
+) -> Result<Graph, Panic>
+    ensures value { (stdin : List ℕ → Result GraphData Panic) → GivesStdin stdin
+        → IsValue (value_of (stdin input.old) (OfGraphs (Gunion multi directed)
+        (expression_of first.now) (expression_of second.now))) result }
+    ensures left { IfOk result (λ _. input.new ≡ left_after more
+        (has_stdin (expression_of first.now) || has_stdin (expression_of second.now)) input.old) }
+    ensures refused { (p : Panic) → IsRefusedFirst input.old (expression_of first.now) p
+        → result ≡ Err p }
+{
+    let left = operand(alloc, first, input, more_with(more, second))?;
+    let right = operand(alloc, second, input, more);
+    union_of(alloc, left, right, multi, directed)
+}
+
+// The graph of an expression, which need not be built where a generator names it.
+#[cycle(graphs)]
+fn operand(
+    alloc: Global,
+    expression: &Expr,
+    input: &mut Kept<'_>,
+    more: bool,
+) -> Result<Operand, Panic>
+    ensures ok { (stdin : List ℕ → Result GraphData Panic) → GivesStdin stdin
+        → IfOk result (λ o. value_of (stdin input.old) (expression_of expression.now)
+        ≡ Ok (graph_held o)) }
+    ensures err { (stdin : List ℕ → Result GraphData Panic) → GivesStdin stdin
+        → IfErr result
+        (λ p. IsValue (value_of (stdin input.old) (expression_of expression.now)) (Err p)) }
+    ensures left { IfOk result (λ _. input.new
+        ≡ left_after more (has_stdin (expression_of expression.now)) input.old) }
+    ensures refused { (p : Panic) → IsRefusedFirst input.old (expression_of expression.now) p
+        → result ≡ Err p }
+{
+    if let Expr::Generator(generator) = expression {
+        return generated(alloc, generator);
+    }
+    let graph = evaluate(alloc, expression, input, more)?;
+    Ok(Operand::Built(graph))
 }
 
 // The graphs of two expressions; the first one's refusal before the second's.

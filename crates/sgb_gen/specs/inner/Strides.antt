@@ -32,3 +32,13 @@ pub record IsStrided (b : BoardData) (ts : List (List ℤ)) (places : List ℕ) 
   pub small : All (All (λ e. nat_abs e ≤ widest)) ts
   pub strides : map (λ s. pos s) places ≡ map (stride_of b.sizes) ts
   pub few : product_of b.sizes ≤ most_vertices
+
+-- what is kept of a board with no side that wraps around: its displacements, which lead onward, with no greater entry, and
+-- their strides
+pub record IsFlat (b : BoardData) (ts : List (List ℤ)) (places : List ℕ) (widest : ℕ) : Type 0 where
+  pub all : ts ≡ displacements_within (nat_abs b.piece) (entry_bounds (nat_abs b.piece) (sides_of b.sizes b.wrap))
+  pub onward : AreOnward b.wrap ts
+  pub flat : b.wrap ≡ pos 0
+  pub small : All (All (λ e. nat_abs e ≤ widest)) ts
+  pub strides : map (λ s. pos s) places ≡ map (stride_of b.sizes) ts
+  pub few : product_of b.sizes ≤ most_vertices

@@ -311,8 +311,8 @@ pub(super) fn widest_of(table: &Option<DisplacementTable>) -> u32
     }
 }
 
-// The greatest size of the entries of these displacements.
-fn widest_in(table: &DisplacementTable) -> u32
+/// The greatest size of the entries of these displacements.
+pub(super) fn widest_in(table: &DisplacementTable) -> u32
     ensures { All (All (λ e. nat_abs e ≤ result)) table.now }
 {
     let mut widest = 0;
@@ -332,8 +332,8 @@ pub(super) fn lead_onward(wrap: i64, table: &Option<DisplacementTable>) -> bool
     }
 }
 
-// Whether all displacements lead onward.
-fn all_lead_onward(wrap: i64, table: &DisplacementTable) -> bool
+/// Whether all displacements lead onward.
+pub(super) fn all_lead_onward(wrap: i64, table: &DisplacementTable) -> bool
     ensures { OnTrue result (AreOnward wrap table.now) }
 {
     for k in 0..table.len() {

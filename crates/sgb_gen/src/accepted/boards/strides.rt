@@ -199,8 +199,12 @@ pub(super) fn strides_of(
     }
 }
 
-// The same of a table that is there.
-fn strides_in(alloc: Global, sizes: &[u32], table: &DisplacementTable) -> Option<Vec<u32>>
+/// The same of a table that is there.
+pub(super) fn strides_in(
+    alloc: Global,
+    sizes: &[u32],
+    table: &DisplacementTable,
+) -> Option<Vec<u32>>
     requires { All (λ t. length t ≡ length sizes.now) table.now }
     ensures { IfSome result (λ s. map pos s.items ≡ map (stride_of sizes.now) table.now) }
 {

@@ -1,4 +1,4 @@
-use Rattle.std.proofs.Common.{◌≡◌, ◌||◌, ◌∙◌, ◌++◌, ℤ, List, [], ◌∷◌, map, Result, Ok, Err, refl, ap, sym, subst, w64, rules, arith, inr, ℕ, Bool, IfOk}
+use Rattle.std.proofs.Common.{◌≡◌, ◌||◌, ◌∙◌, ◌++◌, ℤ, List, [], ◌∷◌, map, Result, Ok, Err, refl, ap, ap₂, sym, subst, w64, rules, arith, inr, ℕ, Bool, true, false, IfOk, IfErr}
 use Rattle.std.proofs.lemmas.Result.{err_from_is_err_and}
 use Rattle.std.proofs.lemmas.Int.{to_z-of_z}
 use Rattle.std.proofs.lemmas.List.{map-append}
@@ -8,11 +8,11 @@ use Rattle.sgb_graph.specs.Graphs.{GraphData}
 use Rattle.sgb_expr.specs.Listed.{listed}
 use Rattle.sgb_expr.specs.Expression.{entries_of, expression_of, Expression, Entries}
 use Rattle.sgb_expr.specs.StdinUses.{entries_have_stdin, has_stdin}
+use Rattle.sgb_expr.specs.declared.expressions.Expr.{Expr}
 use Rattle.sgb_expr.specs.declared.entries.EntryExpr.{EntryExpr}
 use Rattle.sgb_ops.specs.Induced.{induced_of}
 use Rattle.sgb_ops.specs.declared.induced_graphs.entries.Entry.{Entry}
 use Rattle.sgb_ops.specs.Complement.{complement_of}
-use Rattle.sgb_ops.specs.Gunion.{gunion_of}
 use Rattle.sgb_ops.specs.Intersection.{intersection_of}
 use Rattle.sgb_ops.specs.Lines.{line_graph_of}
 use Rattle.sgb_ops.specs.Product.{product_graph_of}
@@ -23,7 +23,8 @@ use Rattle.sgb_gen.specs.Generators.{made}
 use Rattle.sgb_values.specs.Values.{value_of, values_of}
 use Rattle.sgb_values.specs.inner.EntryValues.{handed_entry}
 use Rattle.sgb_values.specs.inner.Inputs.{left_after}
-use Rattle.sgb_values.proofs.Values.{and_values, both_refused, induced_reads, induced_size, induced_value, one_more, size_of_entries, then_refused, value_both, value_made, value_one, value_two}
+use Rattle.sgb_values.specs.inner.Operands.{graph_held}
+use Rattle.sgb_values.proofs.Values.{and_values, both_refused, first_refused, induced_reads, induced_size, induced_value, one_more, size_of_entries, then_refused, union_answered, union_leaves, union_same, value_both, value_made, value_one, value_two}
 use Rattle.sgb_values.proofs.FirstRefusals.{exit_first, made_first, made_operands, numbers_refused}
 use Rattle.sgb_values.proofs.evaluation.+graphs.Goals as goal
 use Rattle.sgb_values.proofs.StdinValues.{value_same, values_same}
@@ -43,6 +44,20 @@ left_on : (more first again : Bool) (old mid : List ℕ) (second : Bool) (new : 
     → new ≡ left_after more (first || second) old
 left_on more first again old mid second new told left after = grind arith
 
+left_both : {T E : Type 0} (more first again : Bool) (old mid : List ℕ) (second : Bool) (new : List ℕ) (r : Result T E) → again ≡ (more || second) → mid ≡ left_after again first old
+    → IfOk r (λ _. new ≡ left_after more second mid) → IfOk r (λ _. new ≡ left_after more (first || second) old)
+left_both more first again old mid second new (Ok x) told left after = left_on more first again old mid second new told left after
+left_both more first again old mid second new (Err p) told left after = tt
+
+-- what an expression of the code leaves
+abbrev left_by : Bool → List ℕ → Expr → List ℕ
+left_by more input e = left_after more (has_stdin (expression_of e)) input
+
+-- what needs no input leaves it
+none_read : (more : Bool) (input : List ℕ) → input ≡ left_after more false input
+none_read true input = refl
+none_read false input = refl
+
 -- what holds of any result holds of a good one
 if_ok : {T E : Type 0} (r : Result T E) (P : Type 0) → P → IfOk r (λ _. P)
 if_ok r P p = grind (arith)
@@ -56,10 +71,38 @@ evaluate-returns-in_ok-operand-in-Complement-clause-value t c =
     let a = c.in-Complement in
     rw a.is (λ stdin gives. value_one (λ g. complement_of g a.copy a.self_loops a.directed) (stdin c.args.input.now) _ a.graph.value _ _ c.deref.ensures (c.in_ok-operand-in-Complement.ensures.value stdin gives) c.complement.ensures)
 
-pub evaluate-returns-in_ok-left-in-Gunion-clause-value : goal.evaluate-returns-in_ok-left-in-Gunion-clause-value
-evaluate-returns-in_ok-left-in-Gunion-clause-value t c =
+pub evaluate-returns-in-Gunion-clause-value : goal.evaluate-returns-in-Gunion-clause-value
+evaluate-returns-in-Gunion-clause-value t c =
     let a = c.in-Gunion in
-    rw a.is (λ stdin gives. value_two (λ g h. gunion_of g h a.multi a.directed) (stdin c.args.input.now) _ _ a.first.value a.second.value _ _ c.deref-in-Gunion.ensures c.deref-in-Gunion-2.ensures (c.in_ok-left-in-Gunion.ensures.value stdin gives) c.gunion.ensures)
+    rw a.is (λ stdin gives. union_same a.multi a.directed (stdin c.args.input.now) c.deref-in-Gunion.result.now c.deref-in-Gunion-2.result.now a.first.value a.second.value _ c.deref-in-Gunion.ensures c.deref-in-Gunion-2.ensures (c.union.ensures.value stdin gives))
+
+pub evaluate-returns-in-Gunion-clause-left : goal.evaluate-returns-in-Gunion-clause-left
+evaluate-returns-in-Gunion-clause-left t c =
+    rw c.in-Gunion.is (rw (c.deref-in-Gunion.ensures, c.deref-in-Gunion-2.ensures) at c.union.ensures.left)
+
+pub evaluate-returns-in-Gunion-clause-refused : goal.evaluate-returns-in-Gunion-clause-refused
+evaluate-returns-in-Gunion-clause-refused t c =
+    rw c.in-Gunion.is (rw c.deref-in-Gunion.ensures at c.union.ensures.refused)
+
+pub evaluate-returns-in_ok-operand-in-Complement-clause-left : goal.evaluate-returns-in_ok-operand-in-Complement-clause-left
+evaluate-returns-in_ok-operand-in-Complement-clause-left t c =
+    if_ok c.complement.result _ (c.in_ok-operand-in-Complement.ensures.left ∙ ap (left_by c.args.more c.args.input.now) c.deref.ensures ∙ ap (left_by c.args.more c.args.input.now) (sym c.in-Complement.is))
+
+pub evaluate-returns-in_ok-left-in-Intersection-clause-left : goal.evaluate-returns-in_ok-left-in-Intersection-clause-left
+evaluate-returns-in_ok-left-in-Intersection-clause-left t c =
+    if_ok c.intersection.result _ (c.in_ok-left-in-Intersection.ensures.left
+    ∙ ap₂ (λ (e f : Expr). left_after c.args.more (has_stdin (expression_of e) || has_stdin (expression_of f)) c.args.input.now) c.deref-in-Intersection.ensures c.deref-in-Intersection-2.ensures
+    ∙ ap (left_by c.args.more c.args.input.now) (sym c.in-Intersection.is))
+
+pub evaluate-returns-in_ok-operand-in-Lines-clause-left : goal.evaluate-returns-in_ok-operand-in-Lines-clause-left
+evaluate-returns-in_ok-operand-in-Lines-clause-left t c =
+    if_ok c.lines.result _ (c.in_ok-operand-in-Lines.ensures.left ∙ ap (left_by c.args.more c.args.input.now) c.deref-in-Lines.ensures ∙ ap (left_by c.args.more c.args.input.now) (sym c.in-Lines.is))
+
+pub evaluate-returns-in_ok-left-in-Product-clause-left : goal.evaluate-returns-in_ok-left-in-Product-clause-left
+evaluate-returns-in_ok-left-in-Product-clause-left t c =
+    if_ok c.product.result _ (c.in_ok-left-in-Product.ensures.left
+    ∙ ap₂ (λ (e f : Expr). left_after c.args.more (has_stdin (expression_of e) || has_stdin (expression_of f)) c.args.input.now) c.deref-in-Product.ensures c.deref-in-Product-2.ensures
+    ∙ ap (left_by c.args.more c.args.input.now) (sym c.in-Product.is))
 
 pub evaluate-returns-in_ok-left-in-Intersection-clause-value : goal.evaluate-returns-in_ok-left-in-Intersection-clause-value
 evaluate-returns-in_ok-left-in-Intersection-clause-value t c =
@@ -102,14 +145,6 @@ evaluate-returns-in_err-operand-in-Complement-clause-refused t c =
 pub evaluate-returns-in_ok-operand-in-Complement-clause-refused : goal.evaluate-returns-in_ok-operand-in-Complement-clause-refused
 evaluate-returns-in_ok-operand-in-Complement-clause-refused t c =
     rw c.in-Complement.is (made_first c.args.input.now c.deref.result.now c.in-Complement.graph.value _ _ c.deref.ensures c.in_ok-operand-in-Complement.ensures.refused)
-
-pub evaluate-returns-in_err-left-in-Gunion-clause-refused : goal.evaluate-returns-in_err-left-in-Gunion-clause-refused
-evaluate-returns-in_err-left-in-Gunion-clause-refused t c =
-    rw c.in-Gunion.is (exit_first c.args.input.now c.deref-in-Gunion.result.now c.in-Gunion.first.value _ _ c.from_residual-in_err-left-in-Gunion.ensures.1 c.deref-in-Gunion.ensures c.in_err-left-in-Gunion.ensures.refused)
-
-pub evaluate-returns-in_ok-left-in-Gunion-clause-refused : goal.evaluate-returns-in_ok-left-in-Gunion-clause-refused
-evaluate-returns-in_ok-left-in-Gunion-clause-refused t c =
-    rw c.in-Gunion.is (made_first c.args.input.now c.deref-in-Gunion.result.now c.in-Gunion.first.value _ _ c.deref-in-Gunion.ensures c.in_ok-left-in-Gunion.ensures.refused)
 
 pub evaluate-returns-in_err-left-in-Intersection-clause-refused : goal.evaluate-returns-in_err-left-in-Intersection-clause-refused
 evaluate-returns-in_err-left-in-Intersection-clause-refused t c =
@@ -196,6 +231,45 @@ evaluate-returns-in_ok-list-in-Induced-clause-left t c =
     let left = left_on c.args.more _ _ _ _ (entries_have_stdin (entries_of (listed c.as_slice-entries.result.now))) _ c.more_in.ensures c.in_ok-operand-in-Induced.ensures.left c.in_ok-values-in-Induced.ensures.left in
     let all = induced_reads c.args.expression.now _ _ a.graph a.entries a.self_loops a.multi a.directed a.is c.deref-in-Induced.ensures c.as_slice-entries.ensures in
     if_ok c.induced_from.result _ (left ∙ ap (λ reads. left_after c.args.more reads c.args.input.now) (sym all))
+
+pub union-returns-in_err-left-clause-value : goal.union-returns-in_err-left-clause-value
+union-returns-in_err-left-clause-value t c = λ stdin gives.
+    let p = err_from_is_err_and c.from_residual.result c.from_residual.ensures.1 in
+    rw (p.1, p.2) (first_refused (value_of (stdin c.args.input.now) (expression_of c.args.first.now)) (value_of (stdin c.args.input.now) (expression_of c.args.second.now)) _ c.in_err-left.field-0.0 (c.in_err-left.ensures.err stdin gives))
+
+pub union-returns-clause-value : goal.union-returns-clause-value
+union-returns-clause-value t c = λ stdin gives.
+    let e = expression_of c.args.second.now in
+    let same = value_on _ _ _ _ _ stdin e c.more_with.ensures c.in_ok-left.ensures.left in
+    let v : Result GraphData Panic = value_of (stdin c.args.input.now) e in
+    union_answered (stdin c.args.input.now) (expression_of c.args.first.now) e (graph_held c.in_ok-left.left) c.operand-right.result c.union_of.result c.args.multi c.args.directed
+    (c.in_ok-left.ensures.ok stdin gives)
+    (subst (λ (w : Result GraphData Panic). IfOk c.operand-right.result (λ o. w ≡ Ok (graph_held o))) same (c.operand-right.ensures.ok stdin gives))
+    (subst (λ (w : Result GraphData Panic). IfErr c.operand-right.result (λ p. IsValue w (Err p))) same (c.operand-right.ensures.err stdin gives))
+    c.union_of.ensures.ok c.union_of.ensures.refused
+
+pub union-returns-clause-left : goal.union-returns-clause-left
+union-returns-clause-left t c =
+    union_leaves c.operand-right.result c.union_of.result _ c.union_of.ensures.refused
+    (left_both c.args.more _ _ _ _ (has_stdin (expression_of c.args.second.now)) _ c.operand-right.result c.more_with.ensures c.in_ok-left.ensures.left c.operand-right.ensures.left)
+
+pub union-returns-in_err-left-clause-refused : goal.union-returns-in_err-left-clause-refused
+union-returns-in_err-left-clause-refused t c = exit_first c.args.input.now c.args.first.now c.args.first.now _ _ c.from_residual.ensures.1 refl c.in_err-left.ensures.refused
+
+pub union-returns-clause-refused : goal.union-returns-clause-refused
+union-returns-clause-refused t c = λ p is. made_operands _ _ (c.in_ok-left.ensures.refused p is)
+
+pub operand-returns-in-Generator-clause-ok : goal.operand-returns-in-Generator-clause-ok
+operand-returns-in-Generator-clause-ok t c = rw c.in-Generator.is (λ stdin gives. c.generated.ensures.ok)
+
+pub operand-returns-in-Generator-clause-err : goal.operand-returns-in-Generator-clause-err
+operand-returns-in-Generator-clause-err t c = rw c.in-Generator.is (λ stdin gives. c.generated.ensures.err)
+
+pub operand-returns-in-Generator-clause-left : goal.operand-returns-in-Generator-clause-left
+operand-returns-in-Generator-clause-left t c = rw c.in-Generator.is (if_ok c.generated.result _ (none_read c.args.more c.args.input.now))
+
+pub operand-returns-in-Generator-clause-refused : goal.operand-returns-in-Generator-clause-refused
+operand-returns-in-Generator-clause-refused t c = rw c.in-Generator.is c.generated.ensures.refused
 
 pub operands-returns-in_err-right-clause-value : goal.operands-returns-in_err-right-clause-value
 operands-returns-in_err-right-clause-value t c = λ stdin gives.

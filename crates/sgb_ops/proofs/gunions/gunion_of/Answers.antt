@@ -4,7 +4,7 @@ use Rattle.sgb_ops.specs.Merged.{merged_unless}
 use Rattle.sgb_ops.specs.inner.Compounds.{gunion_id}
 use Rattle.sgb_graph.specs.Vertices.{names_of}
 use Rattle.sgb_ops.proofs.Results.{made}
-use Rattle.sgb_ops.proofs.gunions.gunion.Goals as goal
+use Rattle.sgb_ops.proofs.gunions.gunion_of.Goals as goal
 
 pub returns : goal.returns
 returns c =

@@ -1,0 +1,27 @@
+-- The graphs that an operation reads, and the events of a list by its tips and lengths.
+use Rattle.std.specs.Prelude.{ℕ, ℤ, ◌<◌, Bool, ◌&&◌, ◌||◌, List, [], ◌∷◌, ◌++◌, length, nat_le, nat_lt, All, if◌then◌else◌}
+use Rattle.sgb_graph.specs.Events.{Event}
+use Rattle.sgb_graph.specs.Graphs.{GraphData, chain_of}
+use Rattle.sgb_graph.specs.Made.{graph_described}
+use Rattle.sgb_gen.specs.Boards.{board_vector_graph}
+use Rattle.sgb_gen.specs.VectorGraphs.{described_by}
+use Rattle.sgb_ops.specs.declared.sources.SourceKind.{SourceKind}
+use Rattle.sgb_ops.specs.declared.sources.SourceKind.TheVariants.{Built, Flat}
+
+-- the graph that is kept so
+abbrev pub graph_kept : SourceKind → GraphData
+graph_kept (Built g) = g.now
+graph_kept (Flat b) = graph_described (described_by (board_vector_graph b.now))
+
+-- the arcs of each vertex lead to vertices
+abbrev pub HasTips : GraphData → Type 0
+HasTips g = (v : ℕ) → v < length g.vertices → All (λ l. l.tip < length g.vertices) (chain_of g v)
+
+-- the event of an arc of v, if its tip is below n and it is taken: for an undirected result none to an earlier vertex is
+abbrev pub event_to : Bool → ℕ → ℕ → ℕ → ℤ → List Event
+event_to directed v n tip len = if nat_lt tip n && (directed || nat_le v tip) then record { from = v; to = tip; len = len } ∷ [] else []
+
+-- those of the arcs of v with these tips and lengths
+abbrev pub events_to : Bool → ℕ → ℕ → List ℕ → List ℤ → List Event
+events_to directed v n (tip ∷ tips) (len ∷ lengths) = event_to directed v n tip len ++ events_to directed v n tips lengths
+events_to directed v n _ _ = []
