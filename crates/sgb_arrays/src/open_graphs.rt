@@ -25,21 +25,12 @@ use sgb_vec::Panic;
 use std::alloc::Global;
 
 /// A graph that is open: arrays are made of it, of all its vertices or of a run of them.
+#[derive(Drop)]
 pub enum OpenGraph {
     /// It is built.
     Built(PackedGraph),
     /// A generator's graph, which is not built: its accepted parameters.
     Listed(Local),
-}
-
-// One function drops it, as it does a graph.
-impl Drop for OpenGraph {
-    fn drop(self) {
-        match self {
-            OpenGraph::Built(_) => {}
-            OpenGraph::Listed(_) => {}
-        }
-    }
 }
 
 impl OpenGraph {

@@ -14,7 +14,7 @@ use std::alloc::Global;
 
 /// An expression that names a graph.
 #[cycle(expr)]
-#[derive(Debug, PartialEq, Eq)]
+#[derive(Debug, Drop, PartialEq, Eq)]
 pub enum Expr {
     /// A graph of a generator.
     Generator(Generator),
@@ -73,62 +73,6 @@ pub enum Expr {
     },
     /// The graph of the file on standard input (GB_SAVE, restore_graph).
     Stdin,
-}
-
-// One function drops an expression. A derived drop would be a case for each form wherever one is dropped.
-impl Drop for Expr {
-    #[cycle(expr)]
-    fn drop(self) {
-        match self {
-            Expr::Generator(_) => {}
-            Expr::Complement {
-                graph: _,
-                copy: _,
-                self_loops: _,
-                directed: _,
-            } => {}
-            Expr::Gunion {
-                first: _,
-                second: _,
-                multi: _,
-                directed: _,
-            } => {}
-            Expr::Intersection {
-                first: _,
-                second: _,
-                multi: _,
-                directed: _,
-            } => {}
-            Expr::Lines {
-                graph: _,
-                directed: _,
-            } => {}
-            Expr::Product {
-                first: _,
-                second: _,
-                kind: _,
-                directed: _,
-            } => {}
-            Expr::Induced {
-                graph: _,
-                entries: _,
-                self_loops: _,
-                multi: _,
-                directed: _,
-            } => {}
-            Expr::BiComplete {
-                n1: _,
-                n2: _,
-                directed: _,
-            } => {}
-            Expr::Wheel {
-                n: _,
-                n1: _,
-                directed: _,
-            } => {}
-            Expr::Stdin => {}
-        }
-    }
 }
 
 /// Why a text is not read, as an expression or as what is asked of the random generator.

@@ -14,21 +14,11 @@ use sgb_vec::{Family, Panic};
 use std::alloc::Global;
 
 /// The accepted parameters of a generator: its vertices are known without its graph.
+#[derive(Drop)]
 pub enum Local {
     Board(Board),
     Simplex(Simplex),
     Subsets(Subsets),
-}
-
-// One function drops them. A derived drop would be a case for each generator wherever they are dropped.
-impl Drop for Local {
-    fn drop(self) {
-        match self {
-            Local::Board(_) => {}
-            Local::Simplex(_) => {}
-            Local::Subsets(_) => {}
-        }
-    }
 }
 
 /// The accepted parameters of a generator.
