@@ -30,8 +30,8 @@ impl Subsets {
     pub fn count_at(&self, x: &[u32]) -> Option<u64>
         requires { Contains (subsets_vectors self.now) x.now }
         ensures { IfSome result (λ m. m
-            ≡ length (list_at self.now.directed (subsets_vectors self.now) (moves_of_subsets self.now)
-            x.now)) }
+            ≡ length (list_at self.now.directed (subsets_vectors self.now)
+            (moves_of_subsets self.now) x.now)) }
     {
         if self.directed {
             return None;
@@ -46,7 +46,8 @@ impl Subsets {
 
     // How often the vertex of a vector is joined with itself, beyond once among those with which it is joined.
     fn own_count(&self) -> u64
-        ensures count { result ≡ (if is_wanted_size self.now.size_bits self.now.sum.total then 1 else 0) }
+        ensures count { result
+            ≡ (if is_wanted_size self.now.size_bits self.now.sum.total then 1 else 0) }
         ensures few { result ≤ 1 }
     {
         if is_wanted(self.size_bits, u64::from(self.family.total())) {
@@ -139,7 +140,8 @@ fn row_with(table: &CountTable, total: usize, spare: usize, bound: usize, own: u
     requires small { total < 20 }
     requires spare { spare < 20 }
     ensures { (size_bits most : ℕ) (bounds x : List ℕ) → HasNoneAbove size_bits most → spare ≤ most
-        → ((k : ℕ) → k ≤ spare → HasSums size_bits total (most - k) bounds x (slice_index_or table.now k []))
+        → ((k : ℕ) → k ≤ spare
+        → HasSums size_bits total (most - k) bounds x (slice_index_or table.now k []))
         → HasSums size_bits total (most - spare) (bound ∷ bounds) (own ∷ x) result }
 {
     let mut row = [0; SIDE];
