@@ -110,7 +110,7 @@ ENDLESS = [
 USE = re.compile(r"^(?:pub |ghost )?use (?:Rattle\.)?([\w.]+)\.\{([^}]*)\}\s*$", re.M)
 USE_AS = re.compile(r"^(?:pub |ghost )?use Rattle\.[\w.]+ as \w+\s*$", re.M)
 HEAD = re.compile(r"(?:(?:abbrev|unfoldable|mutual|pub|data|record)\s+)*([^\s:(){}]+)")
-BEGINS = re.compile(r"(?:abbrev|unfoldable|mutual|pub|data|record|syntax|law)\b|[^\s(){},;:]+ :(?:\s|$)")
+BEGINS = re.compile(r"(?:(?:abbrev|unfoldable|mutual|pub|data|syntax|law)\b|record (?!\{))|[^\s(){},;:]+ :(?:\s|$)")
 WORD = re.compile(r"[^\s(){}\[\],;:.\"]+")
 TOKEN = re.compile(r"\"(?:\\.|[^\"\\])*\"|[(){}\[\],;]|[^\s(){}\[\],;\"]+")
 ERROR = re.compile(r"^\S*?proofs/(\w+)\.antt:(\d+):\d+: error: (.*)$")
@@ -755,7 +755,9 @@ def check(crates, turns, universe, jobs, slot, seconds):
     shutil.rmtree(folder, ignore_errors=True)
     for part in ("src", "specs", "proofs"):
         os.makedirs(os.path.join(folder, part))
-    deps = ", ".join(f'"//crates/{name}"' for name in crates)
+    known = crates_of()
+    others = sorted({name for crate in crates for name in known[crate] if name not in known})
+    deps = ", ".join([f'"//crates/{name}"' for name in crates] + [f'"@rattle//{name}"' for name in others])
     files = {}
     for number, (chunk, _, text, needs) in enumerate(turns):
         files.update(copies(universe, chunk, text, needs, number))
