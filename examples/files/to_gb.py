@@ -22,6 +22,7 @@ It needs Python alone. What the package sgb has in memory goes in by its calls f
 """
 
 import argparse
+import hashlib
 import os
 import sys
 
@@ -48,6 +49,12 @@ class Given:
 
     def __init__(self, n=0, names=None, directed=False):
         self.n, self.names, self.directed, self.edges = n, names, directed, []
+
+
+def own_id(names, arcs):
+    """An id that tells graphs apart: how many vertices and arcs there are, and a sum of all that the graph is."""
+    found = hashlib.sha256(_files.gb_file(names, arcs, ""))
+    return f"given({len(arcs.firsts)},{len(arcs.tips)},0x{found.hexdigest()[:16]})"
 
 
 def edges(text, directed):
@@ -172,7 +179,8 @@ def main():
         arcs = _files.Arcs(given.n)
         for edge in given.edges:
             (arcs.arc if given.directed else arcs.edge)(*edge)
-        made = _files.gb_file(given.names, arcs, words.id)
+        names = given.names or [str(v) for v in range(given.n)]
+        made = _files.gb_file(names, arcs, own_id(names, arcs) if words.id is None else words.id)
     except UnicodeDecodeError:
         sys.exit("to_gb.py: the file is not of ASCII alone")
     except (Wrong, ValueError, TypeError, OSError) as why:
