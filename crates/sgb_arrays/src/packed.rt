@@ -284,7 +284,7 @@ fn lists_of(alloc: Global, graph: &Graph) -> Result<Lists, Panic>
 
 // The lists of a graph, by one walk: lists are followed eight side by side, and then put while their records are at hand.
 // `None` where more arcs are on them than the graph has records, as may be where vertices share records: so what is kept
-// takes no more than half of what the graph does.
+// takes no more than the graph does.
 pub(crate) fn packed_rows(alloc: Global, graph: &Graph) -> Result<Option<Rows>, Panic>
     ensures rows { IfOk result (λ kept. IfSome kept (λ rows. AreRows graph.now 0
         (length graph.now.vertices) rows.starts.items rows.tips.items rows.lengths.items)) }

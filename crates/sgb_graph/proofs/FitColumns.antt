@@ -14,7 +14,7 @@ use Rattle.sgb_graph.specs.declared.fields.Kind.TheVariants.{Z}
 use Rattle.sgb_graph.specs.declared.fields.Util.{Util}
 use Rattle.sgb_graph.specs.declared.fields.Util.TheVariants.{Nothing}
 use Rattle.sgb_graph.specs.declared.fields.Vertex.{Vertex}
-use Rattle.sgb_graph.specs.declared.records.PlainRecord.{PlainRecord}
+use Rattle.sgb_graph.specs.declared.leads.PlainRecord.{PlainRecord}
 use Rattle.sgb_graph.specs.declared.vertices.fields.Fields.{Fields}
 use Rattle.sgb_graph.specs.declared.vertices.plain.PlainVertex.{PlainVertex}
 use Rattle.sgb_graph.proofs.KeptRecords.{length-kept_records}

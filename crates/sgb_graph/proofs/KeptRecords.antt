@@ -1,5 +1,5 @@
 -- Records as they are kept: how many, each by its place, one more.
-use Rattle.std.proofs.Common.{◌≡◌, ◌<◌, ◌+◌, ℕ, zero, suc, List, [], ◌∷◌, ◌++◌, length, get_or, option_map, slice_get, Some, refl, ap, ◌∙◌, arith, append_assoc}
+use Rattle.std.proofs.Common.{◌≡◌, ◌<◌, ◌+◌, ℕ, zero, suc, List, [], ◌∷◌, ◌++◌, length, option_map, slice_get, Some, refl, ap, sym, ◌∙◌, arith, append_assoc}
 use Rattle.std.proofs.lemmas.List.{length_push}
 use Rattle.sgb_graph.specs.inner.Columns.{HoldsMany, column_kind, values}
 use Rattle.sgb_graph.specs.inner.KeptRecords.{KeptRecords, kept_number, kept_records, records_with}
@@ -8,7 +8,7 @@ use Rattle.sgb_graph.specs.declared.fields.ArcRec.{ArcRec}
 use Rattle.sgb_graph.specs.declared.fields.Kind.TheVariants.{Z}
 use Rattle.sgb_graph.specs.declared.fields.Util.{Util}
 use Rattle.sgb_graph.specs.declared.fields.Util.TheVariants.{Nothing}
-use Rattle.sgb_graph.specs.declared.records.PlainRecord.{PlainRecord}
+use Rattle.sgb_graph.specs.declared.leads.PlainRecord.{PlainRecord}
 use Rattle.sgb_graph.proofs.ColumnValues.{HoldsMany-push, HoldsMany-unused, values-unused}
 
 -- a record with its utility fields
@@ -28,7 +28,7 @@ length-kept_records ps a b ha hb = length-records_with ps (values (length ps) a)
 
 -- each record by its place
 pub slice_get-records_with :
-    (ps : List PlainRecord) (xs ys : List Util) (k : ℕ) (p : PlainRecord) (x y : Util) → k < length ps → p ≡ get_or ps k p →
+    (ps : List PlainRecord) (xs ys : List Util) (k : ℕ) (p : PlainRecord) (x y : Util) → k < length ps → slice_get ps k ≡ Some p →
     slice_get xs k ≡ Some x → slice_get ys k ≡ Some y → slice_get (records_with ps xs ys) k ≡ Some (record_with p x y)
 slice_get-records_with [] xs ys k p x y l hp hx hy = absurd (omega arith)
 slice_get-records_with (q ∷ qs) (u ∷ us) (v ∷ vs) (suc k) p x y l hp hx hy =
@@ -37,7 +37,7 @@ slice_get-records_with (q ∷ qs) _ _ _ p x y l hp hx hy = cc
 
 -- what a record has beside its utility fields, by its place
 pub lead-records_with :
-    (ps : List PlainRecord) (xs ys : List Util) (k : ℕ) (p : PlainRecord) → length xs ≡ length ps → length ys ≡ length ps → k < length ps → p ≡ get_or ps k p →
+    (ps : List PlainRecord) (xs ys : List Util) (k : ℕ) (p : PlainRecord) → length xs ≡ length ps → length ys ≡ length ps → k < length ps → slice_get ps k ≡ Some p →
     (option_map (λ r. r.tip) (slice_get (records_with ps xs ys) k) ≡ Some p.tip)
     × (option_map (λ r. r.next) (slice_get (records_with ps xs ys) k) ≡ Some (kept_number p.next))
     × (option_map (λ r. r.len) (slice_get (records_with ps xs ys) k) ≡ Some p.len)
@@ -74,9 +74,10 @@ kept_records-push_plain ps a b p r ha hb e = grind (arith, kept_records-push, Ho
 pub kept_records-push_pair :
     (ps : List PlainRecord) (a b : Column) (p q : PlainRecord) (r s : ArcRec) → column_kind a ≡ Z → column_kind b ≡ Z →
     record_with p Nothing Nothing ≡ r → record_with q Nothing Nothing ≡ s →
-    kept_records (ps ++ p ∷ [] ++ q ∷ []) a b ≡ record (kept_records ps a b) { items = (kept_records ps a b).items ++ r ∷ s ∷ [] }
+    kept_records (ps ++ p ∷ q ∷ []) a b ≡ record (kept_records ps a b) { items = (kept_records ps a b).items ++ r ∷ s ∷ [] }
 kept_records-push_pair ps a b p q r s ha hb e f =
-    kept_records-push_plain (ps ++ p ∷ []) a b q s ha hb f
+    ap (λ rs. kept_records rs a b) (sym (append_assoc ps (p ∷ []) (q ∷ [])))
+    ∙ kept_records-push_plain (ps ++ p ∷ []) a b q s ha hb f
     ∙ ap (λ (d : KeptRecords). record d { items = d.items ++ s ∷ [] }) (kept_records-push_plain ps a b p r ha hb e)
     ∙ ap (λ rs. record (kept_records ps a b) { items = rs }) (append_assoc (kept_records ps a b).items (r ∷ []) (s ∷ []))
 

@@ -15,6 +15,8 @@ mod ids;
 mod kept_numbers;
 // What holds of all graphs and of all random numbers.
 mod laws;
+// Where arc records lead, as they are kept.
+mod leads;
 // The names of the vertices of a new graph.
 mod names;
 // The parts of a graph that a file brings.

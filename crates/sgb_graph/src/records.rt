@@ -1,4 +1,4 @@
-//! The arc records of a graph, in little memory: 24 bytes for one without utility fields.
+//! The arc records of a graph, in little memory: where each leads, and its utility fields beside.
 ghost use Rattle.std.specs.Prelude.{◌≡◌, ◌<◌, ◌+◌, ◌++◌, ◌^◌, ◌&&◌, ℕ, [], ◌∷◌, length, option_map, slice_get, Some, IfSome, OnOk, OnErr};
 ghost use Rattle.sgb_graph.specs.Columns.{arc_seen};
 ghost use Rattle.sgb_graph.specs.Sound.{util_fits};
@@ -6,30 +6,20 @@ ghost use Rattle.sgb_graph.specs.inner.Columns.{column_kind, util_kind, values};
 ghost use Rattle.sgb_graph.specs.Graphs.{arc_record};
 ghost use Rattle.std.specs.List.{list_all};
 ghost use Rattle.sgb_graph.specs.inner.Fitting.{record_fits_by};
-ghost use Rattle.sgb_graph.specs.inner.KeptRecords.{kept_number, plain_fits};
+ghost use Rattle.sgb_graph.specs.inner.KeptRecords.{plain_fits, plain_records};
 ghost use Rattle.sgb_graph.specs.declared.fields.Kind.TheVariants.{Z};
 
 use crate::columns::Column;
 use crate::fields::{ArcRec, ArcRef, Kind, Ref};
-use crate::kept_numbers::{keep_number, read_number};
-use crate::ranges::{chain_fits, ref_fits};
+use crate::kept_numbers::read_number;
+use crate::leads::{Leads, PlainRecord};
 use std::alloc::{AllocError, Global};
 use std::marker::Model;
-
-// Where a record leads, the number of the next one, and its length.
-#[derive(Clone, Copy)]
-struct PlainRecord {
-    len: i64,
-    next: usize,
-    tip: Ref,
-}
-
-const _: () = prove!(size_of::<PlainRecord>() == 24);
 
 // The arc records of a graph, one after another, and their utility fields a and b beside them.
 #[derive(Drop)]
 pub(crate) struct Records {
-    plain: Vec<PlainRecord>,
+    plain: Leads,
     a: Column,
     b: Column,
 }
@@ -37,37 +27,14 @@ pub(crate) struct Records {
 impl Model for Records {
     ghost use Rattle.std.specs.Prelude.{length};
     ghost use Rattle.sgb_graph.specs.inner.Columns.{HoldsMany};
-    ghost use Rattle.sgb_graph.specs.inner.KeptRecords.{KeptRecords, kept_records};
+    ghost use Rattle.sgb_graph.specs.inner.KeptRecords.{KeptRecords, kept_records, plain_records};
 
     ghost Value = { KeptRecords };
 
-    ghost view = { λ r. kept_records r.plain.items r.a r.b };
+    ghost view = { λ r. kept_records (plain_records r.plain) r.a r.b };
 
-    ghost invariant = { λ r. HoldsMany (length r.plain.items) r.a
-        × HoldsMany (length r.plain.items) r.b };
-}
-
-impl PlainRecord {
-    // A record that leads to this tip, before the one given.
-    fn new(tip: Ref, after: Option<usize>, len: i64) -> PlainRecord
-        requires { IfSome after (λ k. k + 1 < 2 ^ 64) }
-        ensures tip { result.tip ≡ tip }
-        ensures next { kept_number result.next ≡ after }
-        ensures len { result.len ≡ len }
-    {
-        PlainRecord {
-            len,
-            next: keep_number(after),
-            tip,
-        }
-    }
-
-    // Whether the record leads to one of n vertices, or none, before one of m records, or none.
-    fn fits(&self, n: usize, m: usize) -> bool
-        ensures { result ≡ plain_fits n m self.now }
-    {
-        ref_fits(n, self.tip) && chain_fits(m, read_number(self.next))
-    }
+    ghost invariant = { λ r. HoldsMany (length (plain_records r.plain)) r.a
+        × HoldsMany (length (plain_records r.plain)) r.b };
 }
 
 impl Records {
@@ -76,7 +43,7 @@ impl Records {
         ensures { result ≡ record { a = a; b = b; items = [] } }
     {
         Records {
-            plain: Vec::new(alloc),
+            plain: Leads::new(alloc),
             a: Column::new(alloc, a),
             b: Column::new(alloc, b),
         }
@@ -103,7 +70,7 @@ impl Records {
         requires { k < length self.now.items }
         ensures { slice_get self.now.items k ≡ Some (arc_seen result) }
     {
-        let plain = self.plain[k];
+        let plain = self.plain.at(k);
         ArcRef {
             tip: plain.tip,
             next: read_number(plain.next),
@@ -121,7 +88,7 @@ impl Records {
         ensures next { option_map (λ r. r.next) (slice_get self.now.items k) ≡ Some result.1 }
         ensures len { option_map (λ r. r.len) (slice_get self.now.items k) ≡ Some result.2 }
     {
-        let plain = self.plain[k];
+        let plain = self.plain.at(k);
         (plain.tip, read_number(plain.next), plain.len)
     }
 
@@ -171,10 +138,7 @@ impl Records {
             ≡ record self.old { items = self.old.items ++ arc_record v after len ∷ [] }) }
         ensures err { OnErr result (self.new ≡ self.old) }
     {
-        self.plain.reserve(1)?;
-        self.plain
-            .push_reserved(PlainRecord::new(Ref::At(v), after, len));
-        Ok(())
+        self.plain.push(PlainRecord::new(Ref::At(v), after, len))
     }
 
     // Puts two records of this length after the others, or neither: each leads to a vertex, before the record given.
@@ -195,27 +159,18 @@ impl Records {
         }) }
         ensures err { OnErr result (self.new ≡ self.old) }
     {
-        self.plain.reserve(2)?;
-        self.plain
-            .push_reserved(PlainRecord::new(Ref::At(high), after_lower, len));
-        self.plain
-            .push_reserved(PlainRecord::new(Ref::At(low), after_higher, len));
+        let lower = PlainRecord::new(Ref::At(high), after_lower, len);
+        let higher = PlainRecord::new(Ref::At(low), after_higher, len);
+        self.plain.push_two(lower, higher)?;
         Ok(())
     }
 }
 
 // Whether all of these fit n vertices and m records.
-fn all_fit(plain: &[PlainRecord], a: &Column, b: &Column, n: usize, m: usize) -> bool
-    ensures { (k : ℕ) → result ≡ (list_all (plain_fits n m) plain.now
+fn all_fit(plain: &Leads, a: &Column, b: &Column, n: usize, m: usize) -> bool
+    ensures { (k : ℕ) → result ≡ (list_all (plain_fits n m) (plain_records plain.now)
         && list_all (util_fits n m (column_kind a.now)) (values k a.now)
         && list_all (util_fits n m (column_kind b.now)) (values k b.now)) }
 {
-    each_fits(plain, n, m) && a.fits(n, m) && b.fits(n, m)
-}
-
-// Whether each record leads to one of n vertices, or none, before one of m records, or none.
-fn each_fits(plain: &[PlainRecord], n: usize, m: usize) -> bool
-    ensures { result ≡ list_all (plain_fits n m) plain.now }
-{
-    plain.iter().all(|record| record.fits(n, m))
+    plain.fit(n, m) && a.fits(n, m) && b.fits(n, m)
 }

@@ -1,7 +1,6 @@
 //! The line graph of a graph, which has a vertex for each arc or edge (GB_BASIC, lines).
 //!
-//! The events are added one by one: no list of them is made. Room for the names is taken at once, and for the records
-//! of arcs.
+//! The events are added one by one: no list of them is made. Room for the names is taken at once, and for the records.
 ghost use Rattle.std.specs.Prelude.{◌≡◌, false, ◌≤◌, length, All, OnOk, IfOk, IsOkUnless};
 ghost use Rattle.sgb_vec.specs.Limits.{most_vertices};
 ghost use Rattle.sgb_graph.specs.Descriptions.{IsAnswerOf, IsGraphOf};
@@ -19,9 +18,10 @@ mod edges;
 mod line;
 
 use crate::compounds::flag_byte;
+use crate::operands::graph_with_room;
 use crate::taken::taken;
 use arcs::add_arcs;
-use edges::add_edges;
+use edges::{add_edges, records_of_edges};
 use line::{Line, accept_lines, lines_of_graph};
 use sgb_graph::{Graph, Id, Names, compound_id};
 use sgb_vec::Panic;
@@ -61,10 +61,21 @@ fn graph_of_lines(
     ensures memory { IsOkUnless result Panic.NoRoom }
 {
     let names = names_of_lines(alloc, graph, directed, lines)?;
-    let mut built = Graph::new(alloc, names)?;
+    let records = records_of_lines(alloc, graph.n(), directed, lines);
+    let mut built = graph_with_room(alloc, names, records)?;
     add_line_events(&mut built, alloc, graph.n(), directed, lines)?;
     built.set_id(lines_id(graph.id(), directed));
     Ok(built)
+}
+
+// How many records the events take, where no two lines have both ends in common. It is told for room alone.
+fn records_of_lines(alloc: Global, n: u32, directed: bool, lines: &[Line]) -> usize
+    requires { All (LineWithin n) lines.now }
+{
+    if directed {
+        return 0;
+    }
+    records_of_edges(alloc, n, lines)
 }
 
 // The id of the result, made from the operand's.

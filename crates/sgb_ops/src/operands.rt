@@ -1,7 +1,8 @@
-//! What the operations read of a graph beside its lists of arcs.
-ghost use Rattle.std.specs.Prelude.{◌≡◌, ◌≤◌, ◌++◌, [], ◌∷◌, All, length, map, OnOk, IfOk, IsOkUnless};
+//! What the operations read of a graph beside its lists of arcs, and the graph that they begin with.
+ghost use Rattle.std.specs.Prelude.{◌≡◌, ◌<◌, ◌≤◌, ◌↔◌, ◌++◌, [], ◌∷◌, All, length, map, OnOk, IfOk, IsErrOf, IsOkUnless};
 ghost use Rattle.sgb_vec.specs.Limits.{most_vertices};
 ghost use Rattle.sgb_vec.specs.Names.{IsTextByte};
+ghost use Rattle.sgb_graph.specs.Growth.{new_graph};
 ghost use Rattle.sgb_graph.specs.Vertices.{names_of};
 ghost use Rattle.sgb_ops.specs.Compounds.{joined_name};
 ghost use Rattle.sgb_ops.specs.inner.Compounds.{begun_name};
@@ -30,6 +31,20 @@ pub(crate) fn names_of(alloc: Global, graph: &Graph) -> Result<Names, Panic>
         };
     }
     Ok(names)
+}
+
+/// The graph of these names that has no arcs, with room for so many records where that can be had.
+///
+/// `VeryBad` above 1,000,000,000 names, `NoRoom` when out of memory.
+pub(crate) fn graph_with_room(alloc: Global, names: Names, records: usize) -> Result<Graph, Panic>
+    ensures ok { IfOk result (λ g. g ≡ new_graph names) }
+    ensures refused { IsErrOf result Panic.VeryBad ↔ (most_vertices < length names) }
+    ensures err { length names ≤ most_vertices → IsOkUnless result Panic.NoRoom }
+{
+    let mut built = Graph::new(alloc, names)?;
+    // Without room the records take it as they come.
+    let _room = built.reserve(records);
+    Ok(built)
 }
 
 /// Appends this name joined with that of each vertex of the graph, with the separator, a byte, between them.

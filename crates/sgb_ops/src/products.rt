@@ -12,7 +12,7 @@ ghost use Rattle.sgb_ops.specs.inner.Pairs.{HasRoomForPairs, names_of_pairs, pro
 ghost use Rattle.sgb_ops.specs.inner.Compounds.{product_id};
 
 use crate::compounds::flag_byte;
-use crate::operands::push_joined_names;
+use crate::operands::{graph_with_room, push_joined_names};
 use crate::taken::taken;
 use sgb_graph::{Graph, Id, Link, Names, double_compound_id};
 use sgb_vec::{MOST_VERTICES, Panic};
@@ -59,7 +59,7 @@ fn product_of_few(
     ensures { IsAnswerOf (Ok (product_graph product_type first.now second.now directed)) result }
 {
     let names = names_of_pairs(alloc, first, second)?;
-    let mut built = Graph::new(alloc, names)?;
+    let mut built = graph_with_room(alloc, names, product_type.records_of(first, second))?;
     product_type.add_steps(&mut built, first, second, directed)?;
     built.set_id(product_type.id(first.id(), second.id(), directed));
     Ok(built)
@@ -105,6 +105,20 @@ impl ProductType {
     {
         let end = [b',', self.digit(), b',', flag_byte(directed), b')'];
         double_compound_id(b"product(", id1, b",", id2, &end)
+    }
+
+    // How many records its arcs take, where all records of the operands are on lists. It is told for room alone.
+    fn records_of(self, first: &Graph, second: &Graph) -> usize {
+        let (m1, m2) = (first.records_len(), second.records_len());
+        let beside = m1.saturating_mul(second.n() as usize);
+        let along = m2.saturating_mul(first.n() as usize);
+        let single = beside.saturating_add(along);
+        let both = m1.saturating_mul(m2);
+        match self {
+            ProductType::Cartesian => single,
+            ProductType::Direct => both,
+            ProductType::Strong => single.saturating_add(both),
+        }
     }
 
     // Adds the arcs of the product.

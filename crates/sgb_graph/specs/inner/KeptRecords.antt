@@ -1,18 +1,35 @@
 -- How a graph keeps its arc records: what each one has one after another, and the utility fields beside.
-use Rattle.std.specs.Prelude.{◌&&◌, ℕ, Bool, ◌-◌, ◌^◌, ◌==◌, List, [], ◌∷◌, length, Option, Some, None, if◌then◌else◌}
+use Rattle.std.specs.Prelude.{◌≡◌, ◌<◌, ◌&&◌, ℕ, ℤ, Bool, ◌-◌, ◌^◌, ◌==◌, List, [], ◌∷◌, length, map, Option, Some, None, if◌then◌else◌}
 use Rattle.sgb_graph.specs.Sound.{chain_fits, ref_fits}
 use Rattle.sgb_graph.specs.inner.Columns.{column_kind, values}
 use Rattle.sgb_graph.specs.declared.columns.Column.{Column}
 use Rattle.sgb_graph.specs.declared.fields.ArcRec.{ArcRec}
 use Rattle.sgb_graph.specs.declared.fields.Kind.{Kind}
 use Rattle.sgb_graph.specs.declared.fields.Util.{Util}
-use Rattle.sgb_graph.specs.declared.records.PlainRecord.{PlainRecord}
+use Rattle.sgb_graph.specs.declared.leads.PlainRecord.{PlainRecord}
+use Rattle.sgb_graph.specs.declared.leads.Lead.{Lead}
+use Rattle.sgb_graph.specs.declared.leads.Leads.{Leads}
+use Rattle.sgb_graph.specs.declared.leads.Leads.TheVariants.{Same, Each}
 
 -- the arc records of a graph, and what their utility fields a and b hold
 pub record KeptRecords : Type 0 where
   pub a : Kind
   pub b : Kind
   pub items : List ArcRec
+
+-- a record that leads so, with this length
+abbrev pub with_length : ℤ → Lead → PlainRecord
+with_length len lead = record { len = len; next = lead.next; tip = lead.tip }
+
+-- the records of which these tell where they lead
+abbrev pub plain_records : Leads → List PlainRecord
+plain_records (Same len leads) = map (with_length len) leads.items
+plain_records (Each records) = records.items
+
+-- a record of this length can be put
+abbrev pub TakesLength : ℤ → Leads → Type 0
+TakesLength len (Same own leads) = own ≡ len
+TakesLength len (Each records) = 0 < 1
 
 -- the record of this number, where the greatest one stands for none
 abbrev pub kept_number : ℕ → Option ℕ
@@ -35,3 +52,7 @@ kept_records ps a b = record {
 -- the record leads to one of n vertices, or none, before one of m records, or none
 abbrev pub plain_fits : ℕ → ℕ → PlainRecord → Bool
 plain_fits n m p = ref_fits n p.tip && chain_fits m (kept_number p.next)
+
+-- so where its length stands elsewhere
+abbrev pub lead_fits : ℕ → ℕ → Lead → Bool
+lead_fits n m lead = ref_fits n lead.tip && chain_fits m (kept_number lead.next)

@@ -42,6 +42,34 @@ pub(super) fn add_edges(
     Ok(())
 }
 
+// How many records the edges take: two for each line and each earlier one at one of its ends. 0 where there is no memory
+// to count them.
+pub(super) fn records_of_edges(alloc: Global, n: u32, lines: &[Line]) -> usize
+    requires { All (LineWithin n) lines.now }
+{
+    let Ok(mut counts) = vec![in alloc; 0; n as usize] else {
+        return 0;
+    };
+    let mut pairs = 0_usize;
+    for line in lines {
+        pairs = pairs.saturating_add(counted(&mut counts, line.from));
+        if line.to != line.from {
+            pairs = pairs.saturating_add(counted(&mut counts, line.to));
+        }
+    }
+    pairs.saturating_mul(2)
+}
+
+// How many were counted at this place, at which one more is counted.
+fn counted(counts: &mut [u32], w: u32) -> usize
+    requires { w < length counts.old }
+    ensures { length counts.new ≡ length counts.old }
+{
+    let before = counts[w as usize];
+    counts[w as usize] = before.saturating_add(1);
+    before as usize
+}
+
 // Adds the edges from line number `i` to the earlier lines that it meets: first those at its end, but those that begin
 // where it begins, and then those at its beginning, which come later.
 fn add_edges_from(

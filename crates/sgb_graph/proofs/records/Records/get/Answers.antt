@@ -6,8 +6,8 @@ use Rattle.sgb_graph.specs.Columns.{util_seen}
 use Rattle.sgb_graph.specs.inner.Columns.{values}
 use Rattle.sgb_graph.proofs.records.Records.get.Goals as goal
 
-pub index-plain-requires : goal.index-plain-requires
-index-plain-requires c = search (rules, length-kept_records)
+pub at-plain-requires : goal.at-plain-requires
+at-plain-requires c = search (rules, length-kept_records)
 
 pub get-requires : goal.get-requires
 get-requires c = search (rules, length-kept_records, HasPlace-below)

@@ -1,6 +1,6 @@
 use Rattle.std.proofs.Common.{[], ◌∷◌, ◌++◌, ap, ◌∙◌, rules, w64}
 use Rattle.std.proofs.lemmas.Int.{to_z-of_z}
-use Rattle.sgb_graph.specs.inner.KeptRecords.{KeptRecords}
+use Rattle.sgb_graph.specs.inner.KeptRecords.{KeptRecords, plain_records}
 use Rattle.sgb_graph.proofs.KeptRecords.{record_pushed, record_with-is}
 use Rattle.sgb_graph.proofs.records.Records.push.Goals as goal
 
@@ -11,7 +11,7 @@ returns-clause-ok c =
     let far = c.new.ensures.len ∙ to_z-of_z w64 arc.len (search rules) in
     let is = record_with-is c.new.result arc c.new.ensures.tip c.new.ensures.next far in
     let more =
-    record_pushed r.plain.items c.push.new.self.items c.new.result r.a r.b c.reserve.new.self c.reserve-2.new.self c.push-2.new.self c.push-3.new.self arc
-    c.self.invariant.0 c.self.invariant.1 c.in_ok-push.ensures.items (c.push-2.ensures.kind ∙ c.reserve.ensures.kind) (c.push-3.ensures.kind ∙ c.reserve-2.ensures.kind)
+    record_pushed (plain_records r.plain) (plain_records c.push.new.self) c.new.result r.a r.b c.reserve.new.self c.reserve-2.new.self c.push-2.new.self c.push-3.new.self arc
+    c.self.invariant.0 c.self.invariant.1 c.in_ok-push.ensures.ok (c.push-2.ensures.kind ∙ c.reserve.ensures.kind) (c.push-3.ensures.kind ∙ c.reserve-2.ensures.kind)
     c.reserve.ensures.values c.reserve-2.ensures.values c.push-2.ensures.values c.push-3.ensures.values is in
     more.same ∙ ap (λ (d : KeptRecords). record d { items = d.items ++ arc ∷ [] }) c.self.view_is

@@ -1,0 +1,269 @@
+//! Where the arc records of a graph lead, in little memory: 16 bytes for each where all have one length, and 24 for each
+//! from the first on that has another.
+ghost use Rattle.std.specs.Prelude.{◌≡◌, ◌<◌, ◌+◌, ◌++◌, ◌^◌, ℤ, [], ◌∷◌, length, map, slice_get, None, Ok, Some, IfOk, IfSome, OnOk, OnErr};
+ghost use Rattle.std.specs.List.{list_all};
+ghost use Rattle.sgb_graph.specs.inner.KeptRecords.{TakesLength, kept_number, lead_fits, plain_fits, plain_records, with_length};
+
+use crate::fields::Ref;
+use crate::kept_numbers::{keep_number, read_number};
+use crate::ranges::{chain_fits, ref_fits};
+use std::alloc::{AllocError, Global};
+
+// Where a record leads, the number of the next one, and its length.
+#[derive(Clone, Copy)]
+pub(crate) struct PlainRecord {
+    pub(crate) len: i64,
+    pub(crate) next: usize,
+    pub(crate) tip: Ref,
+}
+
+// Where a record leads, and the number of the next one.
+#[derive(Clone, Copy)]
+pub(crate) struct Lead {
+    next: usize,
+    tip: Ref,
+}
+
+const _: () = prove!(size_of::<PlainRecord>() == 24);
+
+const _: () = prove!(size_of::<Lead>() == 16);
+
+// Where records lead, one after another: those of one length without it, others each with its own.
+pub(crate) enum Leads {
+    Same(i64, Vec<Lead>),
+    Each(Vec<PlainRecord>),
+}
+
+// One function drops them. A derived drop would be a case for each wherever records are dropped.
+impl Drop for Leads {
+    fn drop(self) {
+        match self {
+            Leads::Same(_, _) => {}
+            Leads::Each(_) => {}
+        }
+    }
+}
+
+impl PlainRecord {
+    // A record that leads to this tip, before the one given.
+    pub(crate) fn new(tip: Ref, after: Option<usize>, len: i64) -> PlainRecord
+        requires { IfSome after (λ k. k + 1 < 2 ^ 64) }
+        ensures tip { result.tip ≡ tip }
+        ensures next { kept_number result.next ≡ after }
+        ensures len { result.len ≡ len }
+    {
+        PlainRecord {
+            len,
+            next: keep_number(after),
+            tip,
+        }
+    }
+
+    // The record without its length.
+    #[inline(always)]
+    fn lead(self) -> Lead
+        ensures next { result.next ≡ self.next }
+        ensures tip { result.tip ≡ self.tip }
+    {
+        Lead {
+            next: self.next,
+            tip: self.tip,
+        }
+    }
+
+    // Whether the record leads to one of n vertices, or none, before one of m records, or none.
+    fn fits(&self, n: usize, m: usize) -> bool
+        ensures { result ≡ plain_fits n m self.now }
+    {
+        self.lead().fits(n, m)
+    }
+}
+
+impl Lead {
+    // The record with this length.
+    #[inline(always)]
+    fn with_length(self, len: i64) -> PlainRecord
+        ensures { result ≡ with_length len self }
+    {
+        PlainRecord {
+            len,
+            next: self.next,
+            tip: self.tip,
+        }
+    }
+
+    // Whether the record leads to one of n vertices, or none, before one of m records, or none.
+    fn fits(&self, n: usize, m: usize) -> bool
+        ensures { result ≡ lead_fits n m self.now }
+    {
+        ref_fits(n, self.tip) && chain_fits(m, read_number(self.next))
+    }
+}
+
+impl Leads {
+    // No records. It takes no memory.
+    pub(crate) fn new(alloc: Global) -> Leads
+        ensures { plain_records result ≡ [] }
+    {
+        Leads::Same(1, Vec::new(alloc))
+    }
+
+    // The number of records.
+    #[inline(always)]
+    pub(crate) fn len(&self) -> usize
+        ensures count { result ≡ length (plain_records self.now) }
+        ensures small { result < 2 ^ 63 }
+    {
+        match self {
+            Leads::Same(_, leads) => leads.len(),
+            Leads::Each(records) => records.len(),
+        }
+    }
+
+    // Record k, below the number of records.
+    #[inline(always)]
+    pub(crate) fn at(&self, k: usize) -> PlainRecord
+        requires { k < length (plain_records self.now) }
+        ensures { slice_get (plain_records self.now) k ≡ Some result }
+    {
+        match self {
+            Leads::Same(len, leads) => leads[k].with_length(*len),
+            Leads::Each(records) => records[k],
+        }
+    }
+
+    // Whether each record leads to one of n vertices, or none, before one of m records, or none.
+    pub(crate) fn fit(&self, n: usize, m: usize) -> bool
+        ensures { result ≡ list_all (plain_fits n m) (plain_records self.now) }
+    {
+        match self {
+            Leads::Same(_, leads) => each_lead_fits(leads, n, m),
+            Leads::Each(records) => each_fits(records, n, m),
+        }
+    }
+
+    // Takes room for so many records more. The records stay, whether there is room or not.
+    pub(crate) fn reserve(&mut self, count: usize) -> Result<(), AllocError>
+        ensures { plain_records self.new ≡ plain_records self.old }
+    {
+        match self {
+            Leads::Same(_, leads) => leads.reserve(count),
+            Leads::Each(records) => records.reserve(count),
+        }
+    }
+
+    // Puts a record after the others.
+    #[inline(always)]
+    pub(crate) fn push(&mut self, last: PlainRecord) -> Result<(), AllocError>
+        ensures ok { OnOk result (plain_records self.new ≡ plain_records self.old ++ last ∷ []) }
+        ensures err { OnErr result (plain_records self.new ≡ plain_records self.old) }
+    {
+        self.take_length(last.len)?;
+        match self {
+            Leads::Same(_, leads) => {
+                leads.reserve(1)?;
+                leads.push_reserved(last.lead());
+            }
+            Leads::Each(records) => {
+                records.reserve(1)?;
+                records.push_reserved(last);
+            }
+        }
+        Ok(())
+    }
+
+    // Puts two records of one length after the others, or neither.
+    #[inline(always)]
+    pub(crate) fn push_two(
+        &mut self,
+        first: PlainRecord,
+        second: PlainRecord,
+    ) -> Result<(), AllocError>
+        requires { first.len ≡ second.len }
+        ensures ok { OnOk result (plain_records self.new
+            ≡ plain_records self.old ++ first ∷ second ∷ []) }
+        ensures err { OnErr result (plain_records self.new ≡ plain_records self.old) }
+    {
+        self.take_length(first.len)?;
+        match self {
+            Leads::Same(_, leads) => {
+                leads.reserve(2)?;
+                leads.push_reserved(first.lead());
+                leads.push_reserved(second.lead());
+            }
+            Leads::Each(records) => {
+                records.reserve(2)?;
+                records.push_reserved(first);
+                records.push_reserved(second);
+            }
+        }
+        Ok(())
+    }
+
+    // Makes it such that a record of this length can be put: where others have another length, each gets its own.
+    #[inline(always)]
+    fn take_length(&mut self, len: i64) -> Result<(), AllocError>
+        ensures records { plain_records self.new ≡ plain_records self.old }
+        ensures ready { OnOk result (TakesLength len self.new) }
+    {
+        match self {
+            Leads::Same(own, _) if *own != len => self.take_other_length(len),
+            _ => Ok(()),
+        }
+    }
+
+    // So where they have one length, and it is another.
+    #[inline(never)]
+    fn take_other_length(&mut self, len: i64) -> Result<(), AllocError>
+        ensures records { plain_records self.new ≡ plain_records self.old }
+        ensures ready { OnOk result (TakesLength len self.new) }
+    {
+        if self.len() == 0 {
+            if let Leads::Same(own, _) = self {
+                *own = len;
+            }
+            return Ok(());
+        }
+        if let Some(records) = self.apart()? {
+            *self = Leads::Each(records);
+        }
+        Ok(())
+    }
+
+    // The records, each with its own length, where they do not stand so.
+    fn apart(&self) -> Result<Option<Vec<PlainRecord>>, AllocError>
+        ensures some { IfOk result (λ apart. IfSome apart
+            (λ records. records.items ≡ plain_records self.now)) }
+        ensures none { (len : ℤ) → result ≡ Ok None → TakesLength len self.now }
+    {
+        match self {
+            Leads::Same(len, leads) => Ok(Some(records_of(*len, leads)?)),
+            Leads::Each(_) => Ok(None),
+        }
+    }
+}
+
+// The records with this length, and room for as many as there was.
+fn records_of(len: i64, leads: &Vec<Lead>) -> Result<Vec<PlainRecord>, AllocError>
+    ensures { IfOk result (λ records. records.items ≡ map (with_length len) leads.now.items) }
+{
+    let mut records = Vec::with_capacity(*leads.allocator(), leads.capacity())?;
+    for lead in leads {
+        records.push(lead.with_length(len))?;
+    }
+    Ok(records)
+}
+
+// Whether each record leads to one of n vertices, or none, before one of m records, or none.
+fn each_lead_fits(leads: &[Lead], n: usize, m: usize) -> bool
+    ensures { result ≡ list_all (lead_fits n m) leads.now }
+{
+    leads.iter().all(|lead| lead.fits(n, m))
+}
+
+// Whether each record, with its length, does so.
+fn each_fits(records: &[PlainRecord], n: usize, m: usize) -> bool
+    ensures { result ≡ list_all (plain_fits n m) records.now }
+{
+    records.iter().all(|record| record.fits(n, m))
+}
