@@ -179,6 +179,11 @@ pub first_draw : flip_answer (record { start = negsuc 314158; skip = pos 0; coun
 unfolding y_number back_to_first plain_draws number_lines digits
 first_draw = refl
 
+-- after that one, the next two in order
+pub next_draws : flip_answer (record { start = negsuc 314158; skip = pos 1; count = pos 2; m = pos 0 }) ≡ Ok (codes "1301097714\n451151173\n")
+unfolding y_number back_to_first plain_draws number_lines digits
+next_draws = refl
+
 -- after a draw that is skipped, uniform draws below 1431655765, of which one more draw is thrown away
 pub after_one : flip_answer (record { start = pos 7; skip = pos 1; count = pos 2; m = pos 1431655765 }) ≡ Ok (codes "719591340\n194604418\n")
 unfolding y_number back_to_first uniform_draws number_lines digits
