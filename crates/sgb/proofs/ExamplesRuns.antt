@@ -1,5 +1,5 @@
 -- What a run leaves, what it reads, and what words of the command line make of it: what holds, and what nearly does.
-use Rattle.std.specs.Prelude.{◌≡◌, ◌++◌, ℕ, pos, Bool, true, false, List, [], ◌∷◌, length, map, take, Some, None, Result, Ok, Err, codes, refl}
+use Rattle.std.specs.Prelude.{◌≡◌, ◌++◌, ◌+◌, ℕ, pos, Bool, true, false, List, [], ◌∷◌, length, map, Some, None, Result, Ok, Err, codes, refl}
 use Rattle.std.proofs.Common.{arith, ap, inl, inr, subst, sym}
 use Rattle.std.proofs.Math.Seq.{take-append_seam}
 use Rattle.std.proofs.lemmas.Bool.{leb-true}
@@ -17,6 +17,7 @@ use Rattle.sgb_requests.specs.declared.requests.Request.{Request}
 use Rattle.sgb_requests.specs.declared.requests.Request.TheVariants as request
 use Rattle.sgb_requests.proofs.PlainTexts.{expression_plain}
 use Rattle.sgb_requests.proofs.PlainWords.{queen_law, save_law}
+use Rattle.sgb_values.specs.Values.{most_input}
 use Rattle.sgb_values.proofs.Examples.{no_file_is_stdin}
 use Rattle.sgb.specs.FlipAnswers.{number_lines}
 use Rattle.sgb.specs.Inputs.{IsKeptOfInput, IsReadFrom, LosesAtMost}
@@ -56,7 +57,7 @@ pub kept : IsKeptOfInput (Some (codes "b")) (codes "b") × IsKeptOfInput None (c
 kept = (refl, tt)
 
 pub kept_of_more : (input more : List ℕ) → length input ≡ 1_073_741_825 → IsKeptOfInput (Some (input ++ more)) input
-kept_of_more input more many = sym (subst (λ n. take n (input ++ more) ≡ input) many (take-append_seam input more))
+kept_of_more input more many = let e : most_input + 1 ≡ length input = sym many in rw e (sym (take-append_seam input more))
 
 -- ---- answers given in full, and runs that were stopped
 
