@@ -38,8 +38,8 @@ use Rattle.sgb_requests.specs.declared.faults.Fault.{Fault}
 use Rattle.sgb_requests.specs.declared.faults.Fault.TheVariants as fault
 use Rattle.sgb_requests.specs.declared.requests.Request.TheVariants as request
 use Rattle.sgb_requests.specs.declared.requests.Resume.TheVariants as resume
-use Rattle.sgb_graph.specs.Draws.{back_to_first, plain_draws, uniform_draws, y_number}
-use Rattle.sgb.specs.FlipAnswers.{flip_answer, number_lines}
+use Rattle.sgb_graph.specs.Draws.{back_to_first, plain_draws, seed_of, uniform_draws, y_number}
+use Rattle.sgb.specs.FlipAnswers.{accepted_draws, flip_answer, number_lines}
 
 -- board(n1,n2,0,0,piece,0,0)
 abbrev squares : ℤ → ℤ → ℤ → Generator
@@ -174,18 +174,18 @@ ring_of_family = (refl, refl, refl)
 
 -- ---- flips, with values from GB_FLIP's own test and from a program of its rules
 
--- a plain draw
-pub first_draw : flip_answer (record { start = negsuc 314158; skip = pos 0; count = pos 1; m = pos 0 }) ≡ Ok (codes "119318998\n")
+-- the line of the first draw from -314159
+pub first_draw : number_lines (plain_draws (seed_of (negsuc 314158)) 0 1) ≡ codes "119318998\n"
 unfolding y_number back_to_first plain_draws number_lines digits
 first_draw = refl
 
--- after that one, the next two in order
-pub next_draws : flip_answer (record { start = negsuc 314158; skip = pos 1; count = pos 2; m = pos 0 }) ≡ Ok (codes "1301097714\n451151173\n")
+-- two plain draws after one that is skipped
+pub next_draws : flip_answer (record { start = pos 7; skip = pos 1; count = pos 2; m = pos 0 }) ≡ Ok (codes "719591340\n1610774012\n")
 unfolding y_number back_to_first plain_draws number_lines digits
 next_draws = refl
 
--- after a draw that is skipped, uniform draws below 1431655765, of which one more draw is thrown away
-pub after_one : flip_answer (record { start = pos 7; skip = pos 1; count = pos 2; m = pos 1431655765 }) ≡ Ok (codes "719591340\n194604418\n")
+-- uniform draws below 298 after one that is skipped: those of 14658512 and 1621579914; 2147483615 between them is thrown away
+pub after_one : flip_answer (record { start = pos 4190154; skip = pos 1; count = pos 2; m = pos 298 }) ≡ Ok (codes "190\n100\n")
 unfolding y_number back_to_first uniform_draws number_lines digits
 after_one = refl
 
@@ -199,9 +199,10 @@ pub none : flip_answer (record { start = pos 1; skip = pos 5; count = pos 0; m =
 unfolding plain_draws number_lines
 none = refl
 
--- the greatest numbers that are taken: 1,000,000,000 draws to skip, and a bound of 2^31
-pub greatest : flip_answer (record { start = pos 1; skip = pos 1_000_000_000; count = pos 0; m = pos 2_147_483_648 }) ≡ Ok []
-unfolding uniform_draws number_lines
+-- the greatest numbers that are taken: 1,000,000,000 draws to skip and as many to write, and a bound of 2^31
+pub greatest :
+    accepted_draws (record { start = negsuc 0; skip = pos 1_000_000_000; count = pos 1_000_000_000; m = pos 2_147_483_648 })
+    ≡ Ok (record { start = negsuc 0; skip = 1_000_000_000; count = 1_000_000_000; m = 2_147_483_648 })
 greatest = refl
 
 -- outside the ranges
