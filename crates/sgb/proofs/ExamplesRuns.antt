@@ -7,13 +7,11 @@ use Rattle.std.specs.Fmt.{digits}
 use Rattle.std.specs.declared.io.ErrorKind.TheVariants.{NotFound, OutOfMemory}
 use Rattle.sgb_vec.specs.declared.panics.Panic.TheVariants.{Early, NoRoom}
 use Rattle.sgb_graph.specs.Draws.{plain_draws}
-use Rattle.sgb_file.specs.Devices.{Change}
 use Rattle.sgb_expr.specs.declared.expressions.Expr.TheVariants as expr
 use Rattle.sgb_requests.specs.Faults.{fault_line}
 use Rattle.sgb_requests.specs.Reading.{IsReadAs}
 use Rattle.sgb_requests.specs.declared.faults.Fault.{Fault}
 use Rattle.sgb_requests.specs.declared.faults.Fault.TheVariants as fault
-use Rattle.sgb_requests.specs.declared.requests.Request.{Request}
 use Rattle.sgb_requests.specs.declared.requests.Request.TheVariants as request
 use Rattle.sgb_requests.proofs.PlainTexts.{expression_plain}
 use Rattle.sgb_requests.proofs.PlainWords.{queen_law, save_law}
@@ -23,7 +21,7 @@ use Rattle.sgb.specs.FlipAnswers.{number_lines}
 use Rattle.sgb.specs.Inputs.{IsKeptOfInput, IsReadFrom, LosesAtMost}
 use Rattle.sgb.specs.Outcomes.{Outcome, outcome_of, reads_input}
 use Rattle.sgb.specs.Program.{AskForNoInput, unread_fault}
-use Rattle.sgb.specs.Runs.{AreUsed, Input, IsAnswerGiven, IsAnswerRun, IsGiven, IsReported, IsRunFrom, IsRunOf, IsRunOn, IsStopped, Left}
+use Rattle.sgb.specs.Runs.{AreUsed, IsAnswerGiven, IsAnswerRun, IsGiven, IsReported, IsRunFrom, IsRunOf, IsRunOn, IsStopped, Left}
 use Rattle.sgb.specs.Writing.{Effect}
 
 -- a sink that took this text, and is that text

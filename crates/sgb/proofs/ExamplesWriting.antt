@@ -1,5 +1,5 @@
 -- What writing a text leaves in a sink, and how the answer to a request ends: what holds, and what nearly does.
-use Rattle.std.specs.Prelude.{◌≡◌, ◌++◌, ℕ, Bool, true, false, List, [], ◌∷◌, Some, Ok, Err, codes, refl}
+use Rattle.std.specs.Prelude.{◌≡◌, ◌++◌, ℕ, Bool, true, false, List, [], Some, Ok, Err, codes, refl}
 use Rattle.std.proofs.Common.{inl, inr}
 use Rattle.sgb_vec.specs.declared.panics.Panic.TheVariants.{NoRoom}
 use Rattle.sgb_file.specs.Devices.{Change, MemSinkState}
