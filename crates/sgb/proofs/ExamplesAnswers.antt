@@ -28,7 +28,7 @@ use Rattle.sgb_gen.specs.declared.params.Generator.TheVariants as generator
 use Rattle.sgb_gen.specs.Generators.{vectors_of}
 use Rattle.sgb.specs.Certain.{IsPast}
 use Rattle.sgb.specs.Locals.{family_text, left_out_after}
-use Rattle.sgb.specs.Outcomes.{answer_of, left_out, outcome_of, queen_moves, reads_input}
+use Rattle.sgb.specs.Outcomes.{answer_of, left_out, moves_of, outcome_of, queen_moves, reads_input}
 use Rattle.sgb_requests.specs.Faults.{fault_line}
 use Rattle.sgb.specs.Texts.{arc_line, block, blocks, head_text, name_lines}
 use Rattle.sgb_gen.specs.Generators.{described}
@@ -142,6 +142,10 @@ unfolding digits numbers_from blocks block arc_line head_text
 count_listed = refl
 
 -- ---- queens, what is seen of an answer, and what reads standard input
+
+-- the board of rooks, and that of bishops
+pub queen_boards : moves_of (negsuc 0) ∷ moves_of (negsuc 1) ∷ [] ≡ squares (pos 3) (pos 4) (negsuc 0) ∷ squares (pos 3) (pos 4) (negsuc 1) ∷ []
+queen_boards = refl
 
 pub queens : result_map_both (λ text. take 167 text) (λ f. f) (answer_of request.Queen (Err Early))
     ≡ Ok (codes "Queen Moves on a 3x4 Board\n\n  The graph whose official name is\ngunion(board(3,4,0,0,-1,0,0),board(3,4,0,0,-2,0,0),0,0)\n  has 12 vertices and 92 arcs:\n\n0.0\n  -> 1.1, le")

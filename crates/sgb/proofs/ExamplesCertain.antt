@@ -12,8 +12,9 @@ use Rattle.sgb_graph.specs.Draws.{plain_draws}
 use Rattle.sgb_graph.specs.Events.{list_from}
 use Rattle.sgb_graph.specs.Graphs.{GraphData}
 use Rattle.sgb_graph.specs.Vertices.{names_of}
-use Rattle.sgb_gen.specs.Boards.{board_id}
+use Rattle.sgb_gen.specs.Boards.{board, board_id}
 use Rattle.sgb_gen.specs.Displacements.{displacements, vectors_of_norm}
+use Rattle.sgb_gen.specs.Generators.{made}
 use Rattle.sgb_gen.specs.Moves.{board_moves}
 use Rattle.sgb_gen.specs.VectorGraphs.{family_graph}
 use Rattle.sgb_gen.specs.declared.params.BoardParams.{BoardParams}
@@ -23,7 +24,7 @@ use Rattle.sgb_expr.specs.Expression.{Stdin, expression_of}
 use Rattle.sgb_expr.specs.declared.expressions.Expr.TheVariants as expr
 use Rattle.sgb_requests.specs.declared.requests.Request.TheVariants as request
 use Rattle.sgb_requests.specs.declared.requests.Resume.TheVariants as resume
-use Rattle.sgb.specs.Certain.{IsCertain, IsListedAtOnce, IsRefusedAtOnce, NeedsNoMemory, TakesMemoryFirst}
+use Rattle.sgb.specs.Certain.{IsCertain, IsListedAtOnce, IsPast, IsRefusedAtOnce, NeedsNoMemory, TakesMemoryFirst}
 use Rattle.sgb.specs.FlipAnswers.{number_lines}
 use Rattle.sgb.specs.Runs.{Left}
 
@@ -38,9 +39,9 @@ ring = generator.Board (squares (pos 0))
 abbrev line : ℤ → Generator
 line n = generator.Simplex (record { n = n; n0 = pos 1; n1 = pos 0; n2 = pos 1; n3 = pos 0; n4 = pos 0; directed = false })
 
--- subsets(2,n0,0,n0,0,0,0x6,0)
-abbrev sets : ℤ → Generator
-sets n0 = generator.Subsets (record { n = pos 2; n0 = n0; n1 = pos 0; n2 = pos 1; n3 = pos 0; n4 = pos 0; size_bits = 6; directed = false })
+-- subsets(2,1,0,1,0,0,0x6,0)
+abbrev sets : Generator
+sets = generator.Subsets (record { n = pos 2; n0 = pos 1; n1 = pos 0; n2 = pos 1; n3 = pos 0; n4 = pos 0; size_bits = 6; directed = false })
 
 -- ---- refused at once
 
@@ -64,8 +65,16 @@ pub past_ring : IsListedAtOnce ring (resume.Skip 5)
 unfolding box repeated digits name_of_vector displacements vectors_of_norm board_moves board_id family_graph list_from
 past_ring g is = inr (λ e. absurd cc, (5, refl, subst (λ n. n ≤ 5) (ap count is) (leb-true 4 5 refl)))
 
+-- no board from its first
+pub whole_board : (p : BoardParams) (g : GraphData) → made (board p) ≡ Ok g → IsListedAtOnce (generator.Board p) resume.Whole → ⊥
+whole_board p g is listed = from_first (names_of g) (listed g is)
+  where
+    from_first : (names : List (List ℕ)) → IsPast names resume.Whole → ⊥
+    from_first names (inl e) = absurd cc
+    from_first names (inr (other, more)) = absurd (other refl)
+
 -- a simplex of one bound without its head, and subsets of one bound
-pub one_bound : IsListedAtOnce (line (pos 2)) (resume.Skip 1) × IsListedAtOnce (sets (pos 1)) resume.Whole
+pub one_bound : IsListedAtOnce (line (pos 2)) (resume.Skip 1) × IsListedAtOnce sets resume.Whole
 unfolding repeated
 one_bound = ((omega arith, λ e. absurd cc), omega arith)
 

@@ -8,20 +8,21 @@ use Rattle.std.specs.declared.io.ErrorKind.TheVariants.{NotFound, OutOfMemory}
 use Rattle.sgb_vec.specs.declared.panics.Panic.TheVariants.{Early, NoRoom}
 use Rattle.sgb_graph.specs.Draws.{plain_draws}
 use Rattle.sgb_expr.specs.declared.expressions.Expr.TheVariants as expr
+use Rattle.sgb_expr.specs.declared.flips.FlipParams.{FlipParams}
 use Rattle.sgb_requests.specs.Faults.{fault_line}
-use Rattle.sgb_requests.specs.Reading.{IsReadAs}
+use Rattle.sgb_requests.specs.Reading.{IsFlipReadAs, IsReadAs}
 use Rattle.sgb_requests.specs.declared.faults.Fault.{Fault}
 use Rattle.sgb_requests.specs.declared.faults.Fault.TheVariants as fault
 use Rattle.sgb_requests.specs.declared.requests.Request.TheVariants as request
-use Rattle.sgb_requests.proofs.PlainTexts.{expression_plain}
-use Rattle.sgb_requests.proofs.PlainWords.{queen_law, save_law}
+use Rattle.sgb_requests.proofs.PlainTexts.{expression_plain, flip_plain}
+use Rattle.sgb_requests.proofs.PlainWords.{flip_law, queen_law, save_law}
 use Rattle.sgb_values.specs.Values.{most_input}
 use Rattle.sgb_values.proofs.Examples.{no_file_is_stdin}
 use Rattle.sgb.specs.FlipAnswers.{number_lines}
 use Rattle.sgb.specs.Inputs.{IsKeptOfInput, IsReadFrom, LosesAtMost}
 use Rattle.sgb.specs.Outcomes.{Outcome, outcome_of, reads_input}
-use Rattle.sgb.specs.Program.{AskForNoInput, unread_fault}
-use Rattle.sgb.specs.Runs.{AreUsed, IsAnswerGiven, IsAnswerRun, IsGiven, IsReported, IsRunFrom, IsRunOf, IsRunOn, IsStopped, Left}
+use Rattle.sgb.specs.Program.{AskForNoInput, IsProgramRun, unread_fault}
+use Rattle.sgb.specs.Runs.{AreUsed, Input, IsAnswerGiven, IsAnswerRun, IsGiven, IsReported, IsRunFrom, IsRunOf, IsRunOn, IsStopped, Left}
 use Rattle.sgb.specs.Writing.{Effect}
 
 -- a sink that took this text, and is that text
@@ -102,8 +103,12 @@ changed is = let e : codes "b" ≡ [] = is.1 in absurd cc
 
 -- ---- runs on requests
 
--- flip(1,5,0,0) reads no input, so it is nothing to it that this has failed
-pub run_on_flip : IsRunOn (request.Flip (record { start = pos 1; skip = pos 5; count = pos 0; m = pos 0 })) (record { bytes = Some (codes "0\n"); failed = true }) (left [] false [] 0)
+-- flip(1,5,0,0), which has no number to write
+abbrev no_numbers : FlipParams
+no_numbers = record { start = pos 1; skip = pos 5; count = pos 0; m = pos 0 }
+
+-- it reads no input, so that it is nothing to it that this has failed
+pub run_on_flip : IsRunOn (request.Flip no_numbers) (record { bytes = Some (codes "0\n"); failed = true }) (left [] false [] 0)
 unfolding plain_draws number_lines
 run_on_flip = (codes "0\n", refl, Ok [], (Err Early, no_file_is_stdin, refl), (inl (record { output = refl; line = refl; exit = refl }), tt))
 
@@ -158,3 +163,17 @@ save_asks read none =
     let asked = (save_law (codes "sgb") (codes "stdin") (Ok (request.Save expr.Stdin)) (expression_plain (codes "stdin") expr.Stdin read)).1 (expr.Stdin, read, refl) in
     let e : true ≡ false = none (request.Save expr.Stdin) asked in
     absurd cc
+
+-- `sgb flip flip(1,5,0,0)` was run
+pub flip_called :
+    IsFlipReadAs (codes "flip(1,5,0,0)") (Ok no_numbers)
+    → IsProgramRun (codes "sgb" ∷ codes "flip" ∷ codes "flip(1,5,0,0)" ∷ []) (record { bytes = Some (codes "0\n"); failed = true }) (left [] false [] 0)
+unfolding plain_draws number_lines
+flip_called read =
+    let asked = (flip_law (codes "sgb") (codes "flip(1,5,0,0)") (Ok (request.Flip no_numbers)) (flip_plain (codes "flip(1,5,0,0)") no_numbers read)).1 (no_numbers, read, refl) in
+    inl (request.Flip no_numbers, asked, run_on_flip, λ needs sound stdin. record { output = refl; line = refl; exit = refl })
+
+-- out of memory any words may be refused
+pub no_room : (words : List (List ℕ)) (source : Input) → IsProgramRun words source (left [] false (codes "Something went wrong (panic code 1)!\n") 1)
+unfolding digits fault_line
+no_room words source = inr (fault.Panic NoRoom, refl, record { out = record { same = refl; told = refl; sound = refl }; line = refl; exit = refl })
