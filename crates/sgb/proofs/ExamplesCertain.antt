@@ -109,6 +109,10 @@ pub no_numbers : IsCertain (request.Flip (record { start = pos 1; skip = pos 5; 
 unfolding plain_draws number_lines
 no_numbers needs sound stdin = record { output = refl; line = refl; exit = refl }
 
+pub other_status : IsCertain (request.Flip (record { start = pos 1; skip = pos 5; count = pos 0; m = pos 0 })) (nothing_written false 1) → ⊥
+unfolding plain_draws number_lines
+other_status is = let e : ◌≡◌ {A = ℕ} 1 0 = (is tt refl (Err Bad)).exit in absurd cc
+
 -- where the output has failed nothing is said
 pub failed_output : IsCertain (request.Flip (record { start = pos 1; skip = pos 5; count = pos 0; m = pos 0 })) (nothing_written true 3)
 failed_output needs sound stdin = absurd cc

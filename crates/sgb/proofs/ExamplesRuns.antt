@@ -75,6 +75,9 @@ pub stopped : IsStopped fault.Write answer_bc (left (codes "b") true (codes "sgb
 unfolding fault_line
 stopped = record { output = (codes "b", codes "c", refl, refl); line = refl; exit = refl }
 
+pub stopped_as_answered : IsStopped fault.Write answer_bc (left (codes "b") true (codes "sgb: write fault\n") 0) → ⊥
+stopped_as_answered is = let e : ◌≡◌ {A = ℕ} 0 3 = is.exit in absurd cc
+
 pub stopped_for_memory : IsStopped (fault.Panic NoRoom) answer_bc (left (codes "b") false (codes "Something went wrong (panic code 1)!\n") 1)
 unfolding digits fault_line
 stopped_for_memory = record { output = (codes "b", codes "c", refl, refl); line = refl; exit = refl }
@@ -83,6 +86,10 @@ pub run_of :
     IsRunOf answer_bc (left (codes "b") true (codes "sgb: write fault\n") 3) × IsRunOf answer_bc (left (codes "bc") false [] 0)
     × IsRunOf answer_bc (left (codes "b") false (codes "Something went wrong (panic code 1)!\n") 1)
 run_of = (stopped, inl (record { output = refl; line = refl; exit = refl }), inr stopped_for_memory)
+
+-- where the sink has failed nothing counts as answered
+pub failed_after_all : IsRunOf answer_bc (left (codes "bc") true [] 0) → ⊥
+failed_after_all is = let e : ◌≡◌ {A = ℕ} 0 3 = is.exit in absurd cc
 
 -- ---- runs by how standard input ended
 
@@ -128,6 +135,12 @@ run_on_stdin = (
 pub used : AreUsed true (Some (codes "b")) (codes "b") × AreUsed false (Some (codes "b")) []
 used = ((λ reads. refl, λ reads. absurd cc), (λ reads. absurd cc, λ reads. refl))
 
+pub used_unread : AreUsed false (Some (codes "b")) (codes "b") → ⊥
+used_unread is = let e : codes "b" ≡ [] = is.1 refl in absurd cc
+
+pub read_unused : AreUsed true (Some (codes "b")) [] → ⊥
+read_unused is = let e : [] ≡ codes "b" = is.0 refl in absurd cc
+
 -- a program whose answer is what it reads
 abbrev echoes : List ℕ → Result (List ℕ) Fault → Type 0
 echoes text answer = answer ≡ Ok text
@@ -145,6 +158,9 @@ echo_unread = (codes "b", used.0, λ a is. reported)
 -- answered in full where the sink is sound
 pub answer_given : IsAnswerGiven echoes (left [] false [] 0)
 answer_given sound a is = subst (λ x. IsGiven (outcome_of x) (left [] false [] 0)) (sym is) (record { output = refl; line = refl; exit = refl })
+
+pub answer_not_given : IsAnswerGiven echoes (left [] false [] 1) → ⊥
+answer_not_given is = let e : ◌≡◌ {A = ℕ} 1 0 = (is refl (Ok []) refl).exit in absurd cc
 
 pub answer_of_failed : IsAnswerGiven echoes (left [] true [] 3)
 answer_of_failed failed a is = absurd cc

@@ -106,3 +106,6 @@ refusal_answered is = is
 -- where standard input failed there is no answer
 pub ended_from : IsEndedFrom {T = ℕ} true (Ok (codes "b")) untouched (Err fault.Read) × IsEndedFrom {T = ℕ} false (Ok (codes "b")) (took_b false) (Ok 0)
 ended_from = ((as_it_was, refl), whole)
+
+pub answered_unread : IsEndedFrom {T = ℕ} true (Ok (codes "b")) untouched (Ok 0) → ⊥
+answered_unread (same, is) = absurd cc
