@@ -1,5 +1,5 @@
 -- Answers of requests on small graphs, worked out by hand, and what they are made of.
-use Rattle.std.proofs.Common.{◌≡◌, ◌≤◌, ℕ, zero, suc, ℤ, pos, negsuc, true, false, List, [], ◌∷◌, ◌++◌, length, take, Some, None, Ok, Err, map, codes, refl, inl, inr, Result, arith}
+use Rattle.std.proofs.Common.{◌≡◌, ◌≤◌, ℕ, zero, suc, ℤ, pos, negsuc, true, false, List, [], ◌∷◌, ◌++◌, take, Some, None, Ok, Err, map, codes, refl, inl, inr, Result, arith}
 use Rattle.std.specs.Fmt.{digits}
 use Rattle.std.specs.Result.{result_map_both}
 use Rattle.sgb_vec.specs.Boxes.{box}
