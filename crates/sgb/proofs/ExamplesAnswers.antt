@@ -188,7 +188,8 @@ pub next_draws : flip_answer (record { start = pos 7; skip = pos 1; count = pos 
 unfolding y_number back_to_first plain_draws number_lines digits
 next_draws = refl
 
--- uniform draws below 298 after one that is skipped: those of 14658512 and 1621579914; 2147483615 between them is thrown away
+-- uniform draws below 298 after one that is skipped: those of 14658512 and 1621579914; 2147483615 between them is
+-- thrown away
 pub after_one : flip_answer (record { start = pos 4190154; skip = pos 1; count = pos 2; m = pos 298 }) ≡ Ok (codes "190\n100\n")
 unfolding y_number back_to_first uniform_draws number_lines digits
 after_one = refl
