@@ -1,5 +1,5 @@
 -- Answers of requests on small graphs, worked out by hand, and what they are made of.
-use Rattle.std.proofs.Common.{◌≡◌, ◌≤◌, ℕ, zero, suc, ℤ, pos, negsuc, true, false, List, [], ◌∷◌, ◌++◌, length, take, Some, None, Ok, Err, map, codes, refl, inl, inr, Result, arith}
+use Rattle.std.proofs.Common.{◌≡◌, ◌≤◌, ℕ, zero, suc, ℤ, pos, negsuc, true, false, List, [], ◌∷◌, ◌++◌, take, Some, None, Ok, Err, map, codes, refl, inl, inr, Result, arith}
 use Rattle.std.specs.Fmt.{digits}
 use Rattle.std.specs.Result.{result_map_both}
 use Rattle.sgb_vec.specs.Boxes.{box}
@@ -28,7 +28,7 @@ use Rattle.sgb_gen.specs.declared.params.Generator.TheVariants as generator
 use Rattle.sgb_gen.specs.Generators.{vectors_of}
 use Rattle.sgb.specs.Certain.{IsPast}
 use Rattle.sgb.specs.Locals.{family_text, left_out_after}
-use Rattle.sgb.specs.Outcomes.{answer_of, left_out, outcome_of, queen_moves, reads_input}
+use Rattle.sgb.specs.Outcomes.{answer_of, left_out, moves_of, outcome_of, queen_moves, reads_input}
 use Rattle.sgb_requests.specs.Faults.{fault_line}
 use Rattle.sgb.specs.Texts.{arc_line, block, blocks, head_text, name_lines}
 use Rattle.sgb_gen.specs.Generators.{described}
@@ -38,8 +38,8 @@ use Rattle.sgb_requests.specs.declared.faults.Fault.{Fault}
 use Rattle.sgb_requests.specs.declared.faults.Fault.TheVariants as fault
 use Rattle.sgb_requests.specs.declared.requests.Request.TheVariants as request
 use Rattle.sgb_requests.specs.declared.requests.Resume.TheVariants as resume
-use Rattle.sgb_graph.specs.Draws.{back_to_first, plain_draws, uniform_draws, y_number}
-use Rattle.sgb.specs.FlipAnswers.{flip_answer, number_lines}
+use Rattle.sgb_graph.specs.Draws.{back_to_first, plain_draws, seed_of, uniform_draws, y_number}
+use Rattle.sgb.specs.FlipAnswers.{accepted_draws, flip_answer, number_lines}
 
 -- board(n1,n2,0,0,piece,0,0)
 abbrev squares : ℤ → ℤ → ℤ → Generator
@@ -143,6 +143,10 @@ count_listed = refl
 
 -- ---- queens, what is seen of an answer, and what reads standard input
 
+-- the board of rooks, and that of bishops
+pub queen_boards : moves_of (negsuc 0) ∷ moves_of (negsuc 1) ∷ [] ≡ squares (pos 3) (pos 4) (negsuc 0) ∷ squares (pos 3) (pos 4) (negsuc 1) ∷ []
+queen_boards = refl
+
 pub queens : result_map_both (λ text. take 167 text) (λ f. f) (answer_of request.Queen (Err Early))
     ≡ Ok (codes "Queen Moves on a 3x4 Board\n\n  The graph whose official name is\ngunion(board(3,4,0,0,-1,0,0),board(3,4,0,0,-2,0,0),0,0)\n  has 12 vertices and 92 arcs:\n\n0.0\n  -> 1.1, le")
 unfolding box repeated digits name_of_vector displacements vectors_of_norm board_moves board_id family_graph numbers_from list_from each_edge_once merged double_compound_id blocks block arc_line head_text queen_moves
@@ -174,13 +178,19 @@ ring_of_family = (refl, refl, refl)
 
 -- ---- flips, with values from GB_FLIP's own test and from a program of its rules
 
--- a plain draw
-pub first_draw : flip_answer (record { start = negsuc 314158; skip = pos 0; count = pos 1; m = pos 0 }) ≡ Ok (codes "119318998\n")
+-- the line of the first draw from -314159
+pub first_draw : number_lines (plain_draws (seed_of (negsuc 314158)) 0 1) ≡ codes "119318998\n"
 unfolding y_number back_to_first plain_draws number_lines digits
 first_draw = refl
 
--- after a draw that is skipped, uniform draws below 1431655765, of which one more draw is thrown away
-pub after_one : flip_answer (record { start = pos 7; skip = pos 1; count = pos 2; m = pos 1431655765 }) ≡ Ok (codes "719591340\n194604418\n")
+-- two plain draws after one that is skipped
+pub next_draws : flip_answer (record { start = pos 7; skip = pos 1; count = pos 2; m = pos 0 }) ≡ Ok (codes "719591340\n1610774012\n")
+unfolding y_number back_to_first plain_draws number_lines digits
+next_draws = refl
+
+-- uniform draws below 298 after one that is skipped: those of 14658512 and 1621579914; 2147483615 between them is
+-- thrown away
+pub after_one : flip_answer (record { start = pos 4190154; skip = pos 1; count = pos 2; m = pos 298 }) ≡ Ok (codes "190\n100\n")
 unfolding y_number back_to_first uniform_draws number_lines digits
 after_one = refl
 
@@ -194,9 +204,10 @@ pub none : flip_answer (record { start = pos 1; skip = pos 5; count = pos 0; m =
 unfolding plain_draws number_lines
 none = refl
 
--- the greatest numbers that are taken: 1,000,000,000 draws to skip, and a bound of 2^31
-pub greatest : flip_answer (record { start = pos 1; skip = pos 1_000_000_000; count = pos 0; m = pos 2_147_483_648 }) ≡ Ok []
-unfolding uniform_draws number_lines
+-- the greatest numbers that are taken: 1,000,000,000 draws to skip and as many to write, and a bound of 2^31
+pub greatest :
+    accepted_draws (record { start = negsuc 0; skip = pos 1_000_000_000; count = pos 1_000_000_000; m = pos 2_147_483_648 })
+    ≡ Ok (record { start = negsuc 0; skip = 1_000_000_000; count = 1_000_000_000; m = 2_147_483_648 })
 greatest = refl
 
 -- outside the ranges

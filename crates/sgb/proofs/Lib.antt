@@ -9,6 +9,12 @@ pub mod DrawnNumbers
 pub mod Endings
 -- answers on small graphs
 pub mod ExamplesAnswers
+-- what is answered whatever memory there is
+pub mod ExamplesCertain
+-- what runs leave
+pub mod ExamplesRuns
+-- what writing leaves
+pub mod ExamplesWriting
 -- names of vectors that are kept
 pub mod KeptNames
 -- parts of a listing
