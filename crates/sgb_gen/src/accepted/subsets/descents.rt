@@ -327,21 +327,6 @@ pub(super) fn with_room(left: u32, room: u64, low: u32, end: u32) -> EntryRange
     }
 }
 
-// Whether a vector that begins so may have a wanted size in common: at most what is left and what `x` has there, and
-// at least what finds no room beside the entries of `x`.
-pub(super) fn may_be_wanted(begun: Begun) -> bool
-    requires few { begun.common + begun.left < 2 ^ 32 }
-    ensures { OnFalse result ((k : ℕ) → begun.left ≤ k + (begun.room - begun.shared) →
-        k ≤ begun.left → k ≤ begun.shared →
-        is_wanted_size begun.size_bits (k + begun.common) ≡ false) }
-{
-    let left = u64::from(begun.left);
-    let common = u64::from(begun.common);
-    let least = left.saturating_sub(begun.room.saturating_sub(begun.shared));
-    let most = left.min(begun.shared);
-    any_wanted(begun.size_bits, common + least, common + most)
-}
-
 // Whether a size from one to another is wanted: the least wanted one that is not below the first tells. Where none is,
 // the answer may still be yes, which costs time alone.
 pub(super) fn any_wanted(size_bits: u128, from: u64, to: u64) -> bool
