@@ -9,7 +9,7 @@ use Rattle.sgb_gen.specs.LocalLists.{LocalArc}
 use Rattle.sgb_gen.specs.Subsets.{is_wanted_size}
 use Rattle.sgb_gen.specs.inner.Descents.{HasNoArcs, IsBegun, arcs_under, front_of, row, rows}
 use Rattle.sgb_gen.proofs.Descents.{rows-first, rows-parts, rows-end, sums-rows}
-use Rattle.sgb_gen.proofs.DescentArcs.{row-under, under-append, under-unwanted}
+use Rattle.sgb_gen.proofs.DescentArcs.{row-under, rows-under, under-append, under-unwanted}
 use Rattle.sgb_gen.proofs.SubsetsCounts.{begun-on}
 
 -- ---- entries without arcs
@@ -104,6 +104,20 @@ least-placed sb c left b h least count low n place tip new bs xs bounds x bounds
     ∙ under-append sb front c (h ∷ xs) (rows left bs (least + 1) n) (row left bs least)
     ∙ ap₂ (λ l m. l ++ m) (ap (λ k. arcs_under sb front c (h ∷ xs) (rows left bs k n)) (sym low_is))
     (sym (row-under sb front c left h least bs xs within) ∙ ap (λ f. arcs_under sb f (c + min h least) xs (reverse (bounded_sums (left - least) bs))) (sym placed_front))
+
+-- the arcs where the greatest entry is placed, and then those by the lesser ones
+pub rows-placed : (sb c left h low k place : ℕ) (first tip bs xs : List ℕ) → 0 < k → low + (k - 1) ≤ left → length xs < length first → length tip ≡ length first → place ≡ length first - length xs - 1
+    → front_of tip (h ∷ xs) ≡ front_of first (h ∷ xs)
+    → arcs_under sb (front_of first (h ∷ xs)) c (h ∷ xs) (rows left bs low k)
+    ≡ arcs_under sb (front_of (set tip place (low + (k - 1))) xs) (c + min h (low + (k - 1))) xs (reverse (bounded_sums (left - (low + (k - 1))) bs)) ++ arcs_under sb (front_of first (h ∷ xs)) c (h ∷ xs) (rows left bs low (k - 1))
+rows-placed sb c left h low k place first tip bs xs some within fits long at kept =
+    let front = front_of first (h ∷ xs) in
+    let e = low + (k - 1) in
+    let placed_front : front_of (set tip place e) xs ≡ front ++ e ∷ [] =
+    front-placed tip (h ∷ xs) xs h e place refl (omega (arith, fits, long)) (omega (arith, at, long)) ∙ ap (λ f. f ++ e ∷ []) kept in
+    rows-under sb front c (h ∷ xs) left bs low k some
+    ∙ ap (λ l. l ++ arcs_under sb front c (h ∷ xs) (rows left bs low (k - 1))) (sym (row-under sb front c left h e bs xs within)
+    ∙ ap (λ f. arcs_under sb f (c + min h e) xs (reverse (bounded_sums (left - e) bs))) (sym placed_front))
 
 -- what the other bounds add to
 pub others-add : (bounds x : List ℕ) (room shared left c b : ℕ) (bs : List ℕ) → bounds ≡ b ∷ bs → IsBegun bounds x room shared left c → sum bs ≡ room - b

@@ -1,5 +1,5 @@
 -- A walk over the vectors of a family, from the first to the last.
-use Rattle.std.proofs.Common.{◌≡◌, ℕ, zero, suc, ◌+◌, ◌≤◌, List, [], ◌∷◌, ◌++◌, length, map, take, drop, Some, refl, sym, ap, ◌∙◌, arith, append-nil}
+use Rattle.std.proofs.Common.{◌≡◌, ℕ, zero, suc, ◌+◌, ◌≤◌, List, [], ◌∷◌, ◌++◌, length, map, take, drop, Some, refl, sym, ap, ◌∙◌, arith}
 use Rattle.std.specs.List.{slice_get, flat_map}
 use Rattle.std.proofs.lemmas.List.{at_drop_more, drop-drop, length-drop, map-append, take_more}
 use Rattle.std.proofs.lemmas.Option.{slice_get_within, get_or_from_slice_get}
@@ -21,10 +21,6 @@ next_left vectors left rest u is after = after ∙ ap (λ (vs : List (List ℕ))
 -- and where none are left the place is past all
 pub none_left : (vectors left : List (List ℕ)) (u : ℕ) → left ≡ drop u vectors → left ≡ [] → length vectors ≤ u
 none_left vectors left u is none = omega (arith, ap length is, ap length none, length-drop u vectors)
-
-pub walked-all : {X : Type 0} (g : List (List ℕ) → List X) → g [] ≡ [] → (left : List (List ℕ)) (done all : List X) → done ++ g left ≡ all → left ≡ [] → done ≡ all
-walked-all g none left done all so_far end =
-    sym (append-nil done) ∙ ap (λ l. done ++ l) (sym (ap g end ∙ none)) ∙ so_far
 
 -- the vectors from a place on
 pub drop_at_vector : {X : Type 0} (vectors : List X) (u : ℕ) (v : X) → slice_get vectors u ≡ Some v → drop u vectors ≡ v ∷ drop (u + 1) vectors

@@ -72,8 +72,6 @@ pub mod FamilyWalks
 pub mod Coordinates
 -- the graph of a family, made step by step
 pub mod FamilyGraphs
--- the vectors of a table
-pub mod TableRows
 -- the events of a board, move by move
 pub mod BoardEvents
 -- a unit that goes to a higher place

@@ -1,10 +1,11 @@
 -- Arcs that are kept with their vectors one after another.
-use Rattle.std.proofs.Common.{rules, ◌≡◌, ℕ, zero, suc, ◌-◌, ◌*◌, ◌<◌, pos, List, [], ◌∷◌, ◌++◌, length, get_or, take, drop, Some, refl, ap, ◌∙◌, arith, length-append, length-drop}
+use Rattle.std.proofs.Common.{rules, ◌≡◌, ℕ, zero, suc, ◌+◌, ◌-◌, ◌*◌, ◌<◌, ◌≤◌, pos, List, [], ◌∷◌, ◌++◌, length, get_or, take, drop, Some, refl, ap, ◌∙◌, arith, length-append, length-drop}
 use borrow.Rule.Slice.PartMut.{put_mid}
 use Rattle.std.specs.List.{slice_get}
 use Rattle.std.proofs.Math.Seq.{drop-append_seam, take-append_seam}
 use Rattle.std.proofs.lemmas.List.{append-nil, drop_all, take_all, take-append-le, take_rest, drop-append-le, drop-drop}
 use Rattle.std.proofs.lemmas.List.{with_items_is}
+use Rattle.std.proofs.lemmas.Nat.{mul-le}
 use Rattle.std.specs.Prelude.{Vec}
 use Rattle.std.specs.Vec.{vec_len, with_items}
 use Rattle.sgb_gen.specs.inner.LocalArcs.{arcs_in}
@@ -15,6 +16,10 @@ use Rattle.sgb_gen.specs.LocalLists.{LinksData}
 pub length-arcs_in : (width : ℕ) (tips lens : List ℕ) → length (arcs_in width tips lens) ≡ length lens
 length-arcs_in width tips [] = refl
 length-arcs_in width tips (n ∷ lens) = ap suc (length-arcs_in width (drop width tips) lens)
+
+-- a row stands within the entries of all
+pub row_within : (width count place : ℕ) → place < count → place * width + width ≤ count * width
+row_within width count place h = omega (arith, mul-le (place + 1) width count width (omega arith) (omega arith))
 
 -- the arc at a place
 pub slice_get-arcs_in : (width : ℕ) (tips lens : List ℕ) (i : ℕ) → i < length lens → slice_get (arcs_in width tips lens) i ≡ Some (record { tip = take width (drop (i * width) tips); len = pos (get_or lens i 0) })

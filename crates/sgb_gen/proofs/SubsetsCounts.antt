@@ -1,5 +1,5 @@
 -- The moves of subsets counted: by the descent from each vector down to the first one.
-use Rattle.std.proofs.Common.{◌≡◌, ℕ, suc, ◌+◌, ◌-◌, ◌*◌, ◌<◌, ◌≤◌, min, Bool, true, false, not, cond, List, [], ◌∷◌, ◌++◌, length, filter, reverse, take, drop, sum, Some, refl, sym, ap, subst, ◌∙◌, arith, length-append}
+use Rattle.std.proofs.Common.{◌≡◌, ℕ, ◌+◌, ◌-◌, ◌*◌, ◌%◌, ◌^◌, ◌<◌, ◌≤◌, min, Bool, true, false, not, cond, List, [], ◌∷◌, ◌++◌, length, filter, reverse, take, drop, sum, Some, Result, Ok, Err, refl, sym, ap, ◌∙◌, arith, length-append}
 use Rattle.std.specs.List.{flat_map, range_with_len, slice_get}
 use Rattle.std.specs.Prelude.{slice_index_or}
 use Rattle.std.proofs.Math.Path.{fun_ext}
@@ -15,14 +15,14 @@ use Rattle.sgb_vec.specs.Sums.{bounded_sums}
 use Rattle.sgb_vec.proofs.Lists.{reverse-first}
 use Rattle.sgb_vec.proofs.SumMembers.{Contains-bounded_sums, bounded_sums-rise}
 use Rattle.sgb_vec.proofs.SumSuccessors.{sum-cons}
+use Rattle.sgb_gen.specs.ArcSinks.{AreGiven}
 use Rattle.sgb_gen.specs.LocalLists.{LocalArc}
 use Rattle.sgb_gen.specs.Subsets.{SubsetsData, common_size, is_wanted_size, moves_of_subsets, moves_to_place, subsets_vector_graph, subsets_vectors}
 use Rattle.sgb_gen.specs.VectorGraphs.{Move, described_by, family_graph, vertex_among}
 use Rattle.sgb_gen.specs.inner.Descents.{IsBegun, arcs_under, down_from, row, rows}
 use Rattle.sgb_gen.specs.inner.SubsetsCounts.{moves_among, wanted_among}
 use Rattle.sgb_gen.proofs.BoardCountsBoards.{arcs-directed, arcs-undirected}
-use Rattle.sgb_gen.proofs.DescentArcs.{HasEnded, all-rows, ended-part, from-taken, row-under, under-front, under-unwanted, under-zeros, both_ended}
-use Rattle.sgb_gen.proofs.Descents.{row-within, rows-parts, sums-rows, sums-past}
+use Rattle.sgb_gen.proofs.DescentArcs.{all-rows, from-taken, row-under, under-zeros}
 use Rattle.sgb_gen.proofs.FamilyWalks.{at_front, next_left}
 use Rattle.sgb_gen.proofs.RisingVectors.{vertex_in_rising}
 use Rattle.sgb_gen.proofs.SubsetsEvents.{is_among}
@@ -33,6 +33,13 @@ use Rattle.sgb_gen.proofs.SubsetsLists.{common-turned}
 -- whatever they begin with
 among-arcs : (sb : ℕ) (front : List ℕ) (c : ℕ) (x : List ℕ) (vs : List (List ℕ)) → wanted_among sb c x vs ≡ length (arcs_under sb front c x vs)
 among-arcs sb front c x vs = grind (arith, length-map)
+
+-- all are counted, in 64 bits
+pub arcs-counted : {S T F : Type 0} (sb : ℕ) (front : List ℕ) (c : ℕ) (x : List ℕ) (r : Result T F) (old new : ℕ) (before after : S) (vs : List (List ℕ))
+    → AreGiven (λ ra oa arcs rb ob. ra < 2 ^ 64 → rb ≡ (ra + length arcs) % 2 ^ 64) (λ ra oa arcs rb ob f. ⊥) old before (arcs_under sb front c x vs) new after r
+    → old < 2 ^ 64 → new ≡ (old + wanted_among sb c x vs) % 2 ^ 64
+arcs-counted sb front c x (Ok y) old new before after vs h fits = h fits ∙ ap (λ n. (old + n) % 2 ^ 64) (sym (among-arcs sb front c x vs))
+arcs-counted sb front c x (Err f) old new before after vs h fits = absurd h
 
 -- so where the arcs are the same
 among-same : (sb : ℕ) (front left : List ℕ) (c d : ℕ) (x y : List ℕ) (vs ws : List (List ℕ)) → arcs_under sb front c x vs ≡ arcs_under sb left d y ws → wanted_among sb c x vs ≡ wanted_among sb d y ws
@@ -65,32 +72,11 @@ among-zeros sb c left bs x none =
     ∙ ap length (under-zeros sb [] c left bs x (is_wanted_size sb c) none refl)
     ∙ one_if (is_wanted_size sb c) _)
 
--- no size is wanted that may be in common
-pub among-unwanted : (sb c : ℕ) (bs x : List ℕ) (room shared left : ℕ) → IsBegun bs x room shared left c
-    → ((k : ℕ) → left ≤ k + (room - shared) → k ≤ left → k ≤ shared → is_wanted_size sb (k + c) ≡ false)
-    → 0 ≡ wanted_among sb c x (reverse (bounded_sums left bs))
-among-unwanted sb c bs x room shared left begun none =
-    sym (among-arcs sb [] c x (reverse (bounded_sums left bs)) ∙ ap length (under-unwanted sb [] c bs x room shared left begun none))
-
--- there are no more entries
-pub among-ended : (sb c left : ℕ) (bs x : List ℕ) → IsWithin x bs → HasEnded bs x → 0 < left → 0 ≡ wanted_among sb c x (reverse (bounded_sums left bs))
-among-ended sb c left bs x h none some = grind (arith, among-arcs, reverse, both_ended, sums-past)
-
-pub among-ended_from : (sb c left : ℕ) (bs x : List ℕ) → IsWithin x bs → HasEnded bs x → left ≡ sum x → wanted_among sb c x (reverse (bounded_sums left bs)) ≡ wanted_among sb c x (down_from bs x)
-among-ended_from sb c left bs x h none all = among-same sb [] [] c c x x _ _ (ended-part down_from (λ y. refl) sb [] c left bs x h none all)
-
 -- ---- where it goes on
 
 -- a row by the vectors that go on
 pub among-row : (sb c left h e : ℕ) (bs x : List ℕ) → e ≤ left → wanted_among sb (c + min h e) x (reverse (bounded_sums (left - e) bs)) ≡ wanted_among sb c (h ∷ x) (row left bs e)
 among-row sb c left h e bs x within = among-same sb ([] ++ e ∷ []) [] (c + min h e) c x (h ∷ x) _ _ (row-under sb [] c left h e bs x within)
-
--- one row more is counted
-pub rows-counted : (sb c left h low k : ℕ) (bs x : List ℕ) (counted more : ℕ) → low + k ≤ left
-    → counted ≡ wanted_among sb c (h ∷ x) (rows left bs low k)
-    → more ≡ wanted_among sb (c + min h (low + k)) x (reverse (bounded_sums (left - (low + k)) bs))
-    → counted + more ≡ wanted_among sb c (h ∷ x) (rows left bs low (k + 1))
-rows-counted sb c left h low k bs x counted more within so_far is = grind (arith, among-append, among-row)
 
 -- all vectors by their rows
 pub among-rows : (sb c left b h end : ℕ) (bs xs bounds x : List ℕ) → bounds ≡ b ∷ bs → x ≡ h ∷ xs → end ≡ min left b + 1
@@ -99,81 +85,11 @@ among-rows sb c left b h end bs xs bounds x bounds_are x_is end_is =
     ap (λ n. wanted_among sb c (h ∷ xs) (rows left bs 0 n)) (omega (arith, end_is))
     ∙ among-same sb [] [] c c (h ∷ xs) x _ _ (all-rows sb [] c left b h (min left b) bs xs bounds x bounds_are x_is refl)
 
--- from x on down: on with its first entry, and the rows below that
-pub among-from : (sb c left b h lower others : ℕ) (bs xs bounds x : List ℕ) → bounds ≡ b ∷ bs → x ≡ h ∷ xs → left ≡ sum x
-    → lower ≡ wanted_among sb c (h ∷ xs) (rows left bs 0 h)
-    → others ≡ wanted_among sb (c + min h h) xs (down_from bs xs)
-    → others + lower ≡ wanted_among sb c x (down_from bounds x)
-among-from sb c left b h lower others bs xs bounds x bounds_are x_is adds lower_is others_is =
-    let own = among-same sb [] ([] ++ h ∷ []) c (c + min h h) (h ∷ xs) xs _ _ (under-front sb [] c h xs h (down_from bs xs)) in
-    grind (arith, sum-cons, among-append, own)
-
 -- what is known with one more entry
 pub begun-on : (room shared left c b h e : ℕ) (bs xs bounds x : List ℕ) → bounds ≡ b ∷ bs → x ≡ h ∷ xs → e ≤ left → IsBegun bounds x room shared left c → IsBegun bs xs (room - b) (shared - h) (left - e) (c + min h e)
 begun-on room shared left c b h e bs xs bounds x bounds_are x_is within begun = grind (arith, sum-cons)
 
 -- ---- there are few
-
--- a row is among the rows
-row-few : (r low n k : ℕ) (bs : List ℕ) → k < n → length (row r bs (low + k)) + length (rows r bs low k) ≤ length (rows r bs low n)
-row-few r low n k bs less =
-    let parts : rows r bs low n ≡ rows r bs (low + suc k) (n - suc k) ++ rows r bs low (suc k) =
-    ap (rows r bs low) {y = suc k + (n - suc k)} (omega arith) ∙ rows-parts r bs low (suc k) (n - suc k) in
-    grind (arith, length-append, parts)
-
-length-row : (r e : ℕ) (bs : List ℕ) → e ≤ r → length (row r bs e) ≡ length (bounded_sums (r - e) bs)
-length-row r e bs within = grind (arith, row-within, length-map, length-reverse)
-
--- so few go on with an entry
-pub few-after : (r low n k most : ℕ) (bs : List ℕ) → k < n → low + k ≤ r → length (rows r bs low n) ≤ most → length (bounded_sums (r - (low + k)) bs) ≤ most
-few-after r low n k most bs less within few = omega (arith, few, row-few r low n k bs less, length-row r (low + k) bs within)
-
--- and few are counted
-pub few-counted : (sb c r h low n k counted more most : ℕ) (bs x : List ℕ) → k < n → low + k ≤ r
-    → counted ≡ wanted_among sb c (h ∷ x) (rows r bs low k)
-    → more ≡ wanted_among sb (c + min h (low + k)) x (reverse (bounded_sums (r - (low + k)) bs))
-    → length (rows r bs low n) ≤ most → counted + more ≤ most
-few-counted sb c r h low n k counted more most bs x less within so_far is few =
-    omega (
-      arith,
-      row-few r low n k bs less,
-      length-row r (low + k) bs within,
-      among-most sb c (h ∷ x) (rows r bs low k),
-      among-most sb (c + min h (low + k)) x (reverse (bounded_sums (r - (low + k)) bs)),
-      length-reverse (bounded_sums (r - (low + k)) bs),
-    )
-
--- the rows of all vectors
-length-rows : (r b : ℕ) (bs : List ℕ) → length (rows r bs 0 (b + 1)) ≡ length (bounded_sums r (b ∷ bs))
-length-rows r b bs = ap length (sym (sums-rows r b bs)) ∙ length-reverse (bounded_sums r (b ∷ bs))
-
-fewer-rows : (r low m n : ℕ) (bs : List ℕ) → m ≤ n → length (rows r bs low m) ≤ length (rows r bs low n)
-fewer-rows r low m n bs less =
-    let parts : rows r bs low n ≡ rows r bs (low + m) (n - m) ++ rows r bs low m =
-    ap (rows r bs low) {y = m + (n - m)} (omega arith) ∙ rows-parts r bs low m (n - m) in
-    omega (arith, ap length parts, length-append (rows r bs (low + m) (n - m)) (rows r bs low m))
-
-pub few-rows : (r b end most : ℕ) (bs bounds : List ℕ) → bounds ≡ b ∷ bs → end ≤ b + 1 → length (bounded_sums r bounds) ≤ most → length (rows r bs 0 end) ≤ most
-few-rows r b end most bs bounds bounds_are within few =
-    omega (arith, few, ap (λ cs. length (bounded_sums r cs)) bounds_are, fewer-rows r 0 end (b + 1) bs within, length-rows r b bs)
-
--- as few where entries that leave too much are left out
-pub few-kept : (r end low count most : ℕ) (bs : List ℕ) → rows r bs 0 (end - 0) ≡ rows r bs low count → length (rows r bs 0 end) ≤ most → length (rows r bs low count) ≤ most
-few-kept r end low count most bs same few =
-    omega (arith, few, ap length same, ap (λ n. length (rows r bs 0 n)) {x = end - 0} {y = end} (omega arith))
-
--- those that go on as x does
-pub first_within : (b h : ℕ) (bs xs bounds x : List ℕ) → bounds ≡ b ∷ bs → x ≡ h ∷ xs → IsWithin x bounds → h ≤ b
-first_within b h bs xs bounds x bounds_are x_is within = (subst (IsWithin (h ∷ xs)) bounds_are (subst (λ v. IsWithin v bounds) x_is within)).0
-
-pub few-own : (r b h most : ℕ) (bs xs bounds x : List ℕ) → bounds ≡ b ∷ bs → x ≡ h ∷ xs → IsWithin x bounds → h ≤ r → length (bounded_sums r bounds) ≤ most → length (bounded_sums (r - h) bs) ≤ most
-few-own r b h most bs xs bounds x bounds_are x_is within small few =
-    omega (
-      arith,
-      few-after r 0 (b + 1) h most bs (omega (arith, first_within b h bs xs bounds x bounds_are x_is within)) (omega arith)
-          (omega (arith, few, ap (λ cs. length (bounded_sums r cs)) bounds_are, length-rows r b bs)),
-      ap (λ n. length (bounded_sums (r - n) bs)) {x = 0 + h} {y = h} (omega arith),
-    )
 
 pub few-from : (sb c left most : ℕ) (bs x : List ℕ) → IsWithin x bs → left ≡ sum x → length (bounded_sums left bs) ≤ most → wanted_among sb c x (down_from bs x) ≤ most
 few-from sb c left most bs x h adds few = grind (arith, among-most, from-taken, length-reverse, length-take)

@@ -36,8 +36,6 @@ pub mod Strides
 pub mod Rows
 -- counts by which the vectors of a sum are found
 pub mod KeptCounts
--- lists of one width, one after another
-pub mod Tables
 -- from how many places a piece moves by a displacement, at one length
 pub mod BoardCounts
 -- from how many vectors of a simplex a unit goes from one place to another

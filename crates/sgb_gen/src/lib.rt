@@ -35,8 +35,6 @@ mod shorthands;
 mod steps;
 // The names and the coordinates of a family's graph.
 mod vector_graphs;
-// The vectors of a family, found by search.
-mod vector_tables;
 // What is done with a generator's graph, whichever generator it is of.
 mod visits;
 

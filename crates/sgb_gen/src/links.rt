@@ -13,7 +13,6 @@ ghost use Rattle.sgb_vec.specs.Lexicographic.{IsBelow};
 use crate::arc_sinks::ArcSink;
 use crate::moves::put_parts;
 use crate::steps::Part;
-use crate::vector_tables::row;
 use sgb_vec::Panic;
 use std::alloc::Global;
 use std::marker::Model;
@@ -296,4 +295,14 @@ fn turn_rows(entries: &mut [u32], width: usize, count: usize)
         let start = i * width;
         entries[start..start + width].reverse();
     }
+}
+
+// The row at this place, counted from 0, of rows that have this width and stand one after another.
+#[inline(always)]
+fn row(entries: &[u32], width: usize, place: usize) -> &[u32]
+    requires { place * width + width ≤ length entries.now }
+    ensures { result.now ≡ take width (drop (place * width) entries.now) }
+{
+    let start = place * width;
+    &entries[start..start + width]
 }

@@ -15,9 +15,8 @@ use crate::counted_places::CountedPlaces;
 use crate::params::SimplexParams;
 use crate::shifts::{can_move_unit, unit_moved};
 use crate::vector_graphs::{put_coordinates, vector_names};
-use crate::vector_tables::VectorTable;
 use sgb_graph::{Graph, Id, IdWriter};
-use sgb_vec::{Panic, Shape, SumFamily, simplex_bounds};
+use sgb_vec::{Family, Panic, Shape, SumFamily, Vectors, simplex_bounds};
 use std::alloc::Global;
 use std::marker::Model;
 
@@ -149,22 +148,35 @@ impl Simplex {
     {
         let names = vector_names(alloc, &self.family)?;
         let mut graph = Graph::new(alloc, names)?;
-        let vertices = VectorTable::new(alloc, &self.family)?;
-        self.add_arcs(&mut graph, &vertices)?;
+        let places = self.places(alloc);
+        self.add_arcs(&mut graph, &places)?;
         put_coordinates(&mut graph, &self.family);
         graph.set_id(self.id());
         Ok(graph)
     }
 
+    // The vertex of a vector: by the counts that are kept, where there are some.
+    #[inline(always)]
+    fn vertex_of(&self, places: &Option<CountedPlaces<'_>>, x: &[u32]) -> u32
+        requires places { IfSome places.now (λ p. p ≡ simplex_vectors self.now) }
+        requires member { Contains (simplex_vectors self.now) x.now }
+        ensures { slice_get (simplex_vectors self.now) result ≡ Some x.now }
+    {
+        match places {
+            Some(places) => places.place_of(x),
+            None => self.family.place_of(x),
+        }
+    }
+
     // The vertex that `x` becomes when a unit goes from the lower place to the higher one, if it can.
     fn vertex_at(
         &self,
-        vertices: &VectorTable,
+        places: &Option<CountedPlaces<'_>>,
         x: &[u32],
         lower: usize,
         higher: usize,
     ) -> Option<u32>
-        requires vertices { vertices.now ≡ simplex_vectors self.now }
+        requires places { IfSome places.now (λ p. p ≡ simplex_vectors self.now) }
         requires member { Contains (simplex_vectors self.now) x.now }
         requires order { lower < higher }
         requires entry { higher < length x.now }
@@ -179,19 +191,19 @@ impl Simplex {
             return None;
         }
         let there = unit_moved(bounds, x, lower, higher);
-        Some(vertices.place_of(there.as_slice()))
+        Some(self.vertex_of(places, there.as_slice()))
     }
 
     // Adds the moves to vertex `v`, which is the vector `x`, by a unit from the lower place to each higher one.
     fn add_moves_from(
         &self,
         graph: &mut Graph,
-        vertices: &VectorTable,
+        places: &Option<CountedPlaces<'_>>,
         v: u32,
         x: &[u32],
         lower: usize,
     ) -> Result<(), Panic>
-        requires vertices { vertices.now ≡ simplex_vectors self.now }
+        requires places { IfSome places.now (λ p. p ≡ simplex_vectors self.now) }
         requires vertex { slice_get (simplex_vectors self.now) v ≡ Some x.now }
         requires entry { lower < length x.now }
         requires nodes { length graph.old.vertices ≡ length (simplex_vectors self.now) }
@@ -202,7 +214,7 @@ impl Simplex {
         ensures memory { IsOkUnless result Panic.NoRoom }
     {
         for higher in lower + 1..x.len() {
-            let Some(u) = self.vertex_at(vertices, x, lower, higher) else {
+            let Some(u) = self.vertex_at(places, x, lower, higher) else {
                 continue;
             };
             graph.add_event(self.directed, u, v, 1)?;
@@ -214,11 +226,11 @@ impl Simplex {
     fn add_moves_to(
         &self,
         graph: &mut Graph,
-        vertices: &VectorTable,
+        places: &Option<CountedPlaces<'_>>,
         v: u32,
         x: &[u32],
     ) -> Result<(), Panic>
-        requires vertices { vertices.now ≡ simplex_vectors self.now }
+        requires places { IfSome places.now (λ p. p ≡ simplex_vectors self.now) }
         requires vertex { slice_get (simplex_vectors self.now) v ≡ Some x.now }
         requires nodes { length graph.old.vertices ≡ length (simplex_vectors self.now) }
         requires plain { HasPlainArcs graph.old }
@@ -227,22 +239,27 @@ impl Simplex {
         ensures memory { IsOkUnless result Panic.NoRoom }
     {
         for lower in 0..x.len() {
-            self.add_moves_from(graph, vertices, v, x, lower)?;
+            self.add_moves_from(graph, places, v, x, lower)?;
         }
         Ok(())
     }
 
     // Adds the arcs of the simplex, or its edges: to each vertex in order.
-    fn add_arcs(&self, graph: &mut Graph, vertices: &VectorTable) -> Result<(), Panic>
-        requires vertices { vertices.now ≡ simplex_vectors self.now }
+    fn add_arcs(&self, graph: &mut Graph, places: &Option<CountedPlaces<'_>>) -> Result<(), Panic>
+        requires places { IfSome places.now (λ p. p ≡ simplex_vectors self.now) }
         requires nodes { length graph.old.vertices ≡ length (simplex_vectors self.now) }
         requires plain { HasPlainArcs graph.old }
         ensures ok { OnOk result (AddsEvents self.now.directed graph.old graph.new
             (map (event_among (simplex_vectors self.now)) (moves_of_simplex self.now))) }
         ensures memory { IsOkUnless result Panic.NoRoom }
     {
-        for v in 0..vertices.len() {
-            self.add_moves_to(graph, vertices, v, vertices.vector(v))?;
+        let mut left = Vectors::all(&self.family);
+        for v in 0..self.family.size() {
+            let Some(x) = left.front() else {
+                return Ok(());
+            };
+            self.add_moves_to(graph, places, v, x)?;
+            let _some = left.advance();
         }
         Ok(())
     }

@@ -1,7 +1,7 @@
 use Rattle.std.proofs.Common.{rules, ◌≡◌, ℕ, suc, ◌+◌, ◌*◌, ◌≤◌, List, ◌++◌, length, reverse, take, drop, arith}
 use Rattle.sgb_gen.specs.inner.LocalArcs.{rows_turned}
 use Rattle.sgb_gen.proofs.TurnedLinks.{rows_turned-next}
-use Rattle.sgb_gen.proofs.TableRows.{row_within}
+use Rattle.sgb_gen.proofs.LinkRows.{row_within}
 use Rattle.sgb_gen.proofs.links.turn_rows.Goals as goal
 
 -- the next row is turned round

@@ -1,20 +1,21 @@
 //! The number of arcs of the subsets' graph, with no list made. Where the vectors are many and their sum is small, they
-//! are counted by pairs; else by the descent of the lists, which counts where that one puts arcs, from each vector down
-//! to the first. So each edge is found once, from the later one of its ends.
+//! are counted by pairs; else by the descent of the lists, whose arcs from each vector down to the first are handed to a
+//! counter. So each edge is found once, from the later one of its ends.
 //!
 //! A walk takes minutes for a thousand million vectors.
-ghost use Rattle.std.specs.Prelude.{◌≡◌, ◌+◌, ◌≤◌, ◌∷◌, length, reverse, sum, if◌then◌else◌, IfSome};
+ghost use Rattle.std.specs.Prelude.{◌≡◌, length, Contains, IfSome};
 ghost use Rattle.sgb_graph.specs.Made.{graph_described};
-ghost use Rattle.sgb_vec.specs.Limits.{most_vertices};
-ghost use Rattle.sgb_vec.specs.Sums.{bounded_sums};
-ghost use Rattle.sgb_gen.specs.Subsets.{is_wanted_size, moves_of_subsets, subsets_vector_graph};
+ghost use Rattle.sgb_gen.specs.Subsets.{moves_of_subsets, subsets_vector_graph, subsets_vectors};
 ghost use Rattle.sgb_gen.specs.VectorGraphs.{described_by};
-ghost use Rattle.sgb_gen.specs.inner.Descents.{IsBegun, down_from, rows};
+ghost use Rattle.sgb_gen.specs.inner.Descents.{down_from};
 ghost use Rattle.sgb_gen.specs.inner.SubsetsCounts.{wanted_among};
 
-use super::descents::{Begun, may_be_wanted, placed, with_room};
-use super::{Subsets, is_wanted};
-use sgb_vec::Vectors;
+use super::Subsets;
+use super::descents::push_from;
+use super::sizes::WantedSizes;
+use crate::arc_sinks::ArcSink;
+use crate::shifts::copy_of;
+use sgb_vec::{Family, Vectors};
 
 impl Subsets {
     /// The number of arcs of the graph of the subsets (GB_BASIC, subsets), where an edge counts as two. No arc is made, and no
@@ -57,78 +58,80 @@ impl Subsets {
     fn moves_by_walk(&self) -> u64
         ensures { result ≡ length (moves_of_subsets self.now) }
     {
-        let begun = self.begun();
-        let bounds = self.sizes();
         let mut counted: u64 = 0;
         let mut left = Vectors::all(&self.family);
         while let Some(x) = left.front() {
-            counted += count_from(begun, bounds, x);
+            counted += self.count_from(x);
             let _some = left.advance();
         }
         counted
     }
+
+    // How many vectors from `x` on down have a wanted size in common with it.
+    fn count_from(&self, x: &[u32]) -> u64
+        requires { Contains (subsets_vectors self.now) x.now }
+        ensures { result
+            ≡ wanted_among self.now.size_bits 0 x.now (down_from self.now.sum.bounds x.now) }
+    {
+        // There are few vectors, so the count does not wrap.
+        let _size = self.family.size();
+        let sizes = WantedSizes::of(self.size_bits);
+        let bounds = self.sizes();
+        let mut tip = copy_of(x);
+        let mut counted: u64 = 0;
+        let _all = push_from(
+            &sizes,
+            self.begun(),
+            bounds,
+            x,
+            tip.as_mut_slice(),
+            &ArcCounter::of(x.len()),
+            &mut counted,
+            &mut (),
+        );
+        counted
+    }
 }
 
-// How many vectors from `x` on down, or of what is left of them, have a wanted size in common with it.
-fn count_from(begun: Begun, bounds: &[u32], x: &[u32]) -> u64
-    requires begun { IsBegun bounds.now x.now begun.room begun.shared begun.left begun.common }
-    requires all { begun.left ≡ sum x.now }
-    requires few { length (bounded_sums begun.left bounds.now) ≤ most_vertices }
-    ensures { result
-        ≡ wanted_among begun.size_bits begun.common x.now (down_from bounds.now x.now) }
-{
-    let (Some((bound, bounds)), Some((own, x))) = (bounds.split_first(), x.split_first()) else {
-        return count_zeros(begun);
-    };
-    let lower = count_rows(begun, *bound, *own, bounds, x, *own);
-    count_from(placed(begun, *bound, *own, *own), bounds, x) + lower
+// Counts arcs to vectors of this width, in 64 bits.
+#[derive(Drop)]
+struct ArcCounter {
+    width: usize,
 }
 
-// How many of all vectors that begin so have a wanted size in common with `x`.
-#[cycle(counting)]
-fn count_all(begun: Begun, bounds: &[u32], x: &[u32]) -> u64
-    requires begun { IsBegun bounds.now x.now begun.room begun.shared begun.left begun.common }
-    requires few { length (bounded_sums begun.left bounds.now) ≤ most_vertices }
-    ensures { result ≡ wanted_among begun.size_bits begun.common x.now
-        (reverse (bounded_sums begun.left bounds.now)) }
-{
-    if begun.left == 0 {
-        return count_zeros(begun);
+impl ArcCounter {
+    // Of vectors of this width.
+    fn of(width: usize) -> ArcCounter
+        ensures { result.width ≡ width }
+    {
+        ArcCounter { width }
     }
-    if !may_be_wanted(begun) {
-        return 0;
-    }
-    let (Some((bound, bounds)), Some((own, x))) = (bounds.split_first(), x.split_first()) else {
-        return 0;
-    };
-    let end = begun.left.min(*bound) + 1;
-    count_rows(begun, *bound, *own, bounds, x, end)
 }
 
-// How many of those that go on with an entry below `end` do.
-#[cycle(counting)]
-fn count_rows(begun: Begun, bound: u32, own: u32, bounds: &[u32], x: &[u32], end: u32) -> u64
-    requires begun { IsBegun (bound ∷ bounds.now) (own ∷ x.now) begun.room begun.shared begun.left
-        begun.common }
-    requires end { end ≤ begun.left + 1 }
-    requires few { length (rows begun.left bounds.now 0 end) ≤ most_vertices }
-    ensures { result ≡ wanted_among begun.size_bits begun.common (own ∷ x.now)
-        (rows begun.left bounds.now 0 end) }
-{
-    let entries = with_room(begun.left, begun.room - u64::from(bound), 0, end);
-    let mut counted: u64 = 0;
-    for k in 0..entries.count {
-        counted += count_all(placed(begun, bound, own, entries.least + k), bounds, x);
-    }
-    counted
-}
+impl ArcSink<u64, ()> for ArcCounter {
+    ghost use Rattle.std.specs.Prelude.{◌≡◌, ◌<◌, ◌+◌, ◌%◌, ◌^◌, length, ⊤};
+    ghost use Rattle.std.proofs.Common.{arith, length-append};
 
-// One where the vector whose other entries are 0 has a wanted size in common, and else none.
-fn count_zeros(begun: Begun) -> u64
-    ensures { result ≡ (if is_wanted_size begun.size_bits begun.common then 1 else 0) }
-{
-    if is_wanted(begun.size_bits, u64::from(begun.common)) {
-        return 1;
+    type Fault = ();
+
+    ghost width = { λ s. s.width };
+
+    ghost ready = { λ _ _ _. ⊤ };
+
+    ghost took = { λ _ old _ arcs new _. old < 2 ^ 64 → new ≡ (old + length arcs) % 2 ^ 64 };
+
+    ghost cut = { λ _ _ _ _ _ _ _. ⊥ };
+
+    ghost laws = { λ s. record {
+      none = λ old _ fits. omega (arith, fits);
+      more = λ xs ys _ _ _ _ _ _ p q fits.
+          omega (arith, length-append xs ys, p fits, q (omega (arith, p fits)));
+      cut_after = λ _ _ _ _ _ _ _ _ _ _ q. q;
+      cut_more = λ _ _ _ _ _ _ _ q. q;
+    } };
+
+    fn put_arc(&self, _tip: &[u32], _len: u32, counted: &mut u64, _out: &mut ()) -> Result<(), ()> {
+        *counted = counted.wrapping_add(1);
+        Ok(())
     }
-    0
 }

@@ -8,7 +8,7 @@ ghost use Rattle.sgb_vec.specs.Limits.{most_dimensions, most_vertices};
 ghost use Rattle.sgb_vec.specs.Sums.{bounded_sums};
 ghost use Rattle.sgb_gen.specs.ArcSinks.{AreGiven};
 ghost use Rattle.sgb_gen.specs.Subsets.{is_wanted_size};
-ghost use Rattle.sgb_gen.specs.inner.Descents.{AreBetween, IsBegun, arcs_under, down_from, down_to, front_of, row, rows};
+ghost use Rattle.sgb_gen.specs.inner.Descents.{AreBetween, IsBegun, arcs_under, down_from, down_to, front_of, rows};
 
 use super::Subsets;
 use super::last_entries::{push_last, push_zeros};
@@ -276,59 +276,17 @@ fn push_rows<K: ArcSink<R, S>, R, S>(
         room.new out.new result }
     ensures ready { OnOk result (K.ready sink.now room.new out.new) }
 {
+    let place = tip.len() - x.len() - 1;
     for k in (0..entries.count).rev() {
-        push_row(
-            sizes,
-            begun,
-            bound,
-            own,
-            bounds,
-            x,
-            entries.least + k,
-            tip,
-            sink,
-            room,
-            out,
-        )?;
+        let entry = entries.least + k;
+        let further = placed(begun, bound, own, entry);
+        if !may_be_among(sizes, further) {
+            continue;
+        }
+        tip[place] = entry;
+        push_all(sizes, further, bounds, x, tip, sink, room, out)?;
     }
     Ok(())
-}
-
-// Hands out the arcs to the vectors that go on with this entry.
-#[cycle(descent)]
-fn push_row<K: ArcSink<R, S>, R, S>(
-    sizes: &WantedSizes,
-    begun: Begun,
-    bound: u32,
-    own: u32,
-    bounds: &[u32],
-    x: &[u32],
-    entry: u32,
-    tip: &mut [u32],
-    sink: &K,
-    room: &mut R,
-    out: &mut S,
-) -> Result<(), K::Fault>
-    requires begun { IsBegun (bound ∷ bounds.now) (own ∷ x.now) begun.room begun.shared begun.left
-        begun.common }
-    requires entry { entry ≤ begun.left }
-    requires sizes { AreBetween begun.size_bits sizes.now.first sizes.now.last }
-    requires width { length tip.old ≡ K.width sink.now }
-    requires ready { K.ready sink.now room.old out.old }
-    requires place { length x.now < length tip.old }
-    ensures same { OnOk result (front_of tip.new (own ∷ x.now) ≡ front_of tip.old (own ∷ x.now)) }
-    ensures given { AreGiven (K.took sink.now) (K.cut sink.now) room.old out.old
-        (arcs_under begun.size_bits (front_of tip.old (own ∷ x.now))
-        begun.common (own ∷ x.now) (row begun.left bounds.now entry)) room.new out.new result }
-    ensures ready { OnOk result (K.ready sink.now room.new out.new) }
-{
-    let further = placed(begun, bound, own, entry);
-    if !may_be_among(sizes, further) {
-        return Ok(());
-    }
-    let place = tip.len() - x.len() - 1;
-    tip[place] = entry;
-    push_all(sizes, further, bounds, x, tip, sink, room, out)
 }
 
 // What is known with one more entry, whose bound and whose own entry of `x` these are.
@@ -367,21 +325,6 @@ pub(super) fn with_room(left: u32, room: u64, low: u32, end: u32) -> EntryRange
         least,
         count: end.saturating_sub(least),
     }
-}
-
-// Whether a vector that begins so may have a wanted size in common: at most what is left and what `x` has there, and
-// at least what finds no room beside the entries of `x`.
-pub(super) fn may_be_wanted(begun: Begun) -> bool
-    requires few { begun.common + begun.left < 2 ^ 32 }
-    ensures { OnFalse result ((k : ℕ) → begun.left ≤ k + (begun.room - begun.shared) →
-        k ≤ begun.left → k ≤ begun.shared →
-        is_wanted_size begun.size_bits (k + begun.common) ≡ false) }
-{
-    let left = u64::from(begun.left);
-    let common = u64::from(begun.common);
-    let least = left.saturating_sub(begun.room.saturating_sub(begun.shared));
-    let most = left.min(begun.shared);
-    any_wanted(begun.size_bits, common + least, common + most)
 }
 
 // Whether a size from one to another is wanted: the least wanted one that is not below the first tells. Where none is,

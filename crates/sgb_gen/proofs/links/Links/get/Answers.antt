@@ -2,8 +2,7 @@ use Rattle.std.proofs.Common.{◌≡◌, ℕ, ◌+◌, ◌*◌, ◌<◌, ◌≤�
 use Rattle.std.proofs.lemmas.Grind.{get_or_default_zero}
 use Rattle.sgb_gen.specs.inner.LocalArcs.{arcs_in}
 use Rattle.sgb_gen.specs.LocalLists.{LinksData}
-use Rattle.sgb_gen.proofs.LinkRows.{length-arcs_in, slice_get-arcs_in}
-use Rattle.sgb_gen.proofs.TableRows.{row_within}
+use Rattle.sgb_gen.proofs.LinkRows.{length-arcs_in, row_within, slice_get-arcs_in}
 use Rattle.sgb_gen.proofs.links.Links.get.Goals as goal
 
 -- the place is one of the lengths

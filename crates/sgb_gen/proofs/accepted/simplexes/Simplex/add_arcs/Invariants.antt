@@ -1,4 +1,4 @@
-use Rattle.std.proofs.Common.{drop}
+use Rattle.std.proofs.Common.{◌≡◌, drop}
 use Rattle.std.specs.List.{flat_map}
 use Rattle.sgb_gen.specs.Simplexes.{simplex_vectors}
 use Rattle.sgb_graph.proofs.AddedEvents.{AddsUpTo}
@@ -8,4 +8,5 @@ use Rattle.sgb_gen.proofs.accepted.simplexes.Simplex.add_arcs.Given as goal
 -- the moves to the vertices from this one on are still to come
 abbrev pub invariant-loop-v : goal.invariant-loop-v
 invariant-loop-v l =
-    AddsUpTo l.self.directed l.fn.graph l.graph (flat_map (events_to l.self) (drop l.v (simplex_vectors l.self))) (events_of l.self)
+    (l.left ≡ drop l.v (simplex_vectors l.self))
+    × AddsUpTo l.self.directed l.fn.graph l.graph (flat_map (events_to l.self) (drop l.v (simplex_vectors l.self))) (events_of l.self)

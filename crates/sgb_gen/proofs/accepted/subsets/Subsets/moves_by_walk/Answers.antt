@@ -4,11 +4,9 @@ use Rattle.std.proofs.lemmas.List.Elements.{All-contains_itself, All-tail}
 use Rattle.sgb_vec.specs.Limits.{most_vertices}
 use Rattle.sgb_vec.specs.Sums.{bounded_sums}
 use Rattle.sgb_vec.proofs.RangeSteps.{first_and_rest}
-use Rattle.sgb_vec.proofs.SumMembers.{Contains-bounded_sums}
 use Rattle.sgb_gen.specs.Subsets.{subsets_vectors}
 use Rattle.sgb_gen.specs.inner.Descents.{down_from}
 use Rattle.sgb_gen.specs.inner.SubsetsCounts.{moves_among, wanted_among}
-use Rattle.sgb_gen.proofs.DescentArcs.{begun-all}
 use Rattle.sgb_gen.proofs.SubsetsCounts.{moves-counted, moves-few}
 use Rattle.sgb_gen.proofs.DisplacementWalk.{first_has}
 use Rattle.sgb_gen.proofs.accepted.subsets.Subsets.moves_by_walk.Goals as goal
@@ -21,17 +19,8 @@ loop-x-init c =
       omega (arith, ap (moves_among s.size_bits s.sum.bounds) all, moves-counted s),
     )
 
-pub count_from-counted-requires-clause-begun : goal.count_from-counted-requires-clause-begun
-count_from-counted-requires-clause-begun c =
-    let s = c.args.self.now in
-    let member = first_has (Contains (subsets_vectors s)) c.loop-x.left c.in-Some.x.now c.loop-x.invariant.0 c.in-Some.ensures.first in
-    rw c.begun-begun.ensures.value (begun-all s.sum c.sizes-bounds.result.now c.in-Some.x.now _ _ _ member c.sizes-bounds.ensures.same (ap sum (sym c.sizes-bounds.ensures.same)) refl refl c.begun-begun.ensures.small)
-
-pub count_from-counted-requires-clause-all : goal.count_from-counted-requires-clause-all
-count_from-counted-requires-clause-all c =
-    let s = c.args.self.now in
-    let member = first_has (Contains (subsets_vectors s)) c.loop-x.left c.in-Some.x.now c.loop-x.invariant.0 c.in-Some.ensures.first in
-    ap (λ b. b.left) c.begun-begun.ensures.value ∙ sym ((Contains-bounded_sums s.sum.total s.sum.bounds c.in-Some.x.now).0 member).1
+pub count_from-counted-requires : goal.count_from-counted-requires
+count_from-counted-requires c = first_has (Contains (subsets_vectors c.args.self.now)) c.loop-x.left c.in-Some.x.now c.loop-x.invariant.0 c.in-Some.ensures.first
 
 pub overflow_add-counted : goal.overflow_add-counted
 overflow_add-counted c =
@@ -44,8 +33,7 @@ loop-x-preserved c =
     let s = c.args.self.now in
     let x = c.in-Some.x.now in
     let rest = c.advance-some.new.self in
-    let here : c.count_from-counted.result ≡ wanted_among s.size_bits 0 c.in-Some.x.now (down_from s.sum.bounds c.in-Some.x.now) = rw (← c.sizes-bounds.ensures.same) (rw c.begun-begun.ensures.value at c.count_from-counted.ensures) in
     let step : c.loop-x.left ≡ x ∷ rest = first_and_rest c.loop-x.left rest x x c.in-Some.ensures.first refl c.advance-some.ensures.rest in (
       All-tail (Contains (subsets_vectors s)) x rest (subst (All (Contains (subsets_vectors s))) step c.loop-x.invariant.0),
-      omega (arith, here, c.loop-x.invariant.1, ap (moves_among s.size_bits s.sum.bounds) step),
+      omega (arith, c.count_from-counted.ensures, c.loop-x.invariant.1, ap (moves_among s.size_bits s.sum.bounds) step),
     )

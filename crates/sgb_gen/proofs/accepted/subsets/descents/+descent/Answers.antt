@@ -1,12 +1,12 @@
-use Rattle.std.proofs.Common.{◌≡◌, ◌+◌, ◌-◌, ◌≤◌, ℕ, List, ◌∷◌, ◌++◌, length, drop, take, get_or, min, reverse, set, refl, sym, ap, ap₂, ◌∙◌, arith}
+use Rattle.std.proofs.Common.{◌≡◌, ◌+◌, ◌-◌, ◌≤◌, ℕ, List, [], ◌∷◌, ◌++◌, length, drop, take, get_or, min, reverse, set, refl, sym, ap, ap₂, ◌∙◌, arith}
 use Rattle.std.proofs.lemmas.List.{drop_more, length-drop, length-set, take_rest}
 use Rattle.std.proofs.lemmas.Result.{on_ok_weaker}
 use Rattle.sgb_vec.specs.Sums.{bounded_sums}
 use Rattle.sgb_vec.proofs.SumMembers.{IsWithin-length}
-use Rattle.sgb_gen.specs.inner.Descents.{arcs_under, front_of, rows}
+use Rattle.sgb_gen.specs.inner.Descents.{arcs_under, front_of, row, rows}
 use Rattle.sgb_gen.proofs.ArcsInTurn.{exit_part, given_as, given_last, so_far_all, so_far_begun, so_far_more, took_none}
-use Rattle.sgb_gen.proofs.DescentArcs.{row-under, rows-under}
-use Rattle.sgb_gen.proofs.DescentSteps.{entry-unwanted, front-kept, front-placed, front-shorter, least-placed}
+use Rattle.sgb_gen.proofs.DescentArcs.{rows-under}
+use Rattle.sgb_gen.proofs.DescentSteps.{entry-unwanted, front-kept, front-shorter, least-placed, rows-placed}
 use Rattle.sgb_gen.proofs.LastEntries.{none-left}
 use Rattle.sgb_gen.proofs.SubsetsCounts.{begun-on}
 use Rattle.sgb_gen.proofs.accepted.subsets.descents.+descent.Goals as goal
@@ -132,21 +132,43 @@ push_all-returns-clause-given g t c =
 pub push_rows-loop-k-init : goal.push_rows-loop-k-init
 push_rows-loop-k-init g t c = (refl, so_far_begun (g.met.K.ArcSink.laws c.args.sink.now) _ _ _ _ refl, c.requires.ready)
 
-pub push_rows-returns-in_err-push_row-clause-given : goal.push_rows-returns-in_err-push_row-clause-given
-push_rows-returns-in_err-push_row-clause-given g t c =
+-- an entry with which no vector is joined is passed over
+pub push_rows-loop-k-preserved-then-not-may_be_among : goal.push_rows-loop-k-preserved-then-not-may_be_among
+push_rows-loop-k-preserved-then-not-may_be_among g t c =
     let b = c.args.begun in
-    let own = c.args.own ∷ c.args.x.now in
-    exit_part (g.met.K.ArcSink.laws c.args.sink.now) _ _ _ _ _ _ _ _ _ _ _ _ c.from_residual.ensures.1
-    (rows-under b.size_bits (front_of c.args.tip.now own) b.common own b.left c.args.bounds.now c.args.entries.least c.loop-k.k (omega arith)) c.loop-k.invariant.1 (rw c.loop-k.invariant.0 at c.in_err-push_row.ensures.given)
+    let x = c.args.x.now in
+    let own = c.args.own ∷ x in
+    let bounds = c.args.bounds.now in
+    let low = c.args.entries.least in
+    let front = front_of c.args.tip.now own in
+    let none : arcs_under b.size_bits front b.common own (row b.left bounds (low + (c.loop-k.k - 1))) ≡ [] = grind (arith, entry-unwanted) in (
+      c.loop-k.invariant.0,
+      so_far_more (g.met.K.ArcSink.laws c.args.sink.now) _ _ _ _ _ _ _ _ _ _
+          (rows-under b.size_bits front b.common own b.left bounds low c.loop-k.k (omega arith)) c.loop-k.invariant.1 (took_none (g.met.K.ArcSink.laws c.args.sink.now) _ _ _ none),
+      c.loop-k.invariant.2,
+    )
+
+pub push_rows-returns-in_err-push_all-clause-given : goal.push_rows-returns-in_err-push_all-clause-given
+push_rows-returns-in_err-push_all-clause-given g t c =
+    let b = c.args.begun in
+    let x = c.args.x.now in
+    let whole = rows-placed b.size_bits b.common b.left c.args.own c.args.entries.least c.loop-k.k (length c.args.tip.now - length x - 1) c.args.tip.now c.loop-k.tip c.args.bounds.now x (omega arith) (omega arith) c.requires.place (omega arith) refl c.loop-k.invariant.0 in
+    exit_part (g.met.K.ArcSink.laws c.args.sink.now) _ _ _ _ _ _ _ _ _ _ _ _ c.from_residual.ensures.1 whole c.loop-k.invariant.1 (rw c.placed-further.ensures at c.in_err-push_all.ensures.given)
 
 pub push_rows-loop-k-preserved : goal.push_rows-loop-k-preserved
 push_rows-loop-k-preserved g t c =
     let b = c.args.begun in
-    let own = c.args.own ∷ c.args.x.now in (
-      c.in_ok-push_row.ensures.same ∙ c.loop-k.invariant.0,
-      so_far_more (g.met.K.ArcSink.laws c.args.sink.now) _ _ _ _ _ _ _ _ _ _
-          (rows-under b.size_bits (front_of c.args.tip.now own) b.common own b.left c.args.bounds.now c.args.entries.least c.loop-k.k (omega arith)) c.loop-k.invariant.1 (rw c.loop-k.invariant.0 at c.in_ok-push_row.ensures.given),
-      c.in_ok-push_row.ensures.ready,
+    let x = c.args.x.now in
+    let own = c.args.own ∷ x in
+    let tip = c.loop-k.tip in
+    let place = length c.args.tip.now - length x - 1 in
+    let entry = c.args.entries.least + (c.loop-k.k - 1) in
+    let long = length-set tip place entry in
+    let whole = rows-placed b.size_bits b.common b.left c.args.own c.args.entries.least c.loop-k.k place c.args.tip.now tip c.args.bounds.now x (omega arith) (omega arith) c.requires.place (omega arith) refl c.loop-k.invariant.0 in (
+      front-shorter c.push_all.new.tip (set tip place entry) own x (omega arith) (omega arith) c.in_ok-push_all.ensures.same
+          ∙ front-kept tip own place entry (omega arith) ∙ c.loop-k.invariant.0,
+      so_far_more (g.met.K.ArcSink.laws c.args.sink.now) _ _ _ _ _ _ _ _ _ _ whole c.loop-k.invariant.1 (rw c.placed-further.ensures at c.in_ok-push_all.ensures.given),
+      c.in_ok-push_all.ensures.ready,
     )
 
 pub push_rows-returns-clause-given : goal.push_rows-returns-clause-given
@@ -154,29 +176,3 @@ push_rows-returns-clause-given g t c =
     let b = c.args.begun in
     let own = c.args.own ∷ c.args.x.now in
     so_far_all (g.met.K.ArcSink.laws c.args.sink.now) _ _ _ _ _ _ (ap (λ n. arcs_under b.size_bits (front_of c.args.tip.now own) b.common own (rows b.left c.args.bounds.now c.args.entries.least n)) {x = c.loop-k.k} {y = 0} (omega arith)) c.loop-k.invariant.1
-
-pub push_row-returns-then-not-may_be_among-clause-given : goal.push_row-returns-then-not-may_be_among-clause-given
-push_row-returns-then-not-may_be_among-clause-given g t c = took_none (g.met.K.ArcSink.laws c.args.sink.now) _ _ _ (grind (arith, entry-unwanted))
-
-pub push_row-returns-clause-same : goal.push_row-returns-clause-same
-push_row-returns-clause-same g t c =
-    let x = c.args.x.now in
-    let own = c.args.own ∷ x in
-    let tip = c.args.tip.now in
-    let place = length tip - length x - 1 in
-    let long = length-set tip place c.args.entry in
-    on_ok_weaker c.push_all.result (λ same. front-shorter c.push_all.new.tip (set tip place c.args.entry) own x (omega arith) (omega arith) same ∙ front-kept tip own place c.args.entry (omega arith)) c.push_all.ensures.same
-
-pub push_row-returns-clause-given : goal.push_row-returns-clause-given
-push_row-returns-clause-given g t c =
-    let b = c.args.begun in
-    let x = c.args.x.now in
-    let bounds = c.args.bounds.now in
-    let own = c.args.own ∷ x in
-    let tip = c.args.tip.now in
-    let place = length tip - length x - 1 in
-    let front = front-placed tip own x c.args.own c.args.entry place refl (omega (arith, c.requires.place)) (omega arith) in
-    let arcs = row-under b.size_bits (front_of tip own) b.common b.left c.args.own c.args.entry bounds x c.requires.entry in
-    given_as (g.met.K.ArcSink.laws c.args.sink.now) _ _ _ _ _ _ _
-    (ap₂ (λ q f. arcs_under q.size_bits f q.common x (reverse (bounded_sums q.left bounds))) c.placed-further.ensures front ∙ arcs)
-    c.push_all.ensures.given

@@ -5,16 +5,13 @@ use Rattle.sgb_gen.proofs.ArcsInTurn.{TakenSoFar}
 use Rattle.sgb_gen.proofs.accepted.subsets.descents.+descent.Given as goal
 
 abbrev pub decreases-push_all : goal.decreases-push_all
-decreases-push_all g l = 4 * length l.x.now
+decreases-push_all g l = 3 * length l.x.now
 
 abbrev pub decreases-push_greater : goal.decreases-push_greater
-decreases-push_greater g l = 4 * length l.x.now + 3
+decreases-push_greater g l = 3 * length l.x.now + 2
 
 abbrev pub decreases-push_rows : goal.decreases-push_rows
-decreases-push_rows g l = 4 * length l.x.now + 2
-
-abbrev pub decreases-push_row : goal.decreases-push_row
-decreases-push_row g l = 4 * length l.x.now + 1
+decreases-push_rows g l = 3 * length l.x.now + 1
 
 -- the arcs by the entries that are left are still to come
 abbrev pub invariant-push_rows-loop-k : goal.invariant-push_rows-loop-k
