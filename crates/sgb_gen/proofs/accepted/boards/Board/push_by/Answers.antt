@@ -1,4 +1,3 @@
-use Rattle.std.proofs.Common.{rules}
 use Rattle.std.proofs.lemmas.Bool.{OnTrue_at}
 use Rattle.sgb_gen.proofs.EndedLists.{kept_whole, memory_told}
 use Rattle.sgb_gen.proofs.accepted.boards.Board.push_by.Goals as goal
