@@ -192,19 +192,11 @@ module _ (b : BoardData) (t : List ℤ) (x : List ℕ) (there : Contains (box b.
     all_behind : All (Leads (opposite t)) (near ++ far)
     all_behind = subst (All (Leads (opposite t))) split (all_lead sides b.piece (opposite t) x)
 
-    near_arcs : flat_map edge near_starts ≡ reverse (map move_arc near)
-    near_arcs =
-        one_each edge from_behind move_arc (reverse near)
-        (All-reverse (λ m. edge (from_behind m) ≡ move_arc m ∷ []) near
-        (λ k d within. arc_behind (get_or near k d) (left_of (Leads (opposite t)) near far all_behind k d within) (λ e. omega (arith, before k d within, e))))
-        ∙ map-reverse move_arc near
-
-    far_arcs : flat_map edge far_starts ≡ reverse (map move_arc far)
-    far_arcs =
-        one_each edge from_behind move_arc (reverse far)
-        (All-reverse (λ m. edge (from_behind m) ≡ move_arc m ∷ []) far
-        (λ k d within. arc_behind (get_or far k d) (right_of (Leads (opposite t)) near far all_behind k d within) (λ e. omega (arith, after k d within, e))))
-        ∙ map-reverse move_arc far
+    part_arcs : (ms : List Move) → All (Leads (opposite t)) ms → All (λ m. vertex_among (box b.sizes) m.to ≢ u) ms → flat_map edge (map from_behind (reverse ms)) ≡ reverse (map move_arc ms)
+    part_arcs ms leads away =
+        one_each edge from_behind move_arc (reverse ms)
+        (All-reverse (λ m. edge (from_behind m) ≡ move_arc m ∷ []) ms (λ k d within. arc_behind (get_or ms k d) (leads k d within) (away k d within)))
+        ∙ map-reverse move_arc ms
 
     own_arcs : flat_map edge own_starts_here ≡ map move_arc ahead
     own_arcs = one_each edge from_here move_arc ahead (λ k d within. arc_here (get_or ahead k d) (all_lead sides b.piece t x k d within) (elsewhere k d within))
@@ -215,4 +207,5 @@ module _ (b : BoardData) (t : List ℤ) (x : List ℕ) (there : Contains (box b.
         onward_by_touching b t x there
         ∙ ap (flat_map edge) (sym in_order)
         ∙ flat_map-append edge near_starts (own_starts_here ++ far_starts)
-        ∙ ap₂ (λ p q. p ++ q) near_arcs (flat_map-append edge own_starts_here far_starts ∙ ap₂ (λ p q. p ++ q) own_arcs far_arcs)
+        ∙ ap₂ (λ p q. p ++ q) (part_arcs near (left_of (Leads (opposite t)) near far all_behind) (λ k d within e. omega (arith, before k d within, e)))
+        (flat_map-append edge own_starts_here far_starts ∙ ap₂ (λ p q. p ++ q) own_arcs (part_arcs far (right_of (Leads (opposite t)) near far all_behind) (λ k d within e. omega (arith, after k d within, e))))

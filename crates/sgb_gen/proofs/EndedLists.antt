@@ -28,3 +28,9 @@ pub memory_told : {T : Type 0} (before mid : LinksData) (arcs : List LocalArc) (
     → AreGiven {R = LinksData} {S = ℕ} {F = Panic} (λ old _ given new _. new ≡ with_arcs old given) (λ _ _ _ _ _ f. f ≡ NoRoom) before 0 arcs mid 0 put → IsOkUnless put NoRoom
 memory_told before mid arcs (Ok x) given = tt
 memory_told before mid arcs (Err f) given = given
+
+-- the same, where others stand before them
+pub kept_whole : {T : Type 0} (before mid : LinksData) (arcs : List LocalArc) (put : Result T Panic)
+    → AreGiven {R = LinksData} {S = ℕ} {F = Panic} (λ old _ given new _. new ≡ with_arcs old given) (λ _ _ _ _ _ f. f ≡ NoRoom) before 0 arcs mid 0 put → OnOk put (mid ≡ with_arcs before arcs)
+kept_whole before mid arcs (Ok x) given = given
+kept_whole before mid arcs (Err f) given = tt

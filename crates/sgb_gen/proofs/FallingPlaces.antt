@@ -78,22 +78,14 @@ first_at k (negsuc c ∷ t) some = (0, record { within = omega arith; number = o
 
 -- ---- one coordinate
 
--- a step back that stays on the side, and one that goes around it
-stays_at : (w : Bool) (n a s r : ℕ) → a < n → s ≤ a → coordinate_on (record { size = n; wraps = w }) (pos a +ℤ neg_ℤ (pos s)) ≡ Some r → r + s ≡ a
-stays_at true n a s r inside less e =
-    let d = a - s in
-    let is : (pos a +ℤ neg_ℤ (pos s)) +ℤ pos (0 * n) ≡ pos d = omega (arith, ints, less) in
-    let rest : nat_abs (int_rem_euclid (pos a +ℤ neg_ℤ (pos s)) (pos n)) ≡ d = ap nat_abs (int_rem_euclid_is (pos a +ℤ neg_ℤ (pos s)) (pos n) n 0 d (omega (arith, inside)) refl is) ∙ mod-eq_of_lt (omega (arith, inside)) in
+-- where so many steps back lead that go around the side k times
+around_at : (w : Bool) (n a s k d r : ℕ) → d < n → d + s ≡ a + k * n → coordinate_on (record { size = n; wraps = w }) (pos a +ℤ neg_ℤ (pos s)) ≡ Some r → r ≡ d
+around_at true n a s k d r less sum e =
+    let is : (pos a +ℤ neg_ℤ (pos s)) +ℤ pos (k * n) ≡ pos d = omega (arith, ints, sum) in
+    let rest : nat_abs (int_rem_euclid (pos a +ℤ neg_ℤ (pos s)) (pos n)) ≡ d = ap nat_abs (int_rem_euclid_is (pos a +ℤ neg_ℤ (pos s)) (pos n) n k d (omega (arith, less)) refl is) ∙ mod-eq_of_lt less in
     grind (arith, rest)
-stays_at false n a s r inside less e = omega (arith, ints, within_is n r (pos a +ℤ neg_ℤ (pos s)) e)
-
-goes_at : (w : Bool) (n a s r : ℕ) → a < n → a < s → s < n → coordinate_on (record { size = n; wraps = w }) (pos a +ℤ neg_ℤ (pos s)) ≡ Some r → r + s ≡ a + n
-goes_at true n a s r inside more once e =
-    let d = a + n - s in
-    let is : (pos a +ℤ neg_ℤ (pos s)) +ℤ pos (1 * n) ≡ pos d = omega (arith, ints, once) in
-    let rest : nat_abs (int_rem_euclid (pos a +ℤ neg_ℤ (pos s)) (pos n)) ≡ d = ap nat_abs (int_rem_euclid_is (pos a +ℤ neg_ℤ (pos s)) (pos n) n 1 d (omega (arith, inside)) refl is) ∙ mod-eq_of_lt (omega (arith, more)) in
-    grind (arith, rest)
-goes_at false n a s r inside more once e = absurd (omega (arith, ints, more, within_is n r (pos a +ℤ neg_ℤ (pos s)) e))
+around_at false n a s zero d r less sum e = omega (arith, ints, sum, within_is n r (pos a +ℤ neg_ℤ (pos s)) e)
+around_at false n a s (suc k) d r less sum e = absurd (omega (arith, ints, less, sum, within_is n r (pos a +ℤ neg_ℤ (pos s)) e))
 
 -- so many steps back
 back_by : (a l c : ℕ) (u : ℤ) → u ≡ pos c → pos a +ℤ pos l *ℤ neg_ℤ u ≡ pos a +ℤ neg_ℤ (pos (l * c))
@@ -181,11 +173,12 @@ module _ (b : BoardData) (t : List ℤ) (x : List ℕ) (there : Contains (box b.
       cc (side, e2, z)
 
   -- the first falls by equal steps, and rises by the side where it goes around
-  first_stays : (l : ℕ) (y : List ℕ) → place sides x (opposite t) l ≡ Some y → l * c ≤ a → get_or y j 0 + l * c ≡ a
-  first_stays l y e less = stays_at (is_bit_set b.wrap j) size a (l * c) (get_or y j 0) (inside j within) less (subst (λ z. coordinate_on (record { size = size; wraps = is_bit_set b.wrap j }) z ≡ Some (get_or y j 0)) (back_by a l c (get_or t j (pos 0)) entry) (there_at l y j e within))
-
-  first_goes : (l : ℕ) (y : List ℕ) → place sides x (opposite t) l ≡ Some y → a < l * c → l * c < size → get_or y j 0 + l * c ≡ a + size
-  first_goes l y e more less = goes_at (is_bit_set b.wrap j) size a (l * c) (get_or y j 0) (inside j within) more less (subst (λ z. coordinate_on (record { size = size; wraps = is_bit_set b.wrap j }) z ≡ Some (get_or y j 0)) (back_by a l c (get_or t j (pos 0)) entry) (there_at l y j e within))
+  first_falls : (k l : ℕ) (y : List ℕ) → place sides x (opposite t) l ≡ Some y → l * c ≤ a + k * size → a + k * size < l * c + size → get_or y j 0 + l * c ≡ a + k * size
+  first_falls k l y e most far =
+      let d = a + k * size - l * c in
+      let at : coordinate_on (record { size = size; wraps = is_bit_set b.wrap j }) (pos a +ℤ neg_ℤ (pos (l * c))) ≡ Some (get_or y j 0) =
+      subst (λ z. coordinate_on (record { size = size; wraps = is_bit_set b.wrap j }) z ≡ Some (get_or y j 0)) (back_by a l c (get_or t j (pos 0)) entry) (there_at l y j e within) in
+      omega (arith, most, around_at (is_bit_set b.wrap j) size a (l * c) k d (get_or y j 0) (omega (arith, most, far)) (omega (arith, most)) at)
 
   -- ---- their order
 
@@ -214,36 +207,23 @@ module _ (b : BoardData) (t : List ℤ) (x : List ℕ) (there : Contains (box b.
   -- by the first coordinates
   to_before : (m : Move) → Back m → m.len * c ≤ a → vertex_among vectors m.to < u
   to_before m lead near =
-      let first = first_stays m.len m.to lead.1.1 near in
+      let first = first_falls 0 m.len m.to lead.1.1 (omega (arith, near)) (omega (arith, inside j within)) in
       let far = mul-le 1 1 m.len c (omega (arith, some_steps m lead)) (omega (arith, once.1)) in
       in_order m.to x (vector_of m lead) there (long_to m lead) long_x (λ i h. before_stays m.len m.to i lead.1.1 h) (omega (arith, first, far))
 
   to_after : (m : Move) → Back m → a < m.len * c → m.len * c < size → u < vertex_among vectors m.to
   to_after m lead far less =
-      let first = first_goes m.len m.to lead.1.1 far less in
+      let first = first_falls 1 m.len m.to lead.1.1 (omega (arith, less)) (omega (arith, far)) in
       in_order x m.to there (vector_of m lead) long_x (long_to m lead) (λ i h. sym (before_stays m.len m.to i lead.1.1 h)) (omega (arith, first, less))
 
-  pair_before : (m o : Move) → Back m → Back o → get_or o.to j 0 < get_or m.to j 0 → vertex_among vectors o.to < vertex_among vectors m.to
-  pair_before m o lead_m lead_o less =
+  -- of two that go around equally often, the farther leads to the earlier vector
+  farther_falls : (k : ℕ) (m o : Move) → Back m → Back o → m.len < o.len → o.len * c ≤ a + k * size → a + k * size < m.len * c + size → vertex_among vectors o.to < vertex_among vectors m.to
+  farther_falls k m o lead_m lead_o less most far =
+      let step : m.len * c + c ≤ o.len * c = omega (arith, mul-le (m.len + 1) c o.len c (omega (arith, less)) (omega arith)) in
+      let one = first_falls k o.len o.to lead_o.1.1 most (omega (arith, far, step)) in
+      let other = first_falls k m.len m.to lead_m.1.1 (omega (arith, most, step)) far in
       in_order o.to m.to (vector_of o lead_o) (vector_of m lead_m) (long_to o lead_o) (long_to m lead_m)
-      (λ i h. before_stays o.len o.to i lead_o.1.1 h ∙ sym (before_stays m.len m.to i lead_m.1.1 h)) less
-
-  farther : (l m : ℕ) → l < m → l * c + c ≤ m * c
-  farther l m less = omega (arith, mul-le (l + 1) c m c (omega (arith, less)) (omega arith))
-
-  near_falls : (m o : Move) → Back m → Back o → m.len < o.len → o.len * c ≤ a → vertex_among vectors o.to < vertex_among vectors m.to
-  near_falls m o lead_m lead_o less near =
-      let step = farther m.len o.len less in
-      let one = first_stays o.len o.to lead_o.1.1 near in
-      let other = first_stays m.len m.to lead_m.1.1 (omega (arith, near, step)) in
-      pair_before m o lead_m lead_o (omega (arith, one, other, step, once.1))
-
-  far_falls : (m o : Move) → Back m → Back o → m.len < o.len → a < m.len * c → o.len * c < size → vertex_among vectors o.to < vertex_among vectors m.to
-  far_falls m o lead_m lead_o less far most =
-      let step = farther m.len o.len less in
-      let one = first_goes o.len o.to lead_o.1.1 (omega (arith, far, step)) most in
-      let other = first_goes m.len m.to lead_m.1.1 far (omega (arith, most, step)) in
-      pair_before m o lead_m lead_o (omega (arith, one, other, step, once.1))
+      (λ i h. before_stays o.len o.to i lead_o.1.1 h ∙ sym (before_stays m.len m.to i lead_m.1.1 h)) (omega (arith, one, other, step, once.1))
 
   -- ---- their lengths
 
@@ -284,55 +264,52 @@ module _ (b : BoardData) (t : List ℤ) (x : List ℕ) (there : Contains (box b.
   back_at : (i : ℕ) (d : Move) → i < length moves → Back (get_or moves i d)
   back_at i d h = all_lead sides b.piece (opposite t) x i d h
 
-  near_at : (i : ℕ) (d : Move) → i < length near → (get_or near i d ≡ get_or moves i d) × (i < q) × (i < length moves)
-  near_at i d h =
-      let size_is : length near ≡ q = length-take-le q moves (omega (arith, few, count)) in
-      (get_or-take q moves i d (omega (arith, h, size_is)), omega (arith, h, size_is), omega (arith, h, size_is, few, count))
+  -- moves from a place on, all of which go around k times
+  abbrev IsPart : ℕ → ℕ → List Move → Type 0
+  IsPart k from ms =
+      (i : ℕ) (d : Move) → i < length ms → (get_or ms i d ≡ get_or moves (from + i) d) × (from + i < length moves) × ((from + i + 1) * c ≤ a + k * size) × (a + k * size < (from + i + 1) * c + size)
 
-  far_at : (i : ℕ) (d : Move) → i < length far → (get_or far i d ≡ get_or moves (q + i) d) × (q + i < length moves)
-  far_at i d h = (get_or-drop q moves i d, omega (arith, h, length-drop q moves))
+  near_part : IsPart 0 0 near
+  near_part i d h =
+      let size_is : length near ≡ q = length-take-le q moves (omega (arith, few, count)) in
+      let steps : (0 + i + 1) * c ≤ a = near_steps (0 + i + 1) (omega (arith, h, size_is)) in
+      (get_or-take q moves i d (omega (arith, h, size_is)) ∙ ap (λ k. get_or moves k d) {x = i} {y = 0 + i} (omega arith), omega (arith, h, size_is, few, count), omega (arith, steps), omega (arith, inside j within))
+
+  far_part : IsPart 1 q far
+  far_part i d h =
+      let here : q + i < length moves = omega (arith, h, length-drop q moves) in
+      let le : q + i + 1 ≤ n = omega (arith, here, count) in
+      (get_or-drop q moves i d, here, omega (arith, all_steps (q + i + 1) le), omega (arith, far_steps (q + i + 1) (omega arith) le))
+
+  part_falls : (k from : ℕ) (ms : List Move) → IsPart k from ms → Falls b t x there ms
+  part_falls k from ms part =
+      λ i h d less within.
+      let one = part i d (omega (arith, less, within)) in
+      let two = part h d within in
+      let m = get_or moves (from + i) d in
+      let o = get_or moves (from + h) d in
+      let len_m : m.len ≡ from + i + 1 = len_at (from + i) d one.1 in
+      let len_o : o.len ≡ from + h + 1 = len_at (from + h) d two.1 in
+      rw (one.0, two.0) (farther_falls k m o (back_at (from + i) d one.1) (back_at (from + h) d two.1) (omega (arith, len_m, len_o, less))
+      (subst (λ l. l * c ≤ a + k * size) (sym len_o) two.2) (subst (λ l. a + k * size < l * c + size) (sym len_m) one.3))
 
   all_before : All (λ m. vertex_among vectors m.to < u) near
   all_before =
       λ i d h.
-      let at = near_at i d h in
-      let len = len_at i d at.2 in
-      subst (λ m. vertex_among vectors m.to < u) (sym at.0) (to_before (get_or moves i d) (back_at i d at.2) (near_steps (get_or moves i d).len (omega (arith, len, at.1))))
+      let at = near_part i d h in
+      let m = get_or moves (0 + i) d in
+      let len : m.len ≡ 0 + i + 1 = len_at (0 + i) d at.1 in
+      let steps : m.len * c ≤ a = subst (λ l. l * c ≤ a) (sym len) (omega (arith, at.2)) in
+      subst (λ m. vertex_among vectors m.to < u) (sym at.0) (to_before m (back_at (0 + i) d at.1) steps)
 
   all_after : All (λ m. u < vertex_among vectors m.to) far
   all_after =
       λ i d h.
-      let at = far_at i d h in
-      let len = len_at (q + i) d at.1 in
+      let at = far_part i d h in
       let m = get_or moves (q + i) d in
+      let len : m.len ≡ q + i + 1 = len_at (q + i) d at.1 in
       let le : m.len ≤ n = omega (arith, len, at.1, count) in
       subst (λ m. u < vertex_among vectors m.to) (sym at.0) (to_after m (back_at (q + i) d at.1) (far_steps m.len (omega (arith, len)) le) (all_steps m.len le))
-
-  all_near_fall : Falls b t x there near
-  all_near_fall =
-      λ i k d less h.
-      let one = near_at i d (omega (arith, less, h)) in
-      let two = near_at k d h in
-      let m = get_or moves i d in
-      let o = get_or moves k d in
-      let len_m = len_at i d one.2 in
-      let len_o = len_at k d two.2 in
-      let fall : vertex_among vectors o.to < vertex_among vectors m.to = near_falls m o (back_at i d one.2) (back_at k d two.2) (omega (arith, len_m, len_o, less)) (near_steps o.len (omega (arith, len_o, two.1))) in
-      rw (one.0, two.0) fall
-
-  all_far_fall : Falls b t x there far
-  all_far_fall =
-      λ i k d less h.
-      let one = far_at i d (omega (arith, less, h)) in
-      let two = far_at k d h in
-      let m = get_or moves (q + i) d in
-      let o = get_or moves (q + k) d in
-      let len_m = len_at (q + i) d one.1 in
-      let len_o = len_at (q + k) d two.1 in
-      let le_m : m.len ≤ n = omega (arith, len_m, one.1, count) in
-      let le_o : o.len ≤ n = omega (arith, len_o, two.1, count) in
-      let fall : vertex_among vectors o.to < vertex_among vectors m.to = far_falls m o (back_at (q + i) d one.1) (back_at (q + k) d two.1) (omega (arith, len_m, len_o, less)) (far_steps m.len (omega (arith, len_m)) le_m) (all_steps o.len le_o) in
-      rw (one.0, two.0) fall
 
   -- ---- their arcs
 
@@ -350,6 +327,6 @@ module _ (b : BoardData) (t : List ℤ) (x : List ℕ) (there : Contains (box b.
       let ns = map move_arc near in
       let os = map move_arc (ahead b t x there) in
       let fs = map move_arc far in
-      ap reverse (around_in_order b t x there near far (sym (take-append-drop q moves)) all_before all_after all_near_fall all_far_fall)
+      ap reverse (around_in_order b t x there near far (sym (take-append-drop q moves)) all_before all_after (part_falls 0 0 near near_part) (part_falls 1 q far far_part))
       ∙ reverse-append (reverse ns) (os ++ reverse fs)
       ∙ ap₂ (λ p r. p ++ r) (reverse-append os (reverse fs) ∙ ap (λ p. p ++ reverse os) (reverse-reverse fs ∙ far_arcs)) (reverse-reverse ns ∙ near_arcs)

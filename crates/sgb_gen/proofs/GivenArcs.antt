@@ -1,5 +1,5 @@
 -- The arcs of a board's vector that are handed out one by one.
-use Rattle.std.proofs.Common.{◌≡◌, ℕ, zero, suc, ◌+◌, ◌-◌, ◌*◌, ◌<◌, ◌≤◌, ℤ, pos, nat_abs, Bool, true, false, cond, List, [], ◌∷◌, ◌++◌, length, map, reverse, take, get_or, Option, Some, None, refl, sym, ap, subst, ◌∙◌, arith, append-nil}
+use Rattle.std.proofs.Common.{◌≡◌, ℕ, suc, ◌+◌, ◌-◌, ◌<◌, ◌≤◌, ℤ, pos, nat_abs, false, cond, List, [], ◌∷◌, ◌++◌, length, map, reverse, take, get_or, Some, sym, ap, subst, ◌∙◌, arith}
 use Rattle.std.specs.List.{All, range_with_len, slice_get}
 use Rattle.std.proofs.lemmas.List.{reverse-append, take_more}
 use Rattle.std.proofs.lemmas.List.Elements.{All-append, All-cons, All-nil}
@@ -14,8 +14,7 @@ use Rattle.sgb_gen.specs.MovedCoordinates.{parts_of}
 use Rattle.sgb_gen.specs.Moves.{opposite, sides_of}
 use Rattle.sgb_gen.specs.Runs.{arc_along, arcs_along}
 use Rattle.sgb_gen.specs.inner.LocalBoards.{arcs_onward, moves_by}
-use Rattle.sgb_gen.specs.inner.Moves.{leads_onward}
-use Rattle.sgb_gen.specs.inner.StraightLists.{GoesAroundOnce, NeedsNoSort, arcs_back, arcs_by_all, arcs_from}
+use Rattle.sgb_gen.specs.inner.StraightLists.{GoesAroundOnce, IsInOrder, NeedsNoSort, arcs_back, arcs_by_all, arcs_from}
 use Rattle.sgb_gen.proofs.RunsOfLists.{last_first}
 
 -- ---- by lengths, the next one apart
@@ -53,11 +52,13 @@ count_behind b x t n edges is =
     let same : arcs_back b x t ≡ arcs_from b x t = ap (λ c. cond c [] (arcs_from b x t)) edges in
     ap length (sym same ∙ is) ∙ length-map-range_with_len (arc_along b.sizes b.wrap x (parts_of t)) 1 n
 
--- they go around once at most
-pub once_behind : (b : BoardData) (x : List ℕ) (t : List ℤ) (n : ℕ) → IsBelow x b.sizes → b.directed ≡ false → leads_onward b.wrap 0 t ≡ false → NeedsNoSort b t
-    → arcs_back b x (opposite t) ≡ arcs_along b.sizes b.wrap x (parts_of (opposite t)) n → GoesAroundOnce b.sizes (get_or (parts_of t) 0 (0, pos 0)) n
-once_behind b x t n below edges around sorted is =
-    subst (GoesAroundOnce b.sizes (get_or (parts_of t) 0 (0, pos 0))) (count_behind b x (opposite t) n edges is) ((sorted edges around).1 x below)
+-- where no vector wants a sort, this one wants none
+pub kept_in_order : (b : BoardData) (x : List ℕ) (t : List ℤ) (n : ℕ) → IsBelow x b.sizes → NeedsNoSort b t
+    → arcs_back b x (opposite t) ≡ arcs_along b.sizes b.wrap x (parts_of (opposite t)) n → IsInOrder b t n
+kept_in_order b x t n below sorted is edges around = (
+  (sorted edges around).0,
+  subst (GoesAroundOnce b.sizes (get_or (parts_of t) 0 (0, pos 0))) (count_behind b x (opposite t) n edges is) ((sorted edges around).1 x below),
+)
 
 -- where so many do, fewer do
 pub around_fewer : (sizes : List ℕ) (p : ℕ × ℤ) (m n : ℕ) → n ≤ m → GoesAroundOnce sizes p m → GoesAroundOnce sizes p n

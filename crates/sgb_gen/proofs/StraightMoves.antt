@@ -1,15 +1,13 @@
 -- Moves from a vector that never come home, of as many lengths as the moved coordinates stay on the board.
-use Rattle.std.proofs.Common.{◌≡◌, ◌≢◌, ℕ, zero, suc, ◌+◌, ◌-◌, reverse, ◌<◌, ◌≤◌, ℤ, true, false, cond, List, [], ◌∷◌, length, map, Some, None, refl, sym, ap, subst, ◌∙◌, arith, rules}
+use Rattle.std.proofs.Common.{◌≡◌, ◌≢◌, ℕ, zero, suc, ◌+◌, ◌<◌, ◌≤◌, ℤ, true, false, cond, List, [], length, map, Some, None, sym, ap, subst, ◌∙◌, arith, rules}
 use Rattle.std.specs.Cmp.Lexicographic.{bytes_decides}
 use Rattle.std.proofs.lemmas.Bool.{cases_Bool, cases_lt}
-use Rattle.std.proofs.lemmas.List.{reverse-append}
-use Rattle.std.proofs.lemmas.List.FromFn.{map-range_with_len_more}
 use Rattle.std.specs.List.{range_with_len}
 use Rattle.sgb_vec.specs.Lexicographic.{IsBelow}
 use Rattle.sgb_gen.specs.Boards.{BoardData}
 use Rattle.sgb_gen.specs.Moves.{Side, opposite, place, sides_of}
 use Rattle.sgb_gen.specs.VectorGraphs.{same_vector}
-use Rattle.sgb_gen.specs.LocalLists.{LinksData, LocalArc}
+use Rattle.sgb_gen.specs.LocalLists.{LocalArc}
 use Rattle.sgb_gen.specs.inner.LocalBoards.{move_arc}
 use Rattle.sgb_gen.specs.inner.Moves.{destination, leads_onward}
 use Rattle.sgb_gen.specs.MovedCoordinates.{parts_of, parts_put}
@@ -21,8 +19,6 @@ use Rattle.sgb_gen.proofs.MovedCoordinates.{place_by_parts}
 use Rattle.sgb_gen.proofs.OnwardMoves.{back_earlier, onward_elsewhere}
 use Rattle.sgb_gen.proofs.OrderedLists.{before_none}
 use Rattle.sgb_gen.proofs.Reaches.{sizes_of_sides}
-use Rattle.sgb_gen.specs.inner.LocalSimplexes.{with_arcs}
-use Rattle.sgb_gen.proofs.PairWalks.{with_more}
 
 -- the arc to the place at a length
 abbrev arc_placed : BoardData → List ℕ → List ℤ → ℕ → LocalArc
@@ -56,19 +52,6 @@ module _ (b : BoardData) (x : List ℕ) (t : List ℤ) (below : IsBelow x b.size
       → (n < longest b → parts_stay b.sizes b.wrap x (n + 1) (parts_of t) ≡ false)
       → map move_arc (moves_of b t x) ≡ map (arc_placed b x t) (range_with_len 1 n)
   straight_arcs n most on end = arcs_to b x t n most (λ m some within. leads_on m some (on m within)) (λ less. leads_out (n + 1) (omega arith) (end less))
-
--- ---- those of the lengths that are left, the longest first
-
-pub one_shorter : (f : ℕ → LocalArc) (done new whole : LinksData) (n m : ℕ) → 0 < n → m ≡ n → new ≡ with_arcs done (f m ∷ [])
-    → with_arcs done (reverse (map f (range_with_len 1 n))) ≡ whole → with_arcs new (reverse (map f (range_with_len 1 (n - 1)))) ≡ whole
-one_shorter f done new whole n m some same is so_far =
-    let k = n - 1 in
-    let left = reverse (map f (range_with_len 1 k)) in
-    let first : reverse (map f (range_with_len 1 n)) ≡ f m ∷ left =
-    ap (λ i. reverse (map f (range_with_len 1 i))) {x = n} {y = k + 1} (omega (arith, some))
-    ∙ ap reverse (map-range_with_len_more f 1 k m (omega (arith, same, some)))
-    ∙ reverse-append (map f (range_with_len 1 k)) (f m ∷ []) in
-    with_more done new (with_arcs new left) (f m ∷ []) left _ is refl first ∙ so_far
 
 -- ---- when a piece never comes home
 

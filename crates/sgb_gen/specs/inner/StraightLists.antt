@@ -44,8 +44,13 @@ IsLeaper b = b.piece ≡ pos (nat_abs b.piece)
 abbrev pub GoesAroundOnce : List ℕ → ℕ × ℤ → ℕ → Type 0
 GoesAroundOnce sizes p n = (p.1 ≡ pos (nat_abs p.1)) × (0 < nat_abs p.1) × (n * nat_abs p.1 < get_or sizes p.0 0)
 
--- the arcs by the edges of this displacement are had in order with no sort, from each vector: there are arcs alone, or it
--- leads onward, or all moves back go around its first side once at most
+-- the arcs by the edges of this displacement are had in order with no sort, from a vector from which so many moves lead
+-- back: there are arcs alone, or it leads onward, or these moves go around its first side once at most
+abbrev pub IsInOrder : BoardData → List ℤ → ℕ → Type 0
+IsInOrder b t n =
+    b.directed ≡ false → leads_onward b.wrap 0 t ≡ false → (0 < length (parts_of t)) × GoesAroundOnce b.sizes (get_or (parts_of t) 0 (0, pos 0)) n
+
+-- the same from each vector
 abbrev pub NeedsNoSort : BoardData → List ℤ → Type 0
 NeedsNoSort b t =
     b.directed ≡ false → leads_onward b.wrap 0 t ≡ false

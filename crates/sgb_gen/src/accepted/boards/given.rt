@@ -15,12 +15,11 @@ ghost use Rattle.sgb_gen.specs.Moves.{opposite, sides_of};
 ghost use Rattle.sgb_gen.specs.Runs.{arc_along, arcs_along};
 ghost use Rattle.sgb_gen.specs.inner.EntryBounds.{displacements_within, entry_bounds};
 ghost use Rattle.sgb_gen.specs.inner.LocalBoards.{arcs_onward, moves_by};
-ghost use Rattle.sgb_gen.specs.inner.StraightLists.{NeedsNoSort};
+ghost use Rattle.sgb_gen.specs.inner.StraightLists.{IsInOrder, NeedsNoSort, arcs_back};
 
 use super::Board;
 use crate::arc_sinks::ArcSink;
 use crate::displacement_tables::DisplacementTable;
-use crate::moves::put_placed;
 use crate::steps::Step;
 use sgb_vec::Vector;
 
@@ -49,19 +48,22 @@ impl Board {
         let mut there = Vector::new();
         for k in (0..table.len()).rev() {
             let pair = table.at(k);
-            self.give_by(x, &pair.ahead(), &pair.back(), &mut there, sink, room, out)?;
+            let back = pair.back();
+            let behind = self.lengths_back(x, &back);
+            self.give_by(x, &pair.ahead(), &back, behind, &mut there, sink, room, out)?;
         }
         Ok(())
     }
 
-    // Hands out the arcs of `x` by the edges of the displacement `t`, whose opposite is `back`: those back to vectors after
-    // `x`, those ahead, the longer first, and those back to vectors before it. `there` is room for a place, here and below: what
-    // it holds does not count.
-    fn give_by<K: ArcSink<R, S>, R, S>(
+    // Hands out the arcs of `x` by the edges of the displacement `t`, whose opposite is `back`, where so many moves lead back
+    // from `x`: those back to vectors after `x`, those ahead, the longer first, and those back to vectors before it. `there` is
+    // room for a place, here and below: what it holds does not count.
+    pub(super) fn give_by<K: ArcSink<R, S>, R, S>(
         &self,
         x: &[u32],
         t: &Step,
         back: &Step,
+        behind: u32,
         there: &mut Vector,
         sink: &K,
         room: &mut R,
@@ -70,7 +72,9 @@ impl Board {
         requires below { IsBelow x.now self.now.sizes }
         requires dimensions { length t.now ≡ length self.now.sizes }
         requires back { back.now ≡ opposite t.now }
-        requires sorted { NeedsNoSort self.now t.now }
+        requires sorted { IsInOrder self.now t.now behind }
+        requires behind { arcs_back self.now x.now back.now ≡ arcs_along self.now.sizes
+            self.now.wrap x.now (parts_of back.now) behind }
         requires width { K.width sink.now ≡ length x.now }
         requires ready { K.ready sink.now room.old out.old }
         ensures given { AreGiven (K.took sink.now) (K.cut sink.now) room.old out.old
@@ -79,7 +83,6 @@ impl Board {
             t.now))) room.new out.new result }
         ensures ready { OnOk result (K.ready sink.now room.new out.new) }
     {
-        let behind = self.lengths_back(x, back);
         let near = self.lengths_near(x, t, behind);
         let ahead = self.lengths_by(x, t);
         self.give_lengths(x, back, near, behind, there, sink, room, out)?;
@@ -162,7 +165,6 @@ impl Board {
             result }
         ensures ready { OnOk result (K.ready sink.now room.new out.new) }
     {
-        put_placed(self.sizes(), self.wrap, x, t.parts(), l, there);
-        sink.put_arc(there.as_slice(), l, room, out)
+        sink.put_along(self.sizes(), self.wrap, x, t.parts(), l, there, room, out)
     }
 }

@@ -13,7 +13,6 @@ ghost use Rattle.sgb_gen.specs.inner.StraightLists.{NeedsNoSort, arcs_from};
 use super::Board;
 use super::counts::{first_stop, lengths_along};
 use crate::displacement_tables::DisplacementTable;
-use crate::moves::leads_onward;
 use crate::steps::Step;
 use sgb_vec::Family;
 
@@ -50,13 +49,7 @@ impl Board {
         requires back { back.now ≡ opposite t.now }
         ensures { OnTrue result (NeedsNoSort self.now t.now) }
     {
-        if self.directed {
-            return true;
-        }
-        if leads_onward(self.wrap, t) {
-            return true;
-        }
-        self.goes_around_once(t, self.most_lengths(back))
+        self.is_in_order(t, self.most_lengths(back))
     }
 
     // A number of lengths that the piece moves by `t` at most, from each vector.
