@@ -13,8 +13,11 @@ use sgb_vec::{Family, SumFamily};
 use std::alloc::Global;
 use std::marker::Model;
 
-// At most so many counts are kept: a megabyte.
+// At most so many counts are kept for a run: a megabyte.
 const MOST_COUNTS: usize = 262_144;
+
+// At most so many are kept for each vertex of a graph that is built, whose vertices and arcs take as much.
+const MOST_OF_VERTEX: usize = 64;
 
 // Of each sum from 0 up, how many vectors within some bounds add to at most that. Contracts see a list.
 #[derive(Drop)]
@@ -53,18 +56,19 @@ impl<'a> Model for CountedPlaces<'a> {
 }
 
 impl<'a> CountedPlaces<'a> {
-    // Those of the family, whose bounds these are. `None` where they want more than a megabyte, where a count is above 32
-    // bits, or out of memory.
+    // Those of the family, whose bounds these are: for a run, or for a graph that is built. `None` where they want more than a
+    // megabyte, and for a graph more than 64 counts for each vertex; where a count is above 32 bits; or out of memory.
     pub(crate) fn new(
         alloc: Global,
         family: &'a SumFamily,
         bounds: &[u32],
+        is_built: bool,
     ) -> Option<CountedPlaces<'a>>
         requires { bounds.now ≡ family.now.bounds }
         ensures { IfSome result (λ p. p ≡ bounded_sums family.now.total family.now.bounds) }
     {
-        let _size = family.size();
-        if !are_few(family.total(), bounds.len()) {
+        let most = most_counts(family.size(), is_built);
+        if !are_few(family.total(), bounds.len(), most) {
             return None;
         }
         let rows = rows_of(alloc, family.total(), bounds)?;
@@ -100,12 +104,20 @@ impl<'a> CountedPlaces<'a> {
     }
 }
 
-// Whether no more than a megabyte is wanted.
-fn are_few(total: u32, bounds: usize) -> bool {
+// How many counts are kept at most.
+fn most_counts(vertices: u32, is_built: bool) -> usize {
+    if is_built {
+        return MOST_COUNTS.max((vertices as usize).saturating_mul(MOST_OF_VERTEX));
+    }
+    MOST_COUNTS
+}
+
+// Whether no more than so many are wanted.
+fn are_few(total: u32, bounds: usize, most: usize) -> bool {
     (total as usize)
         .saturating_add(1)
         .saturating_mul(bounds.max(1))
-        <= MOST_COUNTS
+        <= most
 }
 
 // The rows of counts of the last bounds, with none of them first.

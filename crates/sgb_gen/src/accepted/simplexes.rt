@@ -116,7 +116,14 @@ impl Simplex {
     pub(crate) fn places(&self, alloc: Global) -> Option<CountedPlaces<'_>>
         ensures { IfSome result (λ p. p ≡ simplex_vectors self.now) }
     {
-        CountedPlaces::new(alloc, &self.family, self.sizes())
+        CountedPlaces::new(alloc, &self.family, self.sizes(), false)
+    }
+
+    // The same for a graph that is built, for which more counts are kept.
+    fn places_of_graph(&self, alloc: Global) -> Option<CountedPlaces<'_>>
+        ensures { IfSome result (λ p. p ≡ simplex_vectors self.now) }
+    {
+        CountedPlaces::new(alloc, &self.family, self.sizes(), true)
     }
 
     // The bounds of its vectors.
@@ -148,7 +155,7 @@ impl Simplex {
     {
         let names = vector_names(alloc, &self.family)?;
         let mut graph = Graph::new(alloc, names)?;
-        let places = self.places(alloc);
+        let places = self.places_of_graph(alloc);
         self.add_arcs(&mut graph, &places)?;
         put_coordinates(&mut graph, &self.family);
         graph.set_id(self.id());

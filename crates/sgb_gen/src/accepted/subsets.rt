@@ -137,7 +137,7 @@ impl Subsets {
     pub(crate) fn places(&self, alloc: Global) -> Option<CountedPlaces<'_>>
         ensures { IfSome result (λ p. p ≡ subsets_vectors self.now) }
     {
-        CountedPlaces::new(alloc, &self.family, self.sizes())
+        CountedPlaces::new(alloc, &self.family, self.sizes(), false)
     }
 
     // The bounds of its vectors.
