@@ -67,6 +67,11 @@ no_fault : (starts bytes from to : List ℕ) (lengths : List ℤ) (id : List ℕ
     → (are_below (length starts - 1) from && are_below (length starts - 1) to) ≡ true
 no_fault starts bytes from to lengths id e = grind (arith, e)
 
+-- and there are as many as lengths
+pub as_many : (starts bytes from to : List ℕ) (lengths : List ℤ) (id : List ℕ) → fault_of starts bytes from to lengths id ≡ None
+    → (length from ≡ length lengths) × (length to ≡ length lengths)
+as_many starts bytes from to lengths id e = (grind (arith, e), grind (arith, e))
+
 -- the ends are vertices of the graph of the names
 pub ends_there : (starts bytes from to : List ℕ) (lengths : List ℤ) (id : List ℕ) (g : GraphData) → fault_of starts bytes from to lengths id ≡ None
     → g ≡ new_graph (names_given starts bytes) → (are_below (length g.vertices) from ≡ true) × (are_below (length g.vertices) to ≡ true)

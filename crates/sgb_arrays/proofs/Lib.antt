@@ -37,3 +37,5 @@ pub mod Examples
 pub mod StridedPuts
 -- lists that are handed out arc by arc, put into rows
 pub mod CountedRows
+-- lengths of which the first ones are the same
+pub mod PackedLengths

@@ -35,6 +35,8 @@ mod open_graphs;
 mod operands;
 // A graph with its lists of arcs as arrays.
 mod packed;
+// The lists of all vertices of a graph, in little memory.
+mod packed_rows;
 // Values put from a place on.
 mod puts;
 // Why an array is not filled.

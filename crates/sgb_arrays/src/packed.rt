@@ -8,15 +8,15 @@ ghost use Rattle.std.specs.Prelude.{◌≡◌, ◌++◌, ◌<◌, length, map, v
 ghost use Rattle.std.specs.Bool.{OnFalse, OnTrue};
 ghost use Rattle.sgb_graph.specs.Graphs.{chain_of};
 ghost use Rattle.sgb_arrays.specs.Runs.{AreRows, AreTips, HaveRowLengths, HaveTipLengths, IsFillRefusal, IsThere, parts_of};
-ghost use Rattle.sgb_arrays.specs.inner.Packed.{HoldsLists};
+ghost use Rattle.sgb_arrays.specs.inner.Packed.{HoldsLists, lengths_kept};
 ghost use Rattle.sgb_arrays.specs.inner.Sizes.{AreListSizes};
 ghost use Rattle.sgb_vec.specs.declared.panics.Panic.TheVariants as Panic;
 ghost use Rattle.sgb_arrays.specs.declared.refusals.Wrong.TheVariants as wrong;
 
 use crate::graph_rows::{fill_counted_rows, fill_counted_tips};
 use crate::list_sizes::{arcs_len_by, list_sizes};
+use crate::packed_rows::PackedRows;
 use crate::refusals::Wrong;
-use crate::rows::Rows;
 use crate::runs::{have_places, have_row_places, is_there};
 use sgb_graph::Graph;
 use sgb_vec::Panic;
@@ -41,7 +41,7 @@ impl Drop for PackedGraph {
 #[derive(Drop)]
 enum Lists {
     // All of them.
-    Whole(Rows),
+    Whole(PackedRows),
     // How long each is, where vertices share records, so that more arcs are on lists than there are records.
     Shared(Vec<usize>),
 }
@@ -58,7 +58,8 @@ impl Model for PackedGraph {
 }
 
 impl PackedGraph {
-    /// Puts the lists of the graph into arrays: twelve bytes for each arc, and eight for each vertex. Of lists that share so
+    /// Puts the lists of the graph into arrays: four bytes for each arc, eight more for each from the first on that has another
+    /// length than those before it, and eight for each vertex. Of lists that share so
     /// many records that they have more arcs than the graph has records, how long each is: eight bytes for each vertex, and
     /// for each record while they are counted.
     ///
@@ -153,9 +154,9 @@ impl PackedGraph {
 }
 
 // How many arcs are on the lists of a run, out of those of the graph.
-fn count_rows(graph: &Graph, rows: &Rows, first: u32, count: u32) -> Result<u128, Wrong>
+fn count_rows(graph: &Graph, rows: &PackedRows, first: u32, count: u32) -> Result<u128, Wrong>
     requires { AreRows graph.now 0 (length graph.now.vertices) rows.now.starts.items
-        rows.now.tips.items rows.now.lengths.items }
+        rows.now.tips.items (lengths_kept rows.now.lengths) }
     ensures count { IfOk result (λ m. IsThere graph.now first count
         × (m ≡ length (parts_of (chain_of graph.now) first count))) }
     ensures refused { IfErr result (λ why. (why ≡ wrong.Vertices)
@@ -170,7 +171,7 @@ fn count_rows(graph: &Graph, rows: &Rows, first: u32, count: u32) -> Result<u128
 // Copies the lists of a run out of those of the graph into arrays of their lengths.
 fn copy_rows(
     graph: &Graph,
-    rows: &Rows,
+    rows: &PackedRows,
     first: u32,
     count: u32,
     starts: &mut [u64],
@@ -178,7 +179,7 @@ fn copy_rows(
     lengths: &mut [i64],
 ) -> Result<(), Wrong>
     requires { AreRows graph.now 0 (length graph.now.vertices) rows.now.starts.items
-        rows.now.tips.items rows.now.lengths.items }
+        rows.now.tips.items (lengths_kept rows.now.lengths) }
     ensures filled { OnOk result (IsThere graph.now first count
         × HaveRowLengths graph.now first count starts.old tips.old lengths.old
         × AreRows graph.now first count starts.new tips.new lengths.new) }
@@ -201,14 +202,14 @@ fn copy_rows(
 // The same without the lengths of the arcs.
 fn copy_tips(
     graph: &Graph,
-    rows: &Rows,
+    rows: &PackedRows,
     first: u32,
     count: u32,
     starts: &mut [u64],
     tips: &mut [u32],
 ) -> Result<(), Wrong>
     requires { AreRows graph.now 0 (length graph.now.vertices) rows.now.starts.items
-        rows.now.tips.items rows.now.lengths.items }
+        rows.now.tips.items (lengths_kept rows.now.lengths) }
     ensures filled { OnOk result (IsThere graph.now first count
         × HaveTipLengths graph.now first count starts.old tips.old
         × AreTips graph.now first count starts.new tips.new) }
@@ -285,48 +286,18 @@ fn lists_of(alloc: Global, graph: &Graph) -> Result<Lists, Panic>
 // The lists of a graph, by one walk: lists are followed eight side by side, and then put while their records are at hand.
 // `None` where more arcs are on them than the graph has records, as may be where vertices share records: so what is kept
 // takes no more than the graph does.
-pub(crate) fn packed_rows(alloc: Global, graph: &Graph) -> Result<Option<Rows>, Panic>
+fn packed_rows(alloc: Global, graph: &Graph) -> Result<Option<PackedRows>, Panic>
     ensures rows { IfOk result (λ kept. IfSome kept (λ rows. AreRows graph.now 0
-        (length graph.now.vertices) rows.starts.items rows.tips.items rows.lengths.items)) }
+        (length graph.now.vertices) rows.starts.items rows.tips.items (lengths_kept rows.lengths))) }
     ensures memory { IsOkUnless result Panic.NoRoom }
 {
-    let mut rows = Rows::new(alloc, graph.n() as usize, graph.records_len())?;
+    let mut rows = PackedRows::new(alloc, graph.n() as usize, graph.records_len())?;
     for v in 0..graph.n() {
         graph.read_ahead(v);
-        if !rows.push_list(graph, v) {
+        if !rows.push_list(graph, v)? {
             return Ok(None);
         }
         rows.push_start()?;
     }
     Ok(Some(rows))
-}
-
-impl Rows {
-    // Puts the list of vertex v behind the others. `false` where there is no room for all of it.
-    fn push_list(&mut self, graph: &Graph, v: u32) -> bool
-        requires { v < length graph.now.vertices }
-        ensures starts { self.new.starts.items ≡ self.old.starts.items }
-        ensures tips { OnTrue result (self.new.tips.items
-            ≡ self.old.tips.items ++ map (λ l. l.tip) (chain_of graph.now v)) }
-        ensures lengths { OnTrue result (self.new.lengths.items
-            ≡ self.old.lengths.items ++ map (λ l. l.len) (chain_of graph.now v)) }
-    {
-        for link in graph.arcs(v) {
-            if self.is_full() {
-                return false;
-            }
-            self.tips.push_reserved(link.tip);
-            self.lengths.push_reserved(link.len);
-        }
-        true
-    }
-
-    // Whether there is no room for an arc more.
-    fn is_full(&self) -> bool
-        ensures tips { OnFalse result (vec_len self.now.tips < vec_capacity self.now.tips) }
-        ensures lengths { OnFalse result
-            (vec_len self.now.lengths < vec_capacity self.now.lengths) }
-    {
-        self.tips.len() >= self.tips.capacity() || self.lengths.len() >= self.lengths.capacity()
-    }
 }

@@ -1,9 +1,8 @@
 //! Lists of arcs as arrays: compressed sparse rows.
-ghost use Rattle.std.specs.Prelude.{◌≡◌, ◌++◌, ◌∷◌, ◌<◌, ◌≤◌, ◌+◌, ◌-◌, [], length, map, pos, slice_index, IfErr, IfOk, IsOkUnless, OnOk};
+ghost use Rattle.std.specs.Prelude.{◌≡◌, ◌++◌, ◌∷◌, [], length, pos, IfErr, IfOk, IsOkUnless, OnOk};
 ghost use Rattle.std.specs.Bool.{OnTrue, OnFalse};
 ghost use Rattle.sgb_vec.specs.declared.panics.Panic.TheVariants as Panic;
 ghost use Rattle.sgb_arrays.specs.Copies.{HaveLengthsOfRows, HaveLengthsOfTips};
-ghost use Rattle.sgb_arrays.specs.inner.Cuts.{arcs_cut, starts_cut, values_cut};
 ghost use Rattle.sgb_arrays.specs.declared.refusals.Wrong.TheVariants as wrong;
 
 use crate::refusals::Wrong;
@@ -120,62 +119,5 @@ impl Rows {
         starts.len() == self.starts.len()
             && tips.len() == self.tips.len()
             && lengths.len() == self.lengths.len()
-    }
-
-    // How many arcs are on the lists of a run of its vertices.
-    pub(crate) fn arcs_in(&self, first: u32, count: u32) -> u64
-        requires { first + count < length self.now.starts.items }
-        ensures { result ≡ arcs_cut self.now.starts.items first count }
-    {
-        let starts = self.starts.as_slice();
-        starts[first as usize + count as usize].saturating_sub(starts[first as usize])
-    }
-
-    // Puts where the lists of a run of its vertices start, counted from the first of them, and where their arcs lead, into
-    // arrays of the right lengths.
-    pub(crate) fn put_cut_tips(&self, first: u32, count: u32, starts: &mut [u64], tips: &mut [u32])
-        requires there { first + count < length self.now.starts.items }
-        requires rising { slice_index self.now.starts.items first
-            ≤ slice_index self.now.starts.items (first + count) }
-        requires within { slice_index self.now.starts.items (first + count)
-            ≤ length self.now.tips.items }
-        requires starts { length starts.old ≡ count + 1 }
-        requires tips { length tips.old ≡ arcs_cut self.now.starts.items first count }
-        ensures starts { starts.new ≡ starts_cut self.now.starts.items first count }
-        ensures tips { tips.new
-            ≡ values_cut self.now.tips.items self.now.starts.items first count }
-    {
-        let begin = first as usize;
-        let end = begin + count as usize;
-        let own = self.starts.as_slice();
-        put_starts(starts, &own[begin..end + 1], own[begin]);
-        tips.copy_from_slice(&self.tips.as_slice()[own[begin] as usize..own[end] as usize]);
-    }
-
-    // Puts the lengths of the arcs of a run of its vertices into an array of the right length.
-    pub(crate) fn put_cut_lengths(&self, first: u32, count: u32, lengths: &mut [i64])
-        requires there { first + count < length self.now.starts.items }
-        requires rising { slice_index self.now.starts.items first
-            ≤ slice_index self.now.starts.items (first + count) }
-        requires within { slice_index self.now.starts.items (first + count)
-            ≤ length self.now.lengths.items }
-        requires lengths { length lengths.old ≡ arcs_cut self.now.starts.items first count }
-        ensures { lengths.new
-            ≡ values_cut self.now.lengths.items self.now.starts.items first count }
-    {
-        let begin = first as usize;
-        let end = begin + count as usize;
-        let own = self.starts.as_slice();
-        lengths.copy_from_slice(&self.lengths.as_slice()[own[begin] as usize..own[end] as usize]);
-    }
-}
-
-// Puts starts, counted from this one, into an array of their length.
-fn put_starts(starts: &mut [u64], own: &[u64], from: u64)
-    requires { length starts.old ≡ length own.now }
-    ensures { starts.new ≡ map (λ start. start - from) own.now }
-{
-    for k in 0..own.len() {
-        starts[k] = own[k].saturating_sub(from);
     }
 }

@@ -3,6 +3,7 @@ use Rattle.std.proofs.lemmas.List.{length-map}
 use Rattle.sgb_graph.specs.Graphs.{chain_of}
 use Rattle.sgb_graph.specs.declared.fields.Link.{Link}
 use Rattle.sgb_arrays.specs.Runs.{parts_of}
+use Rattle.sgb_arrays.specs.inner.Packed.{lengths_kept}
 use Rattle.sgb_arrays.proofs.CutRuns.{cut_rises, cut_size, cut_starts, cut_there, cut_values, cut_within}
 use Rattle.sgb_arrays.proofs.packed.copy_rows.Goals as goal
 
@@ -84,6 +85,6 @@ returns-clause-filled c =
       record {
         starts_are = c.put_cut_tips.ensures.starts ∙ cut_starts (chain_of g) n first count c.args.rows.now.starts.items there c.requires.starts_are;
         tips_are = c.put_cut_tips.ensures.tips ∙ cut_values (chain_of g) n first count c.args.rows.now.starts.items there c.requires.starts_are (λ (l : Link). l.tip) c.args.rows.now.tips.items c.requires.tips_are;
-        lengths_are = c.put_cut_lengths.ensures ∙ cut_values (chain_of g) n first count c.args.rows.now.starts.items there c.requires.starts_are (λ (l : Link). l.len) c.args.rows.now.lengths.items c.requires.lengths_are;
+        lengths_are = c.put_cut_lengths.ensures ∙ cut_values (chain_of g) n first count c.args.rows.now.starts.items there c.requires.starts_are (λ (l : Link). l.len) (lengths_kept c.args.rows.now.lengths) c.requires.lengths_are;
       },
     )

@@ -3,6 +3,7 @@ use Rattle.std.proofs.lemmas.List.{length-map}
 use Rattle.sgb_graph.specs.Graphs.{chain_of}
 use Rattle.sgb_graph.specs.declared.fields.Link.{Link}
 use Rattle.sgb_arrays.specs.Runs.{part_starts, parts_of}
+use Rattle.sgb_arrays.specs.inner.Packed.{lengths_kept}
 use Rattle.sgb_arrays.proofs.RunSteps.{start_more, values_more}
 use Rattle.sgb_arrays.proofs.packed.packed_rows.Goals as goal
 
@@ -14,14 +15,14 @@ pub loop-v-preserved : goal.loop-v-preserved
 loop-v-preserved c =
     let g = c.args.graph.now in
     let v = c.loop-v.v in
-    let put = c.push_list.ensures in
+    let put = c.in_ok-push_list.ensures in
     let ended = c.in_ok-push_start.ensures in
     let place : v ≡ 0 + v = omega arith in
     let so_far = c.loop-v.invariant in
     let tips = values_more (λ (r : Link). r.tip) (chain_of g) 0 v c.loop-v.rows.tips.items _ c.push_list.new.self.tips.items so_far.tips (ap (λ u. map (λ (r : Link). r.tip) (chain_of g u)) place)
-    (rw c.if-not-push_list.false at put.tips) in
-    let lengths = values_more (λ (r : Link). r.len) (chain_of g) 0 v c.loop-v.rows.lengths.items _ c.push_list.new.self.lengths.items so_far.lengths (ap (λ u. map (λ (r : Link). r.len) (chain_of g u)) place)
-    (rw c.if-not-push_list.false at put.lengths) in
+    (rw c.if-not-branch.false at put.tips) in
+    let lengths = values_more (λ (r : Link). r.len) (chain_of g) 0 v (lengths_kept c.loop-v.rows.lengths) _ (lengths_kept c.push_list.new.self.lengths) so_far.lengths (ap (λ u. map (λ (r : Link). r.len) (chain_of g u)) place)
+    (rw c.if-not-branch.false at put.lengths) in
     let size = ap length tips ∙ length-map (parts_of (chain_of g) 0 (v + 1)) (λ (r : Link). r.tip) in
     record {
       starts = start_more (chain_of g) 0 v c.loop-v.rows.starts.items c.push_start.new.self.starts.items (length c.push_list.new.self.tips.items) so_far.starts size

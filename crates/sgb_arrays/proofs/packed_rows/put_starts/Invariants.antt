@@ -1,5 +1,5 @@
 use Rattle.std.proofs.Common.{◌≡◌, ◌-◌, take, map, length}
-use Rattle.sgb_arrays.proofs.rows.put_starts.Given as goal
+use Rattle.sgb_arrays.proofs.packed_rows.put_starts.Given as goal
 
 -- the starts before this place stand
 abbrev pub invariant-loop-k : goal.invariant-loop-k
