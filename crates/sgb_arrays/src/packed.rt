@@ -4,8 +4,7 @@
 //! opening longer by what it spares the first fetch, and who fetches twice walks once. In a file vertices may share
 //! records, so that a few stand on lists with any number of arcs. Then the arrays are not kept, so that a small file
 //! cannot take much memory, but how long each list is: only who asks for arrays walks the lists.
-ghost use Rattle.std.specs.Prelude.{◌≡◌, ◌++◌, ◌<◌, length, map, vec_capacity, vec_len, OnOk, IfErr, IfOk, IfSome, IsOkUnless};
-ghost use Rattle.std.specs.Bool.{OnFalse, OnTrue};
+ghost use Rattle.std.specs.Prelude.{◌≡◌, length, OnOk, IfErr, IfOk, IfSome, IsOkUnless};
 ghost use Rattle.sgb_graph.specs.Graphs.{chain_of};
 ghost use Rattle.sgb_arrays.specs.Runs.{AreRows, AreTips, HaveRowLengths, HaveTipLengths, IsFillRefusal, IsThere, parts_of};
 ghost use Rattle.sgb_arrays.specs.inner.Packed.{HoldsLists, lengths_kept};

@@ -1,6 +1,6 @@
 //! The lists of all vertices of a graph, one after another, in little memory: as compressed sparse rows whose lengths are
 //! not kept where all arcs have one.
-ghost use Rattle.std.specs.Prelude.{◌≡◌, ◌⊎◌, ◌++◌, ◌∷◌, ◌<◌, ◌≤◌, ◌+◌, ◌-◌, ◌^◌, [], length, map, slice_index, slice_range, IfOk, IsOkUnless, OnErr, OnOk};
+ghost use Rattle.std.specs.Prelude.{◌≡◌, ◌⊎◌, ◌++◌, ◌∷◌, ◌<◌, ◌≤◌, ◌+◌, ◌-◌, ◌^◌, [], length, map, slice_index, slice_range, IfOk, IsOkUnless, OnOk};
 ghost use Rattle.std.specs.Bool.{OnTrue};
 ghost use Rattle.sgb_graph.specs.Graphs.{chain_of};
 ghost use Rattle.sgb_arrays.specs.inner.Cuts.{arcs_cut, starts_cut, values_cut};
