@@ -1,8 +1,9 @@
-//! Where the arc records of a graph lead, in little memory: 16 bytes for each where all have one length, and 24 for each
-//! from the first on that has another.
-ghost use Rattle.std.specs.Prelude.{◌≡◌, ◌<◌, ◌+◌, ◌++◌, ◌^◌, ℤ, [], ◌∷◌, length, map, slice_get, None, Ok, Some, IfOk, IfSome, OnOk, OnErr};
+//! Where the arc records of a graph lead, in little memory: 8 bytes for each where all have one length and lead to vertices,
+//! and there are fewer than 2^32 of them; 24 for each from the first on that does not fit these.
+ghost use Rattle.std.specs.Prelude.{◌≡◌, ◌<◌, ◌+◌, ◌%◌, ◌++◌, ◌^◌, ℤ, Bool, [], ◌∷◌, length, map, slice_get, None, Ok, Some, IfOk, IfSome, OnOk, OnErr};
 ghost use Rattle.std.specs.List.{list_all};
-ghost use Rattle.sgb_graph.specs.inner.KeptRecords.{TakesLength, kept_number, lead_fits, plain_fits, plain_records, with_length};
+ghost use Rattle.std.specs.Bool.{OnTrue};
+ghost use Rattle.sgb_graph.specs.inner.KeptRecords.{TakesLength, kept_number, lead_fits, lead_of, plain_fits, plain_records, wide, with_length};
 
 use crate::fields::Ref;
 use crate::kept_numbers::{keep_number, read_number};
@@ -17,16 +18,16 @@ pub(crate) struct PlainRecord {
     pub(crate) tip: Ref,
 }
 
-// Where a record leads, and the number of the next one.
+// The vertex where a record leads, and the number of the next one, where 32 bits keep both.
 #[derive(Clone, Copy)]
 pub(crate) struct Lead {
-    next: usize,
-    tip: Ref,
+    next: u32,
+    tip: u32,
 }
 
 const _: () = prove!(size_of::<PlainRecord>() == 24);
 
-const _: () = prove!(size_of::<Lead>() == 16);
+const _: () = prove!(size_of::<Lead>() == 8);
 
 // Where records lead, one after another: those of one length without it, others each with its own.
 pub(crate) enum Leads {
@@ -59,15 +60,29 @@ impl PlainRecord {
         }
     }
 
-    // The record without its length.
+    // The record without its length, in 32 bits each.
     #[inline(always)]
     fn lead(self) -> Lead
-        ensures next { result.next ≡ self.next }
-        ensures tip { result.tip ≡ self.tip }
+        ensures { result ≡ lead_of self }
     {
+        let tip = match self.tip {
+            Ref::At(v) => v,
+            _ => 0,
+        };
         Lead {
-            next: self.next,
-            tip: self.tip,
+            next: narrow(self.next),
+            tip,
+        }
+    }
+
+    // Whether nothing but its length is lost so.
+    #[inline(always)]
+    fn is_short(self) -> bool
+        ensures { OnTrue result (with_length self.len (lead_of self) ≡ self) }
+    {
+        match self.tip {
+            Ref::At(_) => wide(narrow(self.next)) == self.next,
+            _ => false,
         }
     }
 
@@ -75,7 +90,7 @@ impl PlainRecord {
     fn fits(&self, n: usize, m: usize) -> bool
         ensures { result ≡ plain_fits n m self.now }
     {
-        self.lead().fits(n, m)
+        ref_fits(n, self.tip) && chain_fits(m, read_number(self.next))
     }
 }
 
@@ -87,17 +102,36 @@ impl Lead {
     {
         PlainRecord {
             len,
-            next: self.next,
-            tip: self.tip,
+            next: wide(self.next),
+            tip: Ref::At(self.tip),
         }
     }
 
-    // Whether the record leads to one of n vertices, or none, before one of m records, or none.
+    // Whether the record leads to one of n vertices before one of m records, or none.
     fn fits(&self, n: usize, m: usize) -> bool
         ensures { result ≡ lead_fits n m self.now }
     {
-        ref_fits(n, self.tip) && chain_fits(m, read_number(self.next))
+        ref_fits(n, Ref::At(self.tip)) && chain_fits(m, read_number(wide(self.next)))
     }
+}
+
+// The last 32 bits of a word.
+#[inline(always)]
+fn narrow(word: usize) -> u32
+    ensures { result ≡ word % 2 ^ 32 }
+{
+    (word % (1 << 32)) as u32
+}
+
+// The word that keeps the number which these 32 bits keep: the greatest of them stands for none too.
+#[inline(always)]
+fn wide(short: u32) -> usize
+    ensures { result ≡ wide short }
+{
+    if short == u32::MAX {
+        return usize::MAX;
+    }
+    short as usize
 }
 
 impl Leads {
@@ -158,7 +192,7 @@ impl Leads {
         ensures ok { OnOk result (plain_records self.new ≡ plain_records self.old ++ last ∷ []) }
         ensures err { OnErr result (plain_records self.new ≡ plain_records self.old) }
     {
-        self.take_length(last.len)?;
+        self.take_length(last.len, last.is_short())?;
         match self {
             Leads::Same(_, leads) => {
                 leads.reserve(1)?;
@@ -184,7 +218,7 @@ impl Leads {
             ≡ plain_records self.old ++ first ∷ second ∷ []) }
         ensures err { OnErr result (plain_records self.new ≡ plain_records self.old) }
     {
-        self.take_length(first.len)?;
+        self.take_length(first.len, first.is_short() && second.is_short())?;
         match self {
             Leads::Same(_, leads) => {
                 leads.reserve(2)?;
@@ -200,25 +234,26 @@ impl Leads {
         Ok(())
     }
 
-    // Makes it such that a record of this length can be put: where others have another length, each gets its own.
+    // Makes it such that a record of this length can be put, or only one that is `short`: where others have another length, or
+    // it may not be short, each gets its own.
     #[inline(always)]
-    fn take_length(&mut self, len: i64) -> Result<(), AllocError>
+    fn take_length(&mut self, len: i64, short: bool) -> Result<(), AllocError>
         ensures records { plain_records self.new ≡ plain_records self.old }
-        ensures ready { OnOk result (TakesLength len self.new) }
+        ensures ready { OnOk result (TakesLength len short self.new) }
     {
         match self {
-            Leads::Same(own, _) if *own != len => self.take_other_length(len),
+            Leads::Same(own, _) if *own != len || !short => self.take_other_length(len, short),
             _ => Ok(()),
         }
     }
 
-    // So where they have one length, and it is another.
+    // So where they have one length, and it is another, or the record is not short.
     #[inline(never)]
-    fn take_other_length(&mut self, len: i64) -> Result<(), AllocError>
+    fn take_other_length(&mut self, len: i64, short: bool) -> Result<(), AllocError>
         ensures records { plain_records self.new ≡ plain_records self.old }
-        ensures ready { OnOk result (TakesLength len self.new) }
+        ensures ready { OnOk result (TakesLength len short self.new) }
     {
-        if self.len() == 0 {
+        if short && self.len() == 0 {
             if let Leads::Same(own, _) = self {
                 *own = len;
             }
@@ -234,7 +269,7 @@ impl Leads {
     fn apart(&self) -> Result<Option<Vec<PlainRecord>>, AllocError>
         ensures some { IfOk result (λ apart. IfSome apart
             (λ records. records.items ≡ plain_records self.now)) }
-        ensures none { (len : ℤ) → result ≡ Ok None → TakesLength len self.now }
+        ensures none { (len : ℤ) (short : Bool) → result ≡ Ok None → TakesLength len short self.now }
     {
         match self {
             Leads::Same(len, leads) => Ok(Some(records_of(*len, leads)?)),

@@ -17,14 +17,16 @@ pub(super) fn begin_arc<const N: usize>(line: &mut Filled<N>)
 }
 
 /// Ends the line of an arc: what stands after that name.
+#[inline(always)]
 pub(super) fn end_arc<const N: usize>(line: &mut Filled<N>, len: i64)
     requires { length line.old + 50 ≤ N }
     ensures { line.new ≡ line.old
         ++ (codes ", length " ++ (signed_decimal len ++ codes "\n")) }
 {
-    line.push_text(b", length ");
-    push_length(line, len);
-    line.push_text(b"\n");
+    match u32::try_from(len) {
+        Ok(count) => end_counted_arc(line, count),
+        Err(_) => end_other_arc(line, len),
+    }
 }
 
 /// Ends the line of an arc of a length that no file brought.
@@ -64,14 +66,14 @@ fn end_long_arc<const N: usize>(line: &mut Filled<N>, len: u32)
     line.push_text(b"\n");
 }
 
-// Appends the length of an arc in decimal.
-fn push_length<const N: usize>(line: &mut Filled<N>, len: i64)
-    requires { length line.old + 40 ≤ N }
-    ensures text { line.new ≡ line.old ++ signed_decimal len }
-    ensures short { length line.new ≤ length line.old + 40 }
+// Ends the line of an arc whose length is below 0 or above 32 bits.
+#[inline(never)]
+fn end_other_arc<const N: usize>(line: &mut Filled<N>, len: i64)
+    requires { length line.old + 50 ≤ N }
+    ensures { line.new ≡ line.old
+        ++ (codes ", length " ++ (signed_decimal len ++ codes "\n")) }
 {
-    match u32::try_from(len) {
-        Ok(count) => line.push_count(count),
-        Err(_) => line.push_number(len),
-    }
+    line.push_text(b", length ");
+    line.push_number(len);
+    line.push_text(b"\n");
 }

@@ -1,10 +1,12 @@
 -- How a graph keeps its arc records: what each one has one after another, and the utility fields beside.
-use Rattle.std.specs.Prelude.{◌≡◌, ◌<◌, ◌&&◌, ℕ, ℤ, Bool, ◌-◌, ◌^◌, ◌==◌, List, [], ◌∷◌, length, map, Option, Some, None, if◌then◌else◌}
+use Rattle.std.specs.Prelude.{◌≡◌, ◌<◌, ◌&&◌, ℕ, ℤ, Bool, true, ◌-◌, ◌^◌, ◌%◌, ◌==◌, List, [], ◌∷◌, length, map, Option, Some, None, if◌then◌else◌}
 use Rattle.sgb_graph.specs.Sound.{chain_fits, ref_fits}
 use Rattle.sgb_graph.specs.inner.Columns.{column_kind, values}
 use Rattle.sgb_graph.specs.declared.columns.Column.{Column}
 use Rattle.sgb_graph.specs.declared.fields.ArcRec.{ArcRec}
 use Rattle.sgb_graph.specs.declared.fields.Kind.{Kind}
+use Rattle.sgb_graph.specs.declared.fields.Ref.{Ref}
+use Rattle.sgb_graph.specs.declared.fields.Ref.TheVariants.{At}
 use Rattle.sgb_graph.specs.declared.fields.Util.{Util}
 use Rattle.sgb_graph.specs.declared.leads.PlainRecord.{PlainRecord}
 use Rattle.sgb_graph.specs.declared.leads.Lead.{Lead}
@@ -17,19 +19,32 @@ pub record KeptRecords : Type 0 where
   pub b : Kind
   pub items : List ArcRec
 
+-- the number that 32 bits keep, in a word: the greatest stands for none in both
+abbrev pub wide : ℕ → ℕ
+wide short = if short == 2 ^ 32 - 1 then 2 ^ 64 - 1 else short
+
+-- the number of a vertex, or 0 for what is none
+abbrev pub vertex_or_0 : Ref → ℕ
+vertex_or_0 (At v) = v
+vertex_or_0 _ = 0
+
+-- where a record leads, in 32 bits each
+abbrev pub lead_of : PlainRecord → Lead
+lead_of p = record { next = p.next % 2 ^ 32; tip = vertex_or_0 p.tip }
+
 -- a record that leads so, with this length
 abbrev pub with_length : ℤ → Lead → PlainRecord
-with_length len lead = record { len = len; next = lead.next; tip = lead.tip }
+with_length len lead = record { len = len; next = wide lead.next; tip = At lead.tip }
 
 -- the records of which these tell where they lead
 abbrev pub plain_records : Leads → List PlainRecord
 plain_records (Same len leads) = map (with_length len) leads.items
 plain_records (Each records) = records.items
 
--- a record of this length can be put
-abbrev pub TakesLength : ℤ → Leads → Type 0
-TakesLength len (Same own leads) = own ≡ len
-TakesLength len (Each records) = 0 < 1
+-- a record of this length can be put, or only one that is short
+abbrev pub TakesLength : ℤ → Bool → Leads → Type 0
+TakesLength len short (Same own leads) = (own ≡ len) × (short ≡ true)
+TakesLength len short (Each records) = 0 < 1
 
 -- the record of this number, where the greatest one stands for none
 abbrev pub kept_number : ℕ → Option ℕ
@@ -55,4 +70,4 @@ plain_fits n m p = ref_fits n p.tip && chain_fits m (kept_number p.next)
 
 -- so where its length stands elsewhere
 abbrev pub lead_fits : ℕ → ℕ → Lead → Bool
-lead_fits n m lead = ref_fits n lead.tip && chain_fits m (kept_number lead.next)
+lead_fits n m lead = ref_fits n (At lead.tip) && chain_fits m (kept_number (wide lead.next))
