@@ -1,5 +1,5 @@
 -- How a graph keeps its arc records: what each one has one after another, and the utility fields beside.
-use Rattle.std.specs.Prelude.{◌≡◌, ◌<◌, ◌&&◌, ℕ, ℤ, Bool, true, ◌-◌, ◌^◌, ◌%◌, ◌==◌, List, [], ◌∷◌, length, map, Option, Some, None, if◌then◌else◌}
+use Rattle.std.specs.Prelude.{◌≡◌, ◌<◌, ◌&&◌, ℕ, ℤ, Bool, true, ◌-◌, ◌^◌, ◌%◌, ◌==◌, List, [], ◌∷◌, length, map, nat_abs, Option, Some, None, if◌then◌else◌}
 use Rattle.sgb_graph.specs.Sound.{chain_fits, ref_fits}
 use Rattle.sgb_graph.specs.inner.Columns.{column_kind, values}
 use Rattle.sgb_graph.specs.declared.columns.Column.{Column}
@@ -10,8 +10,9 @@ use Rattle.sgb_graph.specs.declared.fields.Ref.TheVariants.{At}
 use Rattle.sgb_graph.specs.declared.fields.Util.{Util}
 use Rattle.sgb_graph.specs.declared.leads.PlainRecord.{PlainRecord}
 use Rattle.sgb_graph.specs.declared.leads.Lead.{Lead}
+use Rattle.sgb_graph.specs.declared.leads.NearRecord.{NearRecord}
 use Rattle.sgb_graph.specs.declared.leads.Leads.{Leads}
-use Rattle.sgb_graph.specs.declared.leads.Leads.TheVariants.{Same, Each}
+use Rattle.sgb_graph.specs.declared.leads.Leads.TheVariants.{Same, Near, Each}
 
 -- the arc records of a graph, and what their utility fields a and b hold
 pub record KeptRecords : Type 0 where
@@ -36,14 +37,20 @@ lead_of p = record { next = p.next % 2 ^ 32; tip = vertex_or_0 p.tip }
 abbrev pub with_length : ℤ → Lead → PlainRecord
 with_length len lead = record { len = len; next = wide lead.next; tip = At lead.tip }
 
+-- so with its own length
+abbrev pub with_own_length : NearRecord → PlainRecord
+with_own_length near = with_length near.len near.lead
+
 -- the records of which these tell where they lead
 abbrev pub plain_records : Leads → List PlainRecord
 plain_records (Same len leads) = map (with_length len) leads.items
+plain_records (Near records) = map with_own_length records.items
 plain_records (Each records) = records.items
 
 -- a record of this length can be put, or only one that is short
 abbrev pub TakesLength : ℤ → Bool → Leads → Type 0
 TakesLength len short (Same own leads) = (own ≡ len) × (short ≡ true)
+TakesLength len short (Near records) = (nat_abs len < 2 ^ 31) × (short ≡ true)
 TakesLength len short (Each records) = 0 < 1
 
 -- the record of this number, where the greatest one stands for none
@@ -71,3 +78,7 @@ plain_fits n m p = ref_fits n p.tip && chain_fits m (kept_number p.next)
 -- so where its length stands elsewhere
 abbrev pub lead_fits : ℕ → ℕ → Lead → Bool
 lead_fits n m lead = ref_fits n (At lead.tip) && chain_fits m (kept_number (wide lead.next))
+
+-- so with its own length beside
+abbrev pub near_fits : ℕ → ℕ → NearRecord → Bool
+near_fits n m near = lead_fits n m near.lead
