@@ -1,10 +1,9 @@
-//! Where the arc records of a graph lead, in little memory. Where all lead to vertices, and there are fewer than 2^32 of them,
-//! each takes 8 bytes while all have one length, and 12 from the first other length on; 24 bytes from the first on that does not
-//! fit these.
-ghost use Rattle.std.specs.Prelude.{◌≡◌, ◌<◌, ◌+◌, ◌%◌, ◌++◌, ◌^◌, ℤ, Bool, true, [], ◌∷◌, length, map, nat_abs, slice_get, None, Ok, Some, IfOk, IfSome, OnOk, OnErr};
+//! Where the arc records of a graph lead, and their lengths, in little memory: 12 bytes for each where all lead to vertices,
+//! and 32 bits keep all numbers and lengths; else 24 for each.
+ghost use Rattle.std.specs.Prelude.{◌≡◌, ◌<◌, ◌+◌, ◌%◌, ◌++◌, ◌^◌, Bool, [], ◌∷◌, length, map, nat_abs, slice_get, None, Ok, Some, IfOk, IfSome, OnOk, OnErr};
 ghost use Rattle.std.specs.List.{list_all};
 ghost use Rattle.std.specs.Bool.{OnTrue};
-ghost use Rattle.sgb_graph.specs.inner.KeptRecords.{TakesLength, kept_number, lead_fits, lead_of, near_fits, plain_fits, plain_records, wide, with_length, with_own_length};
+ghost use Rattle.sgb_graph.specs.inner.KeptRecords.{TakesRecords, kept_number, plain_fits, plain_of, plain_records, short_fits, short_of, wide};
 
 use crate::fields::Ref;
 use crate::kept_numbers::{keep_number, read_number};
@@ -19,40 +18,30 @@ pub(crate) struct PlainRecord {
     pub(crate) tip: Ref,
 }
 
-// The vertex where a record leads, and the number of the next one, where 32 bits keep both.
+// The same of one that leads to a vertex, in 32 bits each.
 #[derive(Clone, Copy)]
-pub(crate) struct Lead {
+pub(crate) struct ShortRecord {
+    len: i32,
     next: u32,
     tip: u32,
 }
 
-// The same, and its length, where 32 bits keep that too.
-#[derive(Clone, Copy)]
-pub(crate) struct NearRecord {
-    lead: Lead,
-    len: i32,
-}
-
 const _: () = prove!(size_of::<PlainRecord>() == 24);
 
-const _: () = prove!(size_of::<NearRecord>() == 12);
+const _: () = prove!(size_of::<ShortRecord>() == 12);
 
-const _: () = prove!(size_of::<Lead>() == 8);
-
-// Where records lead, one after another: those of one length without it, others each with its own.
+// Where records lead, one after another: all in 32 bits each, or none.
 pub(crate) enum Leads {
-    Same(i64, Vec<Lead>),
-    Near(Vec<NearRecord>),
-    Each(Vec<PlainRecord>),
+    Short(Vec<ShortRecord>),
+    Plain(Vec<PlainRecord>),
 }
 
 // One function drops them. A derived drop would be a case for each wherever records are dropped.
 impl Drop for Leads {
     fn drop(self) {
         match self {
-            Leads::Same(_, _) => {}
-            Leads::Near(_) => {}
-            Leads::Each(_) => {}
+            Leads::Short(_) => {}
+            Leads::Plain(_) => {}
         }
     }
 }
@@ -72,40 +61,33 @@ impl PlainRecord {
         }
     }
 
-    // The record without its length, in 32 bits each.
+    // The record in 32 bits each.
     #[inline(always)]
-    fn lead(self) -> Lead
-        ensures { result ≡ lead_of self }
+    fn short(self) -> ShortRecord
+        requires { nat_abs self.len < 2 ^ 31 }
+        ensures { result ≡ short_of self }
     {
         let tip = match self.tip {
             Ref::At(v) => v,
             _ => 0,
         };
-        Lead {
+        ShortRecord {
+            len: self.len as i32,
             next: narrow(self.next),
             tip,
         }
     }
 
-    // The record in 32 bits each, with its length.
-    #[inline(always)]
-    fn near(self) -> NearRecord
-        requires { nat_abs self.len < 2 ^ 31 }
-        ensures { result ≡ record { lead = lead_of self; len = self.len } }
-    {
-        NearRecord {
-            lead: self.lead(),
-            len: self.len as i32,
-        }
-    }
-
-    // Whether nothing but its length is lost so.
+    // Whether nothing is lost so.
     #[inline(always)]
     fn is_short(self) -> bool
-        ensures { OnTrue result (with_length self.len (lead_of self) ≡ self) }
+        ensures len { OnTrue result (nat_abs self.len < 2 ^ 31) }
+        ensures kept { OnTrue result (plain_of (short_of self) ≡ self) }
     {
         match self.tip {
-            Ref::At(_) => wide(narrow(self.next)) == self.next,
+            Ref::At(_) => {
+                self.len.unsigned_abs() < 1 << 31 && wide(narrow(self.next)) == self.next
+            }
             _ => false,
         }
     }
@@ -118,50 +100,25 @@ impl PlainRecord {
     }
 }
 
-impl Lead {
-    // The record with this length.
+impl ShortRecord {
+    // The record as others are kept.
     #[inline(always)]
-    fn with_length(self, len: i64) -> PlainRecord
-        ensures { result ≡ with_length len self }
+    fn plain(self) -> PlainRecord
+        ensures { result ≡ plain_of self }
     {
         PlainRecord {
-            len,
+            len: i64::from(self.len),
             next: wide(self.next),
             tip: Ref::At(self.tip),
         }
     }
 
-    // Whether the record leads to one of n vertices before one of m records, or none.
+    // Whether the record leads to one of n vertices, before one of m records, or none.
     fn fits(&self, n: usize, m: usize) -> bool
-        ensures { result ≡ lead_fits n m self.now }
+        ensures { result ≡ short_fits n m self.now }
     {
         ref_fits(n, Ref::At(self.tip)) && chain_fits(m, read_number(wide(self.next)))
     }
-}
-
-impl NearRecord {
-    // The record as others are kept.
-    #[inline(always)]
-    fn record(self) -> PlainRecord
-        ensures { result ≡ with_own_length self }
-    {
-        self.lead.with_length(i64::from(self.len))
-    }
-
-    // Whether the record leads to one of n vertices before one of m records, or none.
-    fn fits(&self, n: usize, m: usize) -> bool
-        ensures { result ≡ near_fits n m self.now }
-    {
-        self.lead.fits(n, m)
-    }
-}
-
-// Whether 32 bits keep this length.
-#[inline(always)]
-fn is_near(len: i64) -> bool
-    ensures { OnTrue result (nat_abs len < 2 ^ 31) }
-{
-    len.unsigned_abs() < 1 << 31
 }
 
 // The last 32 bits of a word.
@@ -188,7 +145,7 @@ impl Leads {
     pub(crate) fn new(alloc: Global) -> Leads
         ensures { plain_records result ≡ [] }
     {
-        Leads::Same(1, Vec::new(alloc))
+        Leads::Short(Vec::new(alloc))
     }
 
     // The number of records.
@@ -198,9 +155,8 @@ impl Leads {
         ensures small { result < 2 ^ 63 }
     {
         match self {
-            Leads::Same(_, leads) => leads.len(),
-            Leads::Near(records) => records.len(),
-            Leads::Each(records) => records.len(),
+            Leads::Short(records) => records.len(),
+            Leads::Plain(records) => records.len(),
         }
     }
 
@@ -211,9 +167,8 @@ impl Leads {
         ensures { slice_get (plain_records self.now) k ≡ Some result }
     {
         match self {
-            Leads::Same(len, leads) => leads[k].with_length(*len),
-            Leads::Near(records) => records[k].record(),
-            Leads::Each(records) => records[k],
+            Leads::Short(records) => records[k].plain(),
+            Leads::Plain(records) => records[k],
         }
     }
 
@@ -222,9 +177,8 @@ impl Leads {
         ensures { result ≡ list_all (plain_fits n m) (plain_records self.now) }
     {
         match self {
-            Leads::Same(_, leads) => each_lead_fits(leads, n, m),
-            Leads::Near(records) => each_near_fits(records, n, m),
-            Leads::Each(records) => each_fits(records, n, m),
+            Leads::Short(records) => each_short_fits(records, n, m),
+            Leads::Plain(records) => each_fits(records, n, m),
         }
     }
 
@@ -233,9 +187,8 @@ impl Leads {
         ensures { plain_records self.new ≡ plain_records self.old }
     {
         match self {
-            Leads::Same(_, leads) => leads.reserve(count),
-            Leads::Near(records) => records.reserve(count),
-            Leads::Each(records) => records.reserve(count),
+            Leads::Short(records) => records.reserve(count),
+            Leads::Plain(records) => records.reserve(count),
         }
     }
 
@@ -245,17 +198,13 @@ impl Leads {
         ensures ok { OnOk result (plain_records self.new ≡ plain_records self.old ++ last ∷ []) }
         ensures err { OnErr result (plain_records self.new ≡ plain_records self.old) }
     {
-        self.take_length(last.len, last.is_short())?;
+        self.make_ready(last.is_short())?;
         match self {
-            Leads::Same(_, leads) => {
-                leads.reserve(1)?;
-                leads.push_reserved(last.lead());
+            Leads::Short(short) => {
+                short.reserve(1)?;
+                short.push_reserved(last.short());
             }
-            Leads::Near(records) => {
-                records.reserve(1)?;
-                records.push_reserved(last.near());
-            }
-            Leads::Each(records) => {
+            Leads::Plain(records) => {
                 records.reserve(1)?;
                 records.push_reserved(last);
             }
@@ -263,31 +212,25 @@ impl Leads {
         Ok(())
     }
 
-    // Puts two records of one length after the others, or neither.
+    // Puts two records after the others, or neither.
     #[inline(always)]
     pub(crate) fn push_two(
         &mut self,
         first: PlainRecord,
         second: PlainRecord,
     ) -> Result<(), AllocError>
-        requires { first.len ≡ second.len }
         ensures ok { OnOk result (plain_records self.new
             ≡ plain_records self.old ++ first ∷ second ∷ []) }
         ensures err { OnErr result (plain_records self.new ≡ plain_records self.old) }
     {
-        self.take_length(first.len, first.is_short() && second.is_short())?;
+        self.make_ready(first.is_short() && second.is_short())?;
         match self {
-            Leads::Same(_, leads) => {
-                leads.reserve(2)?;
-                leads.push_reserved(first.lead());
-                leads.push_reserved(second.lead());
+            Leads::Short(short) => {
+                short.reserve(2)?;
+                short.push_reserved(first.short());
+                short.push_reserved(second.short());
             }
-            Leads::Near(records) => {
-                records.reserve(2)?;
-                records.push_reserved(first.near());
-                records.push_reserved(second.near());
-            }
-            Leads::Each(records) => {
+            Leads::Plain(records) => {
                 records.reserve(2)?;
                 records.push_reserved(first);
                 records.push_reserved(second);
@@ -296,134 +239,62 @@ impl Leads {
         Ok(())
     }
 
-    // Makes it such that a record of this length can be put, or only one that is `short`: where others have another length, or
-    // it may not be short, each gets its own.
+    // Makes it such that any record can be put, or only one that is `short`.
     #[inline(always)]
-    fn take_length(&mut self, len: i64, short: bool) -> Result<(), AllocError>
+    fn make_ready(&mut self, short: bool) -> Result<(), AllocError>
         ensures records { plain_records self.new ≡ plain_records self.old }
-        ensures ready { OnOk result (TakesLength len short self.new) }
+        ensures ready { OnOk result (TakesRecords short self.new) }
     {
         match self {
-            Leads::Same(own, _) if *own == len && short => Ok(()),
-            Leads::Near(_) if is_near(len) && short => Ok(()),
-            Leads::Each(_) => Ok(()),
-            _ => self.take_other_length(len, short),
+            Leads::Short(_) if !short => self.make_plain(),
+            _ => Ok(()),
         }
     }
 
-    // So where such a record cannot be put.
+    // Makes it such that any record can be put.
     #[inline(never)]
-    fn take_other_length(&mut self, len: i64, short: bool) -> Result<(), AllocError>
+    fn make_plain(&mut self) -> Result<(), AllocError>
         ensures records { plain_records self.new ≡ plain_records self.old }
-        ensures ready { OnOk result (TakesLength len short self.new) }
+        ensures ready { (short : Bool) → OnOk result (TakesRecords short self.new) }
     {
-        if short && self.set_length(len) {
-            return Ok(());
-        }
-        if short && is_near(len) {
-            if let Some(records) = self.near()? {
-                *self = Leads::Near(records);
-                return Ok(());
-            }
-        }
-        if let Some(records) = self.apart()? {
-            *self = Leads::Each(records);
+        if let Some(records) = self.plain()? {
+            *self = Leads::Plain(records);
         }
         Ok(())
     }
 
-    // Makes this the one length of all, where there are no records yet: whether it did so.
-    fn set_length(&mut self, len: i64) -> bool
-        ensures records { plain_records self.new ≡ plain_records self.old }
-        ensures ready { OnTrue result (TakesLength len true self.new) }
-    {
-        if self.len() > 0 {
-            return false;
-        }
-        match self {
-            Leads::Same(own, _) => {
-                *own = len;
-                true
-            }
-            _ => false,
-        }
-    }
-
-    // The records in 32 bits each, with their lengths, where they have one, and it fits.
-    fn near(&self) -> Result<Option<Vec<NearRecord>>, AllocError>
-        ensures { IfOk result (λ near. IfSome near
-            (λ records. map with_own_length records.items ≡ plain_records self.now)) }
-    {
-        match self {
-            Leads::Same(len, leads) if is_near(*len) => Ok(Some(near_of(*len as i32, leads)?)),
-            _ => Ok(None),
-        }
-    }
-
-    // The records, each with its own length, where they do not stand so.
-    fn apart(&self) -> Result<Option<Vec<PlainRecord>>, AllocError>
-        ensures some { IfOk result (λ apart. IfSome apart
+    // The records as others are kept, where they do not stand so.
+    fn plain(&self) -> Result<Option<Vec<PlainRecord>>, AllocError>
+        ensures some { IfOk result (λ plain. IfSome plain
             (λ records. records.items ≡ plain_records self.now)) }
-        ensures none { (len : ℤ) (short : Bool) → result ≡ Ok None
-            → TakesLength len short self.now }
+        ensures none { (short : Bool) → result ≡ Ok None → TakesRecords short self.now }
     {
         match self {
-            Leads::Same(len, leads) => Ok(Some(records_of(*len, leads)?)),
-            Leads::Near(records) => Ok(Some(records_of_near(records)?)),
-            Leads::Each(_) => Ok(None),
+            Leads::Short(records) => Ok(Some(plain_of(records)?)),
+            Leads::Plain(_) => Ok(None),
         }
     }
-}
-
-// The records of which these tell where they lead, with this length, and room for as many as there was.
-fn near_of(len: i32, leads: &Vec<Lead>) -> Result<Vec<NearRecord>, AllocError>
-    ensures { IfOk result (λ records. map with_own_length records.items
-        ≡ map (with_length len) leads.now.items) }
-{
-    let mut records = Vec::with_capacity(*leads.allocator(), leads.capacity())?;
-    for lead in leads {
-        records.push(NearRecord { lead: *lead, len })?;
-    }
-    Ok(records)
 }
 
 // The records as others are kept, and room for as many as there was.
-fn records_of_near(near: &Vec<NearRecord>) -> Result<Vec<PlainRecord>, AllocError>
-    ensures { IfOk result (λ records. records.items ≡ map with_own_length near.now.items) }
+fn plain_of(short: &Vec<ShortRecord>) -> Result<Vec<PlainRecord>, AllocError>
+    ensures { IfOk result (λ records. records.items ≡ map plain_of short.now.items) }
 {
-    let mut records = Vec::with_capacity(*near.allocator(), near.capacity())?;
-    for record in near {
-        records.push(record.record())?;
+    let mut records = Vec::with_capacity(*short.allocator(), short.capacity())?;
+    for record in short {
+        records.push(record.plain())?;
     }
     Ok(records)
 }
 
-// The records with this length, and room for as many as there was.
-fn records_of(len: i64, leads: &Vec<Lead>) -> Result<Vec<PlainRecord>, AllocError>
-    ensures { IfOk result (λ records. records.items ≡ map (with_length len) leads.now.items) }
-{
-    let mut records = Vec::with_capacity(*leads.allocator(), leads.capacity())?;
-    for lead in leads {
-        records.push(lead.with_length(len))?;
-    }
-    Ok(records)
-}
-
-// Whether each record leads to one of n vertices, or none, before one of m records, or none.
-fn each_lead_fits(leads: &[Lead], n: usize, m: usize) -> bool
-    ensures { result ≡ list_all (lead_fits n m) leads.now }
-{
-    leads.iter().all(|lead| lead.fits(n, m))
-}
-
-// Whether each record, with its length in 32 bits, does so.
-fn each_near_fits(records: &[NearRecord], n: usize, m: usize) -> bool
-    ensures { result ≡ list_all (near_fits n m) records.now }
+// Whether each record leads to one of n vertices, before one of m records, or none.
+fn each_short_fits(records: &[ShortRecord], n: usize, m: usize) -> bool
+    ensures { result ≡ list_all (short_fits n m) records.now }
 {
     records.iter().all(|record| record.fits(n, m))
 }
 
-// Whether each record, with its length, does so.
+// Whether each record leads to one of n vertices, or none, before one of m records, or none.
 fn each_fits(records: &[PlainRecord], n: usize, m: usize) -> bool
     ensures { result ≡ list_all (plain_fits n m) records.now }
 {

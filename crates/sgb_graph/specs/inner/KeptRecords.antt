@@ -1,5 +1,5 @@
 -- How a graph keeps its arc records: what each one has one after another, and the utility fields beside.
-use Rattle.std.specs.Prelude.{◌≡◌, ◌<◌, ◌&&◌, ℕ, ℤ, Bool, true, ◌-◌, ◌^◌, ◌%◌, ◌==◌, List, [], ◌∷◌, length, map, nat_abs, Option, Some, None, if◌then◌else◌}
+use Rattle.std.specs.Prelude.{◌≡◌, ◌<◌, ◌&&◌, ℕ, Bool, true, ◌-◌, ◌^◌, ◌%◌, ◌==◌, List, [], ◌∷◌, length, map, Option, Some, None, if◌then◌else◌}
 use Rattle.sgb_graph.specs.Sound.{chain_fits, ref_fits}
 use Rattle.sgb_graph.specs.inner.Columns.{column_kind, values}
 use Rattle.sgb_graph.specs.declared.columns.Column.{Column}
@@ -9,10 +9,9 @@ use Rattle.sgb_graph.specs.declared.fields.Ref.{Ref}
 use Rattle.sgb_graph.specs.declared.fields.Ref.TheVariants.{At}
 use Rattle.sgb_graph.specs.declared.fields.Util.{Util}
 use Rattle.sgb_graph.specs.declared.leads.PlainRecord.{PlainRecord}
-use Rattle.sgb_graph.specs.declared.leads.Lead.{Lead}
-use Rattle.sgb_graph.specs.declared.leads.NearRecord.{NearRecord}
+use Rattle.sgb_graph.specs.declared.leads.ShortRecord.{ShortRecord}
 use Rattle.sgb_graph.specs.declared.leads.Leads.{Leads}
-use Rattle.sgb_graph.specs.declared.leads.Leads.TheVariants.{Same, Near, Each}
+use Rattle.sgb_graph.specs.declared.leads.Leads.TheVariants.{Short, Plain}
 
 -- the arc records of a graph, and what their utility fields a and b hold
 pub record KeptRecords : Type 0 where
@@ -29,29 +28,23 @@ abbrev pub vertex_or_0 : Ref → ℕ
 vertex_or_0 (At v) = v
 vertex_or_0 _ = 0
 
--- where a record leads, in 32 bits each
-abbrev pub lead_of : PlainRecord → Lead
-lead_of p = record { next = p.next % 2 ^ 32; tip = vertex_or_0 p.tip }
+-- a record in 32 bits each
+abbrev pub short_of : PlainRecord → ShortRecord
+short_of p = record { len = p.len; next = p.next % 2 ^ 32; tip = vertex_or_0 p.tip }
 
--- a record that leads so, with this length
-abbrev pub with_length : ℤ → Lead → PlainRecord
-with_length len lead = record { len = len; next = wide lead.next; tip = At lead.tip }
+-- and one that was kept so
+abbrev pub plain_of : ShortRecord → PlainRecord
+plain_of s = record { len = s.len; next = wide s.next; tip = At s.tip }
 
--- so with its own length
-abbrev pub with_own_length : NearRecord → PlainRecord
-with_own_length near = with_length near.len near.lead
-
--- the records of which these tell where they lead
+-- the records that are kept
 abbrev pub plain_records : Leads → List PlainRecord
-plain_records (Same len leads) = map (with_length len) leads.items
-plain_records (Near records) = map with_own_length records.items
-plain_records (Each records) = records.items
+plain_records (Short records) = map plain_of records.items
+plain_records (Plain records) = records.items
 
--- a record of this length can be put, or only one that is short
-abbrev pub TakesLength : ℤ → Bool → Leads → Type 0
-TakesLength len short (Same own leads) = (own ≡ len) × (short ≡ true)
-TakesLength len short (Near records) = (nat_abs len < 2 ^ 31) × (short ≡ true)
-TakesLength len short (Each records) = 0 < 1
+-- any record can be put, or only one that is short
+abbrev pub TakesRecords : Bool → Leads → Type 0
+TakesRecords short (Short records) = short ≡ true
+TakesRecords short (Plain records) = 0 < 1
 
 -- the record of this number, where the greatest one stands for none
 abbrev pub kept_number : ℕ → Option ℕ
@@ -75,10 +68,6 @@ kept_records ps a b = record {
 abbrev pub plain_fits : ℕ → ℕ → PlainRecord → Bool
 plain_fits n m p = ref_fits n p.tip && chain_fits m (kept_number p.next)
 
--- so where its length stands elsewhere
-abbrev pub lead_fits : ℕ → ℕ → Lead → Bool
-lead_fits n m lead = ref_fits n (At lead.tip) && chain_fits m (kept_number (wide lead.next))
-
--- so with its own length beside
-abbrev pub near_fits : ℕ → ℕ → NearRecord → Bool
-near_fits n m near = lead_fits n m near.lead
+-- so of one in 32 bits each
+abbrev pub short_fits : ℕ → ℕ → ShortRecord → Bool
+short_fits n m s = ref_fits n (At s.tip) && chain_fits m (kept_number (wide s.next))

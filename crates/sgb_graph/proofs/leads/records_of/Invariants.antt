@@ -1,7 +1,0 @@
-use Rattle.std.proofs.Common.{◌≡◌, ◌++◌, drop, map}
-use Rattle.sgb_graph.specs.inner.KeptRecords.{with_length}
-use Rattle.sgb_graph.proofs.leads.records_of.Given as goal
-
--- with those that are left, they are all
-abbrev pub invariant-loop-lead : goal.invariant-loop-lead
-invariant-loop-lead l = l.records.items ++ map (with_length l.len) (drop l.lead-index l.leads.items) ≡ map (with_length l.len) l.leads.items
