@@ -1,9 +1,9 @@
 //! Where the arc records of a graph lead, and their lengths, in little memory: 12 bytes for each where all lead to vertices,
 //! and 32 bits keep all numbers and lengths; else 24 for each.
-ghost use Rattle.std.specs.Prelude.{◌≡◌, ◌<◌, ◌+◌, ◌%◌, ◌++◌, ◌^◌, Bool, [], ◌∷◌, length, map, nat_abs, slice_get, None, Ok, Some, IfOk, IfSome, OnOk, OnErr};
+ghost use Rattle.std.specs.Prelude.{◌≡◌, ◌<◌, ◌+◌, ◌%◌, ◌++◌, ◌^◌, [], ◌∷◌, length, map, nat_abs, slice_get, None, Ok, Some, IfOk, IfSome, OnOk, OnErr};
 ghost use Rattle.std.specs.List.{list_all};
 ghost use Rattle.std.specs.Bool.{OnTrue};
-ghost use Rattle.sgb_graph.specs.inner.KeptRecords.{TakesRecords, kept_number, plain_fits, plain_of, plain_records, short_fits, short_of, wide};
+ghost use Rattle.sgb_graph.specs.inner.KeptRecords.{ArePlain, kept_number, plain_fits, plain_of, plain_records, short_fits, short_of, wide};
 
 use crate::fields::Ref;
 use crate::kept_numbers::{keep_number, read_number};
@@ -198,18 +198,14 @@ impl Leads {
         ensures ok { OnOk result (plain_records self.new ≡ plain_records self.old ++ last ∷ []) }
         ensures err { OnErr result (plain_records self.new ≡ plain_records self.old) }
     {
-        self.make_ready(last.is_short())?;
         match self {
-            Leads::Short(short) => {
+            Leads::Short(short) if last.is_short() => {
                 short.reserve(1)?;
                 short.push_reserved(last.short());
+                Ok(())
             }
-            Leads::Plain(records) => {
-                records.reserve(1)?;
-                records.push_reserved(last);
-            }
+            _ => self.push_plain(last),
         }
-        Ok(())
     }
 
     // Puts two records after the others, or neither.
@@ -223,13 +219,44 @@ impl Leads {
             ≡ plain_records self.old ++ first ∷ second ∷ []) }
         ensures err { OnErr result (plain_records self.new ≡ plain_records self.old) }
     {
-        self.make_ready(first.is_short() && second.is_short())?;
         match self {
-            Leads::Short(short) => {
+            Leads::Short(short) if first.is_short() && second.is_short() => {
                 short.reserve(2)?;
                 short.push_reserved(first.short());
                 short.push_reserved(second.short());
+                Ok(())
             }
+            _ => self.push_two_plain(first, second),
+        }
+    }
+
+    // Puts any record after the others.
+    #[inline(never)]
+    fn push_plain(&mut self, last: PlainRecord) -> Result<(), AllocError>
+        ensures ok { OnOk result (plain_records self.new ≡ plain_records self.old ++ last ∷ []) }
+        ensures err { OnErr result (plain_records self.new ≡ plain_records self.old) }
+    {
+        self.make_plain()?;
+        match self {
+            Leads::Short(_) => {}
+            Leads::Plain(records) => {
+                records.reserve(1)?;
+                records.push_reserved(last);
+            }
+        }
+        Ok(())
+    }
+
+    // Puts any two records after the others, or neither.
+    #[inline(never)]
+    fn push_two_plain(&mut self, first: PlainRecord, second: PlainRecord) -> Result<(), AllocError>
+        ensures ok { OnOk result (plain_records self.new
+            ≡ plain_records self.old ++ first ∷ second ∷ []) }
+        ensures err { OnErr result (plain_records self.new ≡ plain_records self.old) }
+    {
+        self.make_plain()?;
+        match self {
+            Leads::Short(_) => {}
             Leads::Plain(records) => {
                 records.reserve(2)?;
                 records.push_reserved(first);
@@ -239,23 +266,10 @@ impl Leads {
         Ok(())
     }
 
-    // Makes it such that any record can be put, or only one that is `short`.
-    #[inline(always)]
-    fn make_ready(&mut self, short: bool) -> Result<(), AllocError>
-        ensures records { plain_records self.new ≡ plain_records self.old }
-        ensures ready { OnOk result (TakesRecords short self.new) }
-    {
-        match self {
-            Leads::Short(_) if !short => self.make_plain(),
-            _ => Ok(()),
-        }
-    }
-
     // Makes it such that any record can be put.
-    #[inline(never)]
     fn make_plain(&mut self) -> Result<(), AllocError>
         ensures records { plain_records self.new ≡ plain_records self.old }
-        ensures ready { (short : Bool) → OnOk result (TakesRecords short self.new) }
+        ensures ready { OnOk result (ArePlain self.new) }
     {
         if let Some(records) = self.plain()? {
             *self = Leads::Plain(records);
@@ -267,7 +281,7 @@ impl Leads {
     fn plain(&self) -> Result<Option<Vec<PlainRecord>>, AllocError>
         ensures some { IfOk result (λ plain. IfSome plain
             (λ records. records.items ≡ plain_records self.now)) }
-        ensures none { (short : Bool) → result ≡ Ok None → TakesRecords short self.now }
+        ensures none { result ≡ Ok None → ArePlain self.now }
     {
         match self {
             Leads::Short(records) => Ok(Some(plain_of(records)?)),

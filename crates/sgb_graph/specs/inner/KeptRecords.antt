@@ -1,5 +1,5 @@
 -- How a graph keeps its arc records: what each one has one after another, and the utility fields beside.
-use Rattle.std.specs.Prelude.{◌≡◌, ◌<◌, ◌&&◌, ℕ, Bool, true, ◌-◌, ◌^◌, ◌%◌, ◌==◌, List, [], ◌∷◌, length, map, Option, Some, None, if◌then◌else◌}
+use Rattle.std.specs.Prelude.{◌<◌, ◌&&◌, ℕ, Bool, ◌-◌, ◌^◌, ◌%◌, ◌==◌, List, [], ◌∷◌, length, map, Option, Some, None, if◌then◌else◌}
 use Rattle.sgb_graph.specs.Sound.{chain_fits, ref_fits}
 use Rattle.sgb_graph.specs.inner.Columns.{column_kind, values}
 use Rattle.sgb_graph.specs.declared.columns.Column.{Column}
@@ -41,10 +41,10 @@ abbrev pub plain_records : Leads → List PlainRecord
 plain_records (Short records) = map plain_of records.items
 plain_records (Plain records) = records.items
 
--- any record can be put, or only one that is short
-abbrev pub TakesRecords : Bool → Leads → Type 0
-TakesRecords short (Short records) = short ≡ true
-TakesRecords short (Plain records) = 0 < 1
+-- they are not kept in 32 bits each
+abbrev pub ArePlain : Leads → Type 0
+ArePlain (Short records) = 1 < 0
+ArePlain (Plain records) = 0 < 1
 
 -- the record of this number, where the greatest one stands for none
 abbrev pub kept_number : ℕ → Option ℕ
