@@ -36,6 +36,6 @@ pub mod Examples
 -- arcs of a board put into arrays by strides
 pub mod StridedPuts
 -- lists that are handed out arc by arc, put into rows
-pub mod CountedRows
+pub mod PlacedRows
 -- lengths of which the first ones are the same
 pub mod PackedLengths

@@ -22,4 +22,4 @@ pub mod CopiedParts
 -- the lists of a board that are had by strides
 pub mod StridedRows
 -- arcs to vectors, put into rows
-pub mod CountedArcs
+pub mod PlacedArcs

@@ -5,8 +5,6 @@
 
 // Copies of graphs.
 mod copies;
-// Arcs to vectors of a sum, put into rows as they are handed out.
-mod counted_arcs;
 // Random numbers in an array.
 mod draws;
 // Utility fields of vertices as arrays.
@@ -37,6 +35,8 @@ mod operands;
 mod packed;
 // The lists of all vertices of a graph, in little memory.
 mod packed_rows;
+// Arcs to vectors that are found at once, put into rows as they are handed out.
+mod placed_arcs;
 // Values put from a place on.
 mod puts;
 // Why an array is not filled.

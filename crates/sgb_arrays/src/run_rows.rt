@@ -13,11 +13,11 @@ ghost use Rattle.sgb_vec.specs.Limits.{most_vertices};
 ghost use Rattle.sgb_gen.specs.Generators.{described};
 ghost use Rattle.sgb_arrays.specs.Runs.{AreRows, IsRunRefusal, IsThere};
 
-use crate::counted_arcs::CountedArcs;
+use crate::placed_arcs::PlacedArcs;
 use crate::refusals::Wrong;
 use crate::rows::Rows;
 use crate::runs::{has_run, vectors_from};
-use sgb_gen::{CountedPlaces, Links, Listed, Local, Strides, Visit, Visitor};
+use sgb_gen::{Links, Listed, Local, Strides, Visit, Visitor};
 use sgb_vec::{Family, Panic};
 use std::alloc::Global;
 
@@ -96,13 +96,13 @@ fn rows_in<'a, L: Listed<'a>>(
 fn put_rows<'a, L: Listed<'a>>(
     alloc: Global,
     listed: &mut L,
-    places: &Option<CountedPlaces<'a>>,
+    places: &Option<L::Places>,
     first: u32,
     count: u32,
     links: &mut Links,
 ) -> Result<Rows, Panic>
     requires there { first + count ≤ length (L.graph listed.old).vectors }
-    requires places { IfSome places.now (λ p. p ≡ (L.graph listed.old).vectors) }
+    requires places { IfSome places.now (λ p. L.Places.vectors p ≡ (L.graph listed.old).vectors) }
     ensures rows { IfOk result (λ rows. AreRows (graph_described (described_by (L.graph
         listed.old))) first count rows.starts.items rows.tips.items rows.lengths.items) }
     ensures memory { IsOkUnless result Panic.NoRoom }
@@ -126,13 +126,13 @@ impl Rows {
     fn push_vertex<'a, L: Listed<'a>>(
         &mut self,
         listed: &mut L,
-        places: &Option<CountedPlaces<'a>>,
+        places: &Option<L::Places>,
         v: u32,
         x: &[u32],
         links: &mut Links,
     ) -> Result<(), Panic>
         requires vertex { slice_get (L.graph listed.old).vectors v ≡ Some x.now }
-        requires places { IfSome places.now (λ p. p ≡ (L.graph listed.old).vectors) }
+        requires places { IfSome places.now (λ p. L.Places.vectors p ≡ (L.graph listed.old).vectors) }
         requires rising { IsRising (L.graph listed.old).vectors }
         requires ends { All (HasEnds (L.graph listed.old).vectors) (L.graph listed.old).moves }
         ensures tips { OnOk result (self.new.tips.items ≡ self.old.tips.items ++ map (λ l. l.tip)
@@ -154,13 +154,13 @@ impl Rows {
     fn push_found<'a, L: Listed<'a>>(
         &mut self,
         listed: &mut L,
-        places: &Option<CountedPlaces<'a>>,
+        places: &Option<L::Places>,
         v: u32,
         x: &[u32],
         links: &mut Links,
     ) -> Result<(), Panic>
         requires vertex { slice_get (L.graph listed.old).vectors v ≡ Some x.now }
-        requires places { IfSome places.now (λ p. p ≡ (L.graph listed.old).vectors) }
+        requires places { IfSome places.now (λ p. L.Places.vectors p ≡ (L.graph listed.old).vectors) }
         requires rising { IsRising (L.graph listed.old).vectors }
         requires ends { All (HasEnds (L.graph listed.old).vectors) (L.graph listed.old).moves }
         ensures tips { OnOk result (self.new.tips.items ≡ self.old.tips.items ++ map (λ l. l.tip)
@@ -173,22 +173,22 @@ impl Rows {
         ensures same { L.graph listed.new ≡ L.graph listed.old }
     {
         match places {
-            Some(places) => self.push_counted(listed, places, v, x, links),
+            Some(places) => self.push_placed(listed, places, v, x, links),
             None => self.push_listed(listed, v, x, links),
         }
     }
 
-    // The same, where the vertices are found by counts: no list is kept.
-    fn push_counted<'a, L: Listed<'a>>(
+    // The same, where the vertices are found at once: the arcs are put as they are handed out.
+    fn push_placed<'a, L: Listed<'a>>(
         &mut self,
         listed: &mut L,
-        places: &CountedPlaces<'a>,
+        places: &L::Places,
         v: u32,
         x: &[u32],
         links: &mut Links,
     ) -> Result<(), Panic>
         requires vertex { slice_get (L.graph listed.old).vectors v ≡ Some x.now }
-        requires places { places.now ≡ (L.graph listed.old).vectors }
+        requires places { L.Places.vectors places.now ≡ (L.graph listed.old).vectors }
         requires rising { IsRising (L.graph listed.old).vectors }
         requires ends { All (HasEnds (L.graph listed.old).vectors) (L.graph listed.old).moves }
         ensures tips { OnOk result (self.new.tips.items ≡ self.old.tips.items ++ map (λ l. l.tip)
@@ -200,7 +200,7 @@ impl Rows {
         ensures memory { IsOkUnless result Panic.NoRoom }
         ensures same { L.graph listed.new ≡ L.graph listed.old }
     {
-        let sink = CountedArcs {
+        let sink = PlacedArcs {
             places,
             width: x.len(),
         };

@@ -40,6 +40,8 @@ mod FlatBoards
 pub mod GivenArcs
 -- how many lengths a piece moves at most
 pub mod MostLengths
+-- how many arcs the edges of a displacement make
+mod BoardListCounts
 -- the moves by a displacement, row by row
 mod RowMoves
 -- how far the coordinates stay that a displacement moves

@@ -1,13 +1,8 @@
 -- Arcs that are kept with their vectors one after another.
-use Rattle.std.proofs.Common.{rules, ◌≡◌, ℕ, zero, suc, ◌+◌, ◌-◌, ◌*◌, ◌<◌, ◌≤◌, pos, List, [], ◌∷◌, ◌++◌, length, get_or, take, drop, Some, refl, ap, ◌∙◌, arith, length-append, length-drop}
-use borrow.Rule.Slice.PartMut.{put_mid}
+use Rattle.std.proofs.Common.{rules, ◌≡◌, ℕ, zero, suc, ◌+◌, ◌*◌, ◌<◌, ◌≤◌, pos, List, [], ◌∷◌, ◌++◌, length, get_or, take, drop, Some, refl, ap, arith, length-append, length-drop}
 use Rattle.std.specs.List.{slice_get}
-use Rattle.std.proofs.Math.Seq.{drop-append_seam, take-append_seam}
-use Rattle.std.proofs.lemmas.List.{append-nil, drop_all, take_all, take-append-le, take_rest, drop-append-le, drop-drop}
-use Rattle.std.proofs.lemmas.List.{with_items_is}
+use Rattle.std.proofs.lemmas.List.{take_all, take-append-le, drop-append-le, drop-drop}
 use Rattle.std.proofs.lemmas.Nat.{mul-le}
-use Rattle.std.specs.Prelude.{Vec}
-use Rattle.std.specs.Vec.{vec_len, with_items}
 use Rattle.sgb_gen.specs.inner.LocalArcs.{arcs_in}
 use Rattle.sgb_gen.specs.inner.LocalSimplexes.{with_arcs}
 use Rattle.sgb_gen.specs.LocalLists.{LinksData}
@@ -38,13 +33,8 @@ arcs_in-push width tips [] tip n long wide = grind (arith, no_entries, take_all)
 arcs_in-push width tips (m ∷ lens) tip n long wide = grind (arith, take-append-le, drop-append-le, length-drop, arcs_in-push width (drop width tips) lens tip n (omega (arith, length-drop width tips)) wide)
 
 -- with one more arc there are still as many entries as arcs times the width
-rows-push : (width n : ℕ) (kept lens tip tips news : List ℕ) → tips ≡ kept ++ tip → news ≡ lens ++ n ∷ [] → length kept ≡ length lens * width → length tip ≡ width → length tips ≡ length news * width
+pub rows-push : (width n : ℕ) (kept lens tip tips news : List ℕ) → tips ≡ kept ++ tip → news ≡ lens ++ n ∷ [] → length kept ≡ length lens * width → length tip ≡ width → length tips ≡ length news * width
 rows-push width n kept lens tip tips news tips_are news_are long wide = search (rules, length-append)
-
--- the last vector of entries that are kept
-pub last_row : (kept x all : List ℕ) (start : ℕ) → all ≡ kept ++ x → start ≡ length kept → take (length all - start) (drop start all) ≡ x
-last_row kept x all start all_is start_is =
-    take_rest all start ∙ ap (drop start) all_is ∙ ap (λ k. drop k (kept ++ x)) start_is ∙ drop-append_seam kept x
 
 -- ---- one arc more
 
@@ -52,11 +42,3 @@ last_row kept x all start all_is start_is =
 pub arc-pushed : (w n : ℕ) (d : LinksData) (kept lens tip tips news : List ℕ) → record { width = w; arcs = arcs_in w kept lens } ≡ d → length kept ≡ length lens * w → length tip ≡ d.width → tips ≡ kept ++ tip → news ≡ lens ++ n ∷ []
     → ◌≡◌ {A = LinksData} (record { width = w; arcs = arcs_in w tips news }) (with_arcs d (record { tip = tip; len = pos n } ∷ []))
 arc-pushed w n d kept lens tip tips news view long wide tips_are news_are = grind (arith, arcs_in-push)
-
--- and where a vector is put there that is then changed in place
-pub arc-moved : {Z : Type 0} (f : List ℕ → List ℕ) (v : Vec ℕ Z) (w n : ℕ) (d : LinksData) (kept lens x all moved news : List ℕ) (start : ℕ) → ((row : List ℕ) → length (f row) ≡ length row)
-    → record { width = w; arcs = arcs_in w kept lens } ≡ d → length kept ≡ length lens * w → length x ≡ d.width
-    → v.items ≡ kept ++ x → all ≡ v.items → vec_len v ≡ length v.items → start ≡ length kept → moved ≡ f (take (length all - start) (drop start all)) → news ≡ lens ++ n ∷ []
-    → (length (with_items v (put_mid start (length all - start) all moved)).items ≡ length news * w)
-    × (◌≡◌ {A = LinksData} (record { width = w; arcs = arcs_in w (with_items v (put_mid start (length all - start) all moved)).items news }) (with_arcs d (record { tip = f x; len = pos n } ∷ [])))
-arc-moved f v w n d kept lens x all moved news start as_long view long wide items_are all_is count start_is moved_is news_are = grind (arith, rows-push, arc-pushed, with_items_is, length-append, take-append_seam, drop_all, length-drop, append-nil, last_row)

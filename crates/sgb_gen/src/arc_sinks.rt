@@ -1,14 +1,8 @@
 //! Arcs that are handed out one by one, so that no list of them is kept.
-ghost use Rattle.std.specs.Prelude.{◌≡◌, ◌<◌, ◌≤◌, ℕ, List, [], ◌∷◌, pos, length, All, OnOk};
-ghost use Rattle.sgb_vec.specs.Lexicographic.{IsBelow};
-ghost use Rattle.sgb_vec.specs.Limits.{most_dimensions};
+ghost use Rattle.std.specs.Prelude.{◌≡◌, ℕ, List, [], ◌∷◌, pos, length, OnOk};
 ghost use Rattle.sgb_gen.specs.ArcSinks.{AreGiven};
 ghost use Rattle.sgb_gen.specs.LocalLists.{LocalArc};
-ghost use Rattle.sgb_gen.specs.Runs.{arc_along};
 ghost use Rattle.sgb_gen.specs.inner.ArcSinks.{AreTakenInTurn};
-
-use crate::moves::put_placed;
-use sgb_vec::Vector;
 
 /// Takes the arcs of a list, one after another: `R` is the room that it keeps, `S` where it puts them.
 pub trait ArcSink<R, S> {
@@ -34,33 +28,6 @@ pub trait ArcSink<R, S> {
         ensures given { AreGiven (took self.now) (cut self.now) room.old out.old
             (record { tip = tip.now; len = pos len } ∷ []) room.new out.new result }
         ensures ready { OnOk result (ready self.now room.new out.new) };
-
-    /// Takes the arc of length `l` from a board's vector by a displacement that moves these coordinates. `there` is room for the
-    /// vector where it leads: what it holds is open.
-    #[inline(always)]
-    fn put_along(
-        &self,
-        sizes: &[u32],
-        wrap: i64,
-        x: &[u32],
-        parts: &[(usize, i32)],
-        l: u32,
-        there: &mut Vector,
-        room: &mut R,
-        out: &mut S,
-    ) -> Result<(), Self::Fault>
-        requires few { length sizes.now ≤ most_dimensions }
-        requires below { IsBelow x.now sizes.now }
-        requires parts { All (λ p. p.0 < length sizes.now) parts.now }
-        requires width { length x.now ≡ width self.now }
-        requires ready { ready self.now room.old out.old }
-        ensures given { AreGiven (took self.now) (cut self.now) room.old out.old
-            (arc_along sizes.now wrap x.now parts.now l ∷ []) room.new out.new result }
-        ensures ready { OnOk result (ready self.now room.new out.new) }
-    {
-        put_placed(sizes, wrap, x, parts, l, there);
-        self.put_arc(there.as_slice(), l, room, out)
-    }
 
     // Arcs are taken in turn.
     ghost laws: { (s : Self) → AreTakenInTurn (took s) (cut s) };

@@ -3,7 +3,7 @@ ghost use Rattle.std.specs.Prelude.{◌≡◌};
 
 use crate::arc_sinks::ArcSink;
 use crate::links::Links;
-use sgb_vec::{Panic, Vector};
+use sgb_vec::Panic;
 
 // Puts arcs to vectors of this width into links, behind the others.
 #[derive(Drop)]
@@ -52,21 +52,5 @@ impl ArcSink<Links, ()> for KeptArcs {
         _out: &mut (),
     ) -> Result<(), Panic> {
         links.push(tip, len)
-    }
-
-    // The coordinates are moved where they are kept.
-    #[inline(always)]
-    fn put_along(
-        &self,
-        sizes: &[u32],
-        wrap: i64,
-        x: &[u32],
-        parts: &[(usize, i32)],
-        l: u32,
-        _there: &mut Vector,
-        links: &mut Links,
-        _out: &mut (),
-    ) -> Result<(), Panic> {
-        links.push_placed(sizes, wrap, x, parts, l)
     }
 }

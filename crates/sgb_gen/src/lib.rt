@@ -35,6 +35,8 @@ mod shorthands;
 mod steps;
 // The names and the coordinates of a family's graph.
 mod vector_graphs;
+// Vectors, each of which is found at once.
+mod vector_places;
 // What is done with a generator's graph, whichever generator it is of.
 mod visits;
 
@@ -54,4 +56,5 @@ pub use listed::Listed;
 pub use locals::{Local, local_of};
 pub use params::{BoardParams, Generator, SimplexParams, SubsetsParams};
 pub use shorthands::{circuit, complete, cycle, disjoint_subsets, empty, petersen, transitive};
+pub use vector_places::VectorPlaces;
 pub use visits::{Visit, Visitor};

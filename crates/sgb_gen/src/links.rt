@@ -7,12 +7,8 @@ ghost use Rattle.std.specs.Prelude.{◌≡◌, ◌<◌, pos, [], ◌∷◌, ◌+
 ghost use Rattle.sgb_gen.specs.ArcSinks.{AreGiven};
 ghost use Rattle.sgb_gen.specs.LocalLists.{LinksData, LocalArc};
 ghost use Rattle.sgb_gen.specs.inner.LocalArcs.{rows_turned};
-ghost use Rattle.sgb_gen.specs.MovedCoordinates.{parts_put};
-ghost use Rattle.sgb_vec.specs.Lexicographic.{IsBelow};
 
 use crate::arc_sinks::ArcSink;
-use crate::moves::put_parts;
-use crate::steps::Part;
 use sgb_vec::Panic;
 use std::alloc::Global;
 use std::marker::Model;
@@ -152,47 +148,8 @@ impl Links {
         ensures memory { IsOkUnless result Panic.NoRoom }
     {
         self.lens.reserve(1)?;
-        self.tips.extend_from_slice(tip)?;
+        push_entries(&mut self.tips, tip)?;
         self.lens.push(len)?;
-        Ok(())
-    }
-
-    // Puts an arc of length `l` behind the others, to the place that far from `x` by a displacement that moves these
-    // coordinates: they are changed where they are kept. An error means out of memory.
-    #[inline(always)]
-    pub(crate) fn push_placed(
-        &mut self,
-        sizes: &[u32],
-        wrap: i64,
-        x: &[u32],
-        parts: &[Part],
-        l: u32,
-    ) -> Result<(), Panic>
-        requires width { length x.now ≡ self.old.width }
-        requires below { IsBelow x.now sizes.now }
-        requires parts { All (λ p. p.0 < length sizes.now) parts.now }
-        ensures ok { OnOk result (self.new
-            ≡ record self.old {
-              arcs = self.old.arcs
-                  ++ record {
-                    tip = parts_put sizes.now wrap x.now l parts.now x.now;
-                    len = pos l;
-                  } ∷ [];
-            }) }
-        ensures memory { IsOkUnless result Panic.NoRoom }
-    {
-        let start = self.tips.len();
-        self.lens.reserve(1)?;
-        push_entries(&mut self.tips, x)?;
-        put_parts(
-            sizes,
-            wrap,
-            x,
-            parts,
-            l,
-            &mut self.tips.as_mut_slice()[start..],
-        );
-        self.lens.push(l)?;
         Ok(())
     }
 

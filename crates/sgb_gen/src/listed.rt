@@ -19,6 +19,7 @@ use crate::accepted::{BoardLists, OrderedBoard, Runs, Simplex, Strides, Subsets}
 use crate::arc_sinks::ArcSink;
 use crate::counted_places::CountedPlaces;
 use crate::links::Links;
+use crate::vector_places::VectorPlaces;
 use sgb_graph::Id;
 use sgb_vec::{BoxFamily, Family, Panic, SumFamily};
 
@@ -26,6 +27,9 @@ use sgb_vec::{BoxFamily, Family, Panic, SumFamily};
 pub trait Listed<'a> {
     /// The family of the vectors that are its vertices.
     type Members: Family + 'a;
+
+    /// What finds the vertices of many vectors.
+    type Places: VectorPlaces + Drop;
 
     // The graph.
     ghost graph: { Self → VectorGraph };
@@ -98,8 +102,8 @@ pub trait Listed<'a> {
         ensures same { graph self.new ≡ graph self.old }
         ensures sort { sort self.new ≡ sort self.old };
 
-    /// How many arcs are on the list of the vertex of `x`, where they are told without it, of undirected subsets alone. No memory
-    /// is taken.
+    /// How many arcs are on the list of the vertex of `x`, where they are told without it, as a run asks: of a board that is
+    /// prepared, where its arcs are had in order with no sort, and of undirected subsets. No memory is taken.
     fn count_at(&self, x: &[u32]) -> Option<u64>
         requires { Contains (graph self.now).vectors x.now }
         ensures { IfSome result (λ m. m ≡ length (list_in (graph self.now) x.now)) };
@@ -123,11 +127,11 @@ pub trait Listed<'a> {
         ensures lengths { IfSome result (λ s. s.lengths ≡ map (λ l. l.len)
             (chain_of (graph_described (described_by (graph self.now))) v)) };
 
-    /// The vectors, each found at once by counts that are kept; made for a run, where many are looked for. `None` where they
-    /// are found as soon by `place_of`, where the counts want more than a megabyte, or out of memory. The memory is from where
-    /// that of the links comes.
-    fn places(&self, links: &Links) -> Option<CountedPlaces<'a>>
-        ensures { IfSome result (λ p. p ≡ (graph self.now).vectors) };
+    /// The vectors, each found at once: those of a board by their entries, others by counts that are kept; made for a run, where
+    /// many are looked for. `None` where the counts want more than a megabyte, or out of memory. The memory is from where that of
+    /// the links comes.
+    fn places(&self, links: &Links) -> Option<Self::Places>
+        ensures { IfSome result (λ p. Self.Places.vectors p ≡ (graph self.now).vectors) };
 
     /// The vertex of a vector: its place among the vectors, counted from 0. No memory is taken.
     fn place_of(&self, x: &[u32]) -> u32
@@ -137,6 +141,8 @@ pub trait Listed<'a> {
 
 impl<'a> Listed<'a> for BoardLists<'a> {
     type Members = BoxFamily;
+
+    type Places = &'a BoxFamily;
 
     ghost graph = { board_vector_graph };
 
@@ -177,8 +183,8 @@ impl<'a> Listed<'a> for BoardLists<'a> {
         Ok(links.give(sink, room, out))
     }
 
-    fn count_at(&self, _x: &[u32]) -> Option<u64> {
-        None
+    fn count_at(&self, x: &[u32]) -> Option<u64> {
+        self.board.count_kept(x, self.table_in_order()?)
     }
 
     fn runs<'b>(&'b self, x: &'b [u32]) -> Option<Runs<'b>> {
@@ -189,8 +195,8 @@ impl<'a> Listed<'a> for BoardLists<'a> {
         BoardLists::strides(self, x, v)
     }
 
-    fn places(&self, _links: &Links) -> Option<CountedPlaces<'a>> {
-        None
+    fn places(&self, _links: &Links) -> Option<&'a BoxFamily> {
+        Some(self.board.family())
     }
 
     fn place_of(&self, x: &[u32]) -> u32 {
@@ -200,6 +206,8 @@ impl<'a> Listed<'a> for BoardLists<'a> {
 
 impl<'a> Listed<'a> for OrderedBoard<'a> {
     type Members = BoxFamily;
+
+    type Places = &'a BoxFamily;
 
     ghost graph = { board_vector_graph };
 
@@ -234,8 +242,8 @@ impl<'a> Listed<'a> for OrderedBoard<'a> {
         Ok(self.give(x, sink, room, out))
     }
 
-    fn count_at(&self, _x: &[u32]) -> Option<u64> {
-        None
+    fn count_at(&self, x: &[u32]) -> Option<u64> {
+        OrderedBoard::count_at(self, x)
     }
 
     fn runs<'b>(&'b self, x: &'b [u32]) -> Option<Runs<'b>> {
@@ -246,8 +254,8 @@ impl<'a> Listed<'a> for OrderedBoard<'a> {
         None
     }
 
-    fn places(&self, _links: &Links) -> Option<CountedPlaces<'a>> {
-        None
+    fn places(&self, _links: &Links) -> Option<&'a BoxFamily> {
+        Some(self.board.family())
     }
 
     fn place_of(&self, x: &[u32]) -> u32 {
@@ -257,6 +265,8 @@ impl<'a> Listed<'a> for OrderedBoard<'a> {
 
 impl<'a> Listed<'a> for &'a Simplex {
     type Members = SumFamily;
+
+    type Places = CountedPlaces<'a>;
 
     ghost graph = { λ s. simplex_vector_graph s.now };
 
@@ -314,6 +324,8 @@ impl<'a> Listed<'a> for &'a Simplex {
 
 impl<'a> Listed<'a> for &'a Subsets {
     type Members = SumFamily;
+
+    type Places = CountedPlaces<'a>;
 
     ghost graph = { λ s. subsets_vector_graph s.now };
 

@@ -61,6 +61,15 @@ impl BoxFamily {
         requires { IsBelow vector.now self.now }
         ensures { slice_get (box self.now) result ≡ Some vector.now }
     {
+        self.place_if_there(vector)
+    }
+
+    /// The same, for a vector that is known to be a member by those who read the place alone: of any other the number tells
+    /// nothing.
+    #[inline(always)]
+    pub fn place_if_there(&self, vector: &[u32]) -> u32
+        ensures { IsBelow vector.now self.now → slice_get (box self.now) result ≡ Some vector.now }
+    {
         place_among(self.sizes.as_slice(), vector)
     }
 }
@@ -159,15 +168,18 @@ fn pairs_below(entries: &[u32], sizes: &[u32]) -> bool
     entries.iter().zip(sizes).all(|(x, s)| *x < *s)
 }
 
-// The place of a vector among those of the box of these sizes.
+// The place of a vector among those of the box of these sizes, if it is one of them: nothing then wraps.
+#[inline(always)]
 fn place_among(sizes: &[u32], vector: &[u32]) -> u32
-    requires few { product_of sizes.now ≤ most_vertices }
-    requires below { IsBelow vector.now sizes.now }
-    ensures { slice_get (box sizes.now) result ≡ Some vector.now }
+    requires { product_of sizes.now ≤ most_vertices }
+    ensures { IsBelow vector.now sizes.now → slice_get (box sizes.now) result ≡ Some vector.now }
 {
-    let mut place = 0;
+    if vector.len() > sizes.len() {
+        return 0;
+    }
+    let mut place: u32 = 0;
     for (k, entry) in vector.iter().enumerate() {
-        place = place * sizes[k] + entry;
+        place = place.wrapping_mul(sizes[k]).wrapping_add(*entry);
     }
     place
 }

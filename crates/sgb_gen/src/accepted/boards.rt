@@ -17,6 +17,7 @@ mod counts;
 mod edges;
 mod flat_boards;
 mod given;
+mod list_counts;
 mod lists;
 mod ordered_boards;
 mod orders;

@@ -39,7 +39,7 @@ push_vertex-requires g c =
     let vertex : slice_get now.vectors (c.args.first + c.loop-k.k) ≡ Some c.unwrap-x.result.now = rw c.loop-k.invariant.same there in
     let rising : IsRising now.vectors = rw c.loop-k.invariant.same (subst IsRising c.family-family.ensures.members (g.met.L.Members.Family.rising c.family-family.result.now)) in
     let ends : All (HasEnds now.vectors) now.moves = subst (λ (h : VectorGraph). All (HasEnds h.vectors) h.moves) (sym c.loop-k.invariant.same) c.family-family.ensures.ends in
-    let places : IfSome c.args.places.now (λ p. p ≡ now.vectors) = rw c.loop-k.invariant.same c.requires.places in
+    let places : IfSome c.args.places.now (λ p. g.L.Places.VectorPlaces.vectors p ≡ now.vectors) = rw c.loop-k.invariant.same c.requires.places in
     search rules
 
 pub loop-k-preserved : goal.loop-k-preserved

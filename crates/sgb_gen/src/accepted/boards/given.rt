@@ -20,6 +20,7 @@ ghost use Rattle.sgb_gen.specs.inner.StraightLists.{IsInOrder, NeedsNoSort, arcs
 use super::Board;
 use crate::arc_sinks::ArcSink;
 use crate::displacement_tables::DisplacementTable;
+use crate::moves::put_placed;
 use crate::steps::Step;
 use sgb_vec::Vector;
 
@@ -165,6 +166,7 @@ impl Board {
             result }
         ensures ready { OnOk result (K.ready sink.now room.new out.new) }
     {
-        sink.put_along(self.sizes(), self.wrap, x, t.parts(), l, there, room, out)
+        put_placed(self.sizes(), self.wrap, x, t.parts(), l, there);
+        sink.put_arc(there.as_slice(), l, room, out)
     }
 }

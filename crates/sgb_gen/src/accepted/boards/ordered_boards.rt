@@ -108,6 +108,15 @@ impl<'a> OrderedBoard<'a> {
             .runs_of(x, &self.table, self.straight, self.leaping, self.widest)
     }
 
+    /// How many arcs are on the list of the vertex of `x`, which is a vector of the board, with no list made. No memory is taken.
+    pub(crate) fn count_at(&self, x: &[u32]) -> Option<u64>
+        requires { Contains (box self.now.sizes) x.now }
+        ensures { IfSome result (λ m. m ≡ length (list_at self.now.directed (box self.now.sizes)
+            (moves_of_board self.now) x.now)) }
+    {
+        self.board.count_kept(x, &self.table)
+    }
+
     /// Hands the arcs of the vertex of `x`, which is a vector of the board, to a sink one by one. No memory is taken but by the
     /// sink.
     pub(crate) fn give<K: ArcSink<R, S>, R, S>(

@@ -15,7 +15,7 @@ use Rattle.sgb_gen.specs.VectorGraphs.{HasEnds, VectorGraph, described_by, verte
 use Rattle.sgb_gen.proofs.LocalChains.{chain_said}
 use Rattle.sgb_gen.proofs.MoveLists.{tips_of_list}
 use Rattle.sgb_arrays.specs.declared.rows.Rows.{Rows}
-use Rattle.sgb_arrays.specs.inner.CountedArcs.{LeadsAmong, PutsArcs}
+use Rattle.sgb_arrays.specs.inner.PlacedArcs.{LeadsAmong, PutsArcs}
 
 -- rows with the list of a vertex more
 record HaveListMore (g : VectorGraph) (v : ℕ) (old new : Rows) : Type 0 where

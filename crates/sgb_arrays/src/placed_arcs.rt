@@ -1,23 +1,23 @@
 //! Arcs that are handed out one by one, and put into rows.
 //!
-//! Each leads to a vector of a sum, whose place is found by counts that are kept.
+//! Each leads to a vector that is found at once.
 use crate::rows::Rows;
-use sgb_gen::{ArcSink, CountedPlaces};
+use sgb_gen::{ArcSink, VectorPlaces};
 use sgb_vec::Panic;
 
-/// Puts arcs to vectors that are counted behind those of the rows.
+/// Puts arcs to vectors that are found at once behind those of the rows.
 #[derive(Drop)]
-pub(crate) struct CountedArcs<'p, 'a> {
+pub(crate) struct PlacedArcs<'p, P: VectorPlaces> {
     /// The vectors.
-    pub(crate) places: &'p CountedPlaces<'a>,
+    pub(crate) places: &'p P,
     /// How many entries each has.
     pub(crate) width: usize,
 }
 
-impl<'p, 'a> ArcSink<Rows, ()> for CountedArcs<'p, 'a> {
+impl<'p, P: VectorPlaces> ArcSink<Rows, ()> for PlacedArcs<'p, P> {
     ghost use Rattle.std.specs.Prelude.{◌≡◌, ⊤};
     ghost use Rattle.sgb_vec.specs.declared.panics.Panic.TheVariants.{NoRoom};
-    ghost use Rattle.sgb_arrays.specs.inner.CountedArcs.{PutsArcs, more_arcs_put, no_arc_put};
+    ghost use Rattle.sgb_arrays.specs.inner.PlacedArcs.{PutsArcs, more_arcs_put, no_arc_put};
 
     type Fault = Panic;
 
@@ -25,13 +25,13 @@ impl<'p, 'a> ArcSink<Rows, ()> for CountedArcs<'p, 'a> {
 
     ghost ready = { λ _ _ _. ⊤ };
 
-    ghost took = { λ s old _ arcs new _. PutsArcs s.places.now old arcs new };
+    ghost took = { λ s old _ arcs new _. PutsArcs (P.vectors s.places.now) old arcs new };
 
     ghost cut = { λ _ _ _ _ _ _ f. f ≡ NoRoom };
 
     ghost laws = { λ s. record {
-      none = λ rows _. no_arc_put s.places.now rows;
-      more = λ xs ys old _ mid _ new _ p q. more_arcs_put s.places.now xs ys old mid new p q;
+      none = λ rows _. no_arc_put (P.vectors s.places.now) rows;
+      more = λ xs ys old _ mid _ new _ p q. more_arcs_put (P.vectors s.places.now) xs ys old mid new p q;
       cut_after = λ _ _ _ _ _ _ _ _ _ _ q. q;
       cut_more = λ _ _ _ _ _ _ _ q. q;
     } };

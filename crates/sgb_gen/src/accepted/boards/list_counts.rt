@@ -1,0 +1,49 @@
+//! How many arcs are on the list of one vector of a board, by the displacements in a table, with no list made.
+//!
+//! By each of them there are as many as moves lead ahead and, where there are edges, as lead back. That is said where the arcs
+//! by each displacement are had in order with no sort, as they are given (`given`).
+ghost use Rattle.std.specs.Prelude.{◌≡◌, length, nat_abs, All, Contains, IfSome};
+ghost use Rattle.sgb_vec.specs.Boxes.{box};
+ghost use Rattle.sgb_vec.specs.Lexicographic.{IsBelow};
+ghost use Rattle.sgb_gen.specs.Boards.{moves_of_board};
+ghost use Rattle.sgb_gen.specs.LocalLists.{list_at};
+ghost use Rattle.sgb_gen.specs.Moves.{sides_of};
+ghost use Rattle.sgb_gen.specs.inner.EntryBounds.{displacements_within, entry_bounds};
+ghost use Rattle.sgb_gen.specs.inner.LocalBoards.{arcs_onward, moves_by};
+ghost use Rattle.sgb_gen.specs.inner.StraightLists.{NeedsNoSort};
+
+use super::Board;
+use crate::displacement_tables::{DisplacementTable, KeptPair};
+
+impl Board {
+    /// How many arcs are on the list of the vertex of `x`, by the displacements in a table, where those by each of them are had
+    /// in order with no sort. `None` where 64 bits do not hold the number. No memory is taken.
+    pub(crate) fn count_kept(&self, x: &[u32], table: &DisplacementTable) -> Option<u64>
+        requires member { Contains (box self.now.sizes) x.now }
+        requires table { table.now ≡ displacements_within (nat_abs self.now.piece)
+            (entry_bounds (nat_abs self.now.piece) (sides_of self.now.sizes self.now.wrap)) }
+        requires sorted { All (NeedsNoSort self.now) table.now }
+        ensures { IfSome result (λ m. m ≡ length (list_at self.now.directed (box self.now.sizes)
+            (moves_of_board self.now) x.now)) }
+    {
+        let mut arcs: u64 = 0;
+        for k in (0..table.len()).rev() {
+            arcs = arcs.checked_add(self.count_both_ways(x, table.at(k)))?;
+        }
+        Some(arcs)
+    }
+
+    // How many arcs of `x` the edges of a displacement make.
+    fn count_both_ways(&self, x: &[u32], pair: &KeptPair) -> u64
+        requires below { IsBelow x.now self.now.sizes }
+        requires dimensions { length pair.now ≡ length self.now.sizes }
+        requires sorted { NeedsNoSort self.now pair.now }
+        ensures { result ≡ length (arcs_onward self.now.directed x.now
+            (moves_by (sides_of self.now.sizes self.now.wrap) self.now.piece (box self.now.sizes)
+            pair.now)) }
+    {
+        let ahead = self.lengths_by(x, &pair.ahead());
+        let behind = self.lengths_back(x, &pair.back());
+        u64::from(ahead) + u64::from(behind)
+    }
+}
