@@ -9,7 +9,7 @@
 # make rows       what the arrays of boards and other graphs cost, beside a plain loop that fills them (bench/rows.c)
 
 # of the calls: that of include/sgb.h
-LIB_VERSION = 1.1.0
+LIB_VERSION = 1.2.0
 
 LIBDIR ?= $(PREFIX)/lib
 INCLUDEDIR ?= $(PREFIX)/include

@@ -64,7 +64,7 @@ extern "C" {
 #endif
 
 /* The version of these calls: a program may compare it with sgb_version(). */
-#define SGB_VERSION "1.1.0"
+#define SGB_VERSION "1.2.0"
 
 /* Answers. */
 #define SGB_OK 0                  /* the arrays are filled */
@@ -223,6 +223,13 @@ uint64_t sgb_tips(sgb_graph *graph, uint32_t first, uint32_t count, uint64_t *st
 uint64_t sgb_names(sgb_graph *graph, uint32_t first, uint32_t count, uint64_t *starts, size_t starts_len, char *bytes,
                    size_t bytes_len);
 
+/* The same names as lines of a text, each with a newline behind it, of arrays as sgb_names fills them: a language that
+ * splits a text at once has all of them sooner so. No graph is asked, and no name has a newline in it.
+ * `starts` begins with 0, falls nowhere, and ends with the number of bytes; `lines` has as many places as there are
+ * bytes and names together. Else the answer is SGB_WRONG_LENGTH. */
+uint64_t sgb_name_lines(const uint64_t *starts, size_t starts_len, const char *bytes, size_t bytes_len, char *lines,
+                        size_t lines_len);
+
 /* The integers of a run in a utility field of the vertices: u, v, w, x, y, z are the fields 0 to 5. In 3, 4, 5 the
  * vertices of board, simplex and subsets have the first three coordinates.
  * `values` has count places. */
@@ -253,7 +260,7 @@ void sgb_draws(int64_t start, uint64_t skip, uint32_t *out, size_t out_len);
 uint64_t sgb_uniform_draws(int64_t start, uint64_t skip, uint32_t m, uint32_t *out, size_t out_len);
 
 /* The version of the library that runs: 1000000 for its first number, 1000 for its second, 1 for its third, so that
- * 1.1.0 is 1001000. */
+ * 1.2.0 is 1002000. */
 uint64_t sgb_version(void);
 
 /* The union of two open graphs, which may be one and the same. */

@@ -20,7 +20,7 @@ from cases import (
 )
 
 import sgb
-from sgb import _graph, _library, _lookups
+from sgb import _graph, _library, _lookups, _names
 
 
 class Handles(unittest.TestCase):
@@ -202,6 +202,18 @@ class Python(unittest.TestCase):
         graph = sgb.graph(BOARD)
         self.assertEqual(list(graph.names()), wanted)
         self.assertEqual((graph.names(1, 3), pickle.loads(pickle.dumps(graph.names(1, 3)))), (wanted[1:4], wanted[1:4]))
+
+    def test_names_in_pieces(self):
+        """Names are fetched some at a time, and a part may begin and end in the middle of a piece."""
+        for piece in (1, 2, 3):
+            with unittest.mock.patch.object(_names, "PIECE", piece):
+                self.test_names_as_a_sequence()
+                graph = sgb.graph(BOARD)
+                whole = list(graph.names())
+                for first in range(graph.n + 1):
+                    for count in range(graph.n - first + 1):
+                        part = graph.names(first, count)
+                        self.assertEqual([part[k] for k in range(count)] + list(part), 2 * whole[first : first + count])
 
     def test_names_of_many(self):
         """Names that are too many for a dictionary are looked for as well."""

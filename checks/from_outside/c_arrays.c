@@ -35,12 +35,24 @@ static void list(void) {
     put_listing();
 }
 
+/* The names as lines, where these are said to have so many places more than they must, and the starts so many. */
+static uint64_t lines_by(char *lines, int by, int starts_by) {
+    return sgb_name_lines(name_starts, count + 1ull + (uint64_t)(int64_t)starts_by, names, size.names, lines,
+                          size.names + count + (uint64_t)(int64_t)by);
+}
+
 static void list_names(void) {
     must_call(&graph, NAMES);
-    for (uint32_t v = 0; v < count; v++) {
-        put_name(v);
-        putchar('\n');
-    }
+    const uint64_t all = size.names + count;
+    char *lines = array(all, 1);
+    if (all > 0) must(lines_by(lines, -1, 0), SGB_WRONG_LENGTH, "lines that are too short");
+    must(lines_by(lines, 1, 0), SGB_WRONG_LENGTH, "lines that are too long");
+    must(lines_by(lines, 1, 1), SGB_WRONG_LENGTH, "starts that are no table");
+    if (!is_untouched(lines, all + 2)) fail("lines of a wrong length are written");
+    must(lines_by(lines, 0, 0), SGB_OK, "sgb_name_lines");
+    if (!is_untouched(lines + all, 2)) fail("lines are written past the end");
+    fwrite(lines, 1, all, stdout);
+    free(lines);
 }
 
 static void list_ints(void) {
@@ -153,7 +165,7 @@ static void handles(void) {
     must(sgb_open("board(3,", 8, "", 0, &second), SGB_BAD_EXPRESSION + 8, "a bad text");
     is_closed(&second);
     is_graph(&graph, wanted);
-    if (sgb_version() != 1001000 || strcmp(SGB_VERSION, "1.1.0") != 0) fail("another version");
+    if (sgb_version() != 1002000 || strcmp(SGB_VERSION, "1.2.0") != 0) fail("another version");
     puts("right");
     make_arrays();
 }

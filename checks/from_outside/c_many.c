@@ -167,6 +167,7 @@ static struct {
 } lent;
 
 static void *in_thread(void *none) {
+    static const uint64_t name_places[] = {0, 1, 1, 3};
     uint64_t *lens = lens_of;
     switch (which_call) {
     case -2: break;
@@ -182,6 +183,7 @@ static void *in_thread(void *none) {
     case ID: answer_of = sgb_id(of_main, lent.bytes, lens[0]); break;
     case KINDS: answer_of = sgb_kinds(of_main, lent.bytes, lens[0]); break;
     case CALLS + 1: answer_of = sgb_uniform_draws(7, 1000000007, 6, lent.ends, lens[1]); break;
+    case CALLS + 2: answer_of = sgb_name_lines(name_places, 4, "abc", 3, lent.bytes, 6); break;
     case FILE_SIZE: answer_of = sgb_file_size(of_main, &lent.told.file); break;
     case WHOLE_FILE: answer_of = sgb_file(of_main, lent.bytes, lens[0]); break;
     default: sgb_close(of_main); break;
@@ -216,6 +218,8 @@ static int stack(size_t bytes, size_t of_open, const char *now) {
     }
     lens_of[1] = size.listed;
     printf("sgb_uniform_draws %zu\n", touched(CALLS + 1, bytes) - least);
+    printf("sgb_name_lines %zu\n", touched(CALLS + 2, bytes) - least);
+    must(answer_of, SGB_OK, "sgb_name_lines in a thread");
     printf("sgb_close %zu\n", touched(CALLS, bytes) - least);
     if (graph.is_open) fail("a graph that was closed is open");
     free(lent.wide);

@@ -90,14 +90,18 @@ static void refuse_all(void) {
     for (int which = 0; which < CALLS; which++)
         if (is_of_run[which]) must(call(&graph, which), SGB_NO_VERTEX, call_names[which]);
     first = kept;
-    /* random numbers, and the version, take none at all */
+    /* names as lines, random numbers, and the version, take none at all */
+    static const uint64_t name_places[] = {0, 1, 1, 3};
+    char lines[6];
     uint32_t out[3];
     size_t so_many = asked;
+    must(sgb_name_lines(name_places, 4, "abc", 3, lines, 6), SGB_OK, "sgb_name_lines without memory");
+    if (memcmp(lines, "a\n\nbc\n", 6) != 0) fail("other lines of names");
     sgb_draws(1, 60, out, 3);
     must(sgb_uniform_draws(1, 60, 6, out, 3), SGB_OK, "sgb_uniform_draws without memory");
-    must(sgb_version(), 1001000, "sgb_version");
+    must(sgb_version(), 1002000, "sgb_version");
     counting = 0;
-    if (asked != so_many) fail("random numbers take memory");
+    if (asked != so_many) fail("lines or random numbers take memory");
     if (state() != before || held != 0) fail("what is refused writes, or holds memory");
     free_arrays();
 }

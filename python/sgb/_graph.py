@@ -6,7 +6,7 @@ import operator
 import threading
 from typing import TYPE_CHECKING, Any, Callable, Iterator, Optional, SupportsIndex
 
-from . import _library, _lookups, _operations, _others
+from . import _library, _lookups, _names, _operations, _others
 from ._names import Names
 from ._rows import Rows
 
@@ -324,14 +324,8 @@ class Graph:
         """
         begin, many = self._run(first, count)
         if "names" in self._kept or many == self.n:
-            return self._fetched("names", lambda: self._fetch_names(0, self.n)).part(begin, begin + many)
-        return self._fetch_names(begin, many)
-
-    def _fetch_names(self, first: int, count: int) -> Names:
-        size = self._held.number("names", "sgb_names_size", first, count)
-        begins, names = _library.Array("Q", count + 1), _library.Array("B", size)
-        self._held.call("names", "sgb_names", first, count, *begins.words, *names.words)
-        return Names(names.bytes(), begins.seen())
+            return self._fetched("names", lambda: _names.fetched(self._held, 0, self.n)).part(begin, begin + many)
+        return _names.fetched(self._held, begin, many)
 
     def ints(self, field: str, first: SupportsIndex = 0, count: Optional[SupportsIndex] = None) -> NDArray[numpy.int64]:
         """The integers in a utility field of some vertices. Those of a board are the coordinates.

@@ -100,6 +100,7 @@ CALLS: dict[str, Any] = {
     "sgb_rows": (_RUN + 3 * _ARRAY, ctypes.c_uint64),
     "sgb_tips": (_RUN + 2 * _ARRAY, ctypes.c_uint64),
     "sgb_names": (_RUN + 2 * _ARRAY, ctypes.c_uint64),
+    "sgb_name_lines": (3 * _ARRAY, ctypes.c_uint64),
     "sgb_ints": (_ON + 3 * [ctypes.c_uint32] + _ARRAY, ctypes.c_uint64),
     "sgb_id": (_ON + _ARRAY, ctypes.c_uint64),
     "sgb_kinds": (_ON + _ARRAY, ctypes.c_uint64),

@@ -2,65 +2,52 @@
 
 from __future__ import annotations
 
-import io
 import operator
 import sys
-from typing import Any, Callable, Iterator, Optional, Sequence, SupportsIndex, Union, overload
+from typing import Any, Iterator, Optional, Sequence, SupportsIndex, Union, overload
 
 from . import _library
 
 # where one of so many names was asked for, all are cut out
 MANY = 8
-# the sizes of so many names are looked at together
-PIECE = 2_048
+# so many names are fetched and cut out at once: few enough that what is made on the way stays near
+PIECE = 4_096
 
 
 class Names(Sequence[str]):
     """The names of some vertices, one after another: a sequence of str, which cannot be changed.
 
     `Graph.names` and `Rows.names` make it. It is equal to a list of the same names and printed like one; a slice of it,
-    and what is added to it, are lists. The names stand in one text: one that is asked for is cut out of it alone, and all
-    when they are first gone through, or many were asked for. `list(names)` is a list of them, where one is wanted, as by
+    and what is added to it, are lists. The names stand in texts: one that is asked for is cut out alone, and all when
+    they are first gone through, or many were asked for. `list(names)` is a list of them, where one is wanted, as by
     `json.dumps`.
     """
 
-    def __init__(self, text: bytes, starts: Any) -> None:
-        # the text of these names alone; `starts` may count from an earlier place
-        self._text, self._starts = text, starts
+    def __init__(self, pieces: list[tuple[bytes, Any]], begin: int, count: int) -> None:
+        # texts of PIECE names each, or fewer in the last one, and where in its text each name starts, and then where the
+        # last one ends; these names are those from number `begin` of the first text on
+        self._pieces, self._begin, self._count = pieces, begin, count
         self._cut: Optional[list[str]] = None
         self._asked = 0
 
     def _all(self) -> list[str]:
         if self._cut is None:
-            self._cut = self._read()
+            names: list[str] = []
+            for text, starts in self._pieces:
+                names += _cut_out(text, starts)
+            del names[self._begin + self._count :], names[: self._begin]
+            self._cut = names
         return self._cut
-
-    def _read(self) -> list[str]:
-        """All names. They are read one after another, which takes less time than to cut each out of the text."""
-        read: Callable[[int], str]
-        if self._text.isascii():
-            read = io.StringIO(self._text.decode()).read
-        else:
-            behind = io.BytesIO(self._text).read
-            read = lambda size: behind(size).decode(errors="surrogateescape")  # noqa: E731
-        names: list[str] = []
-        for k in range(0, len(self), PIECE):
-            at = self._starts[k : k + PIECE + 1].tolist()
-            names += map(read, map(operator.sub, at[1:], at))
-        return names
-
-    def _place(self, k: int) -> int:
-        """Where name k starts, or where the last one ends."""
-        return int(self._starts[k]) - int(self._starts[0])
 
     def part(self, begin: int, end: int) -> Names:
         """The names from number `begin` on and before `end`, which are there."""
         if (begin, end) == (0, len(self)):
             return self
-        return Names(self._text[self._place(begin) : self._place(end)], self._starts[begin : end + 1])
+        first, skipped = divmod(self._begin + begin, PIECE)
+        return Names(self._pieces[first : -(-(self._begin + end) // PIECE)], skipped, end - begin)
 
     def __len__(self) -> int:
-        return len(self._starts) - 1
+        return self._count
 
     def __iter__(self) -> Iterator[str]:
         return iter(self._all())
@@ -83,7 +70,9 @@ class Names(Sequence[str]):
         self._asked += 1
         if MANY * self._asked > len(self):
             return self._all()[place]
-        return self._text[self._place(place) : self._place(place + 1)].decode(errors="surrogateescape")
+        piece, number = divmod(self._begin + place, PIECE)
+        text, starts = self._pieces[piece]
+        return text[int(starts[number]) : int(starts[number + 1])].decode(errors="surrogateescape")
 
     def __contains__(self, name: object) -> bool:
         return name in self._all()
@@ -109,9 +98,31 @@ class Names(Sequence[str]):
         return repr(self._all())
 
     def __reduce__(self) -> Any:
-        return _made_again, (self._text, self._starts.tobytes())
+        return _made_again, ([(text, starts.tobytes()) for text, starts in self._pieces], self._begin, self._count)
 
 
-def _made_again(text: bytes, starts: bytes) -> Names:
+def _made_again(pieces: list[tuple[bytes, bytes]], begin: int, count: int) -> Names:
     """The names that were pickled, in another process."""
-    return Names(text, _library.array_of("Q", starts))
+    return Names([(text, _library.array_of("Q", starts)) for text, starts in pieces], begin, count)
+
+
+def fetched(held: _library.Held, first: int, count: int) -> Names:
+    """The names of a run of the graph, piece by piece."""
+    pieces = []
+    for begin in range(first, first + max(count, 1), PIECE):
+        many = min(PIECE, first + count - begin)
+        size = held.number("names", "sgb_names_size", begin, many)
+        starts, names = _library.Array("Q", many + 1), _library.Array("B", size)
+        held.call("names", "sgb_names", begin, many, *starts.words, *names.words)
+        pieces.append((names.bytes(), starts.seen()))
+    return Names(pieces, 0, count)
+
+
+def _cut_out(text: bytes, starts: Any) -> list[str]:
+    """The names of a piece: of their lines, which are split at once. No name has a newline in it."""
+    places = starts.tobytes(), len(starts)
+    lines = _library.Array("B", len(text) + len(starts) - 1)
+    _library.must(_library.lib.sgb_name_lines(*places, text, len(text), *lines.words))
+    names = str(lines.seen(), "utf-8", "surrogateescape").split("\n")
+    names.pop()
+    return names

@@ -4,7 +4,7 @@ use Rattle.std.specs.Prelude.{◌&&◌, nat_le, slice_index}
 use Rattle.std.specs.List.{list_all, range_with_len}
 use Rattle.std.proofs.lemmas.Bool.{and_parts}
 use Rattle.std.proofs.lemmas.Bool.Decides.{nat_tests}
-use Rattle.std.proofs.lemmas.List.{length-map}
+use Rattle.std.proofs.lemmas.List.{length-drop, length-map, length-take}
 use Rattle.std.proofs.lemmas.List.Folds.{list_all-append, list_all_at}
 use Rattle.std.proofs.lemmas.List.FromFn.{get_or-map-range_with_len, length-map-range_with_len, map-range_with_len_more}
 use Rattle.std.proofs.lemmas.List.Sums.{fold-append}
@@ -36,6 +36,29 @@ table_at end (x ∷ xs) v e below =
     let (zero', high) = and_parts _ (climbs_to end x xs) e in
     let next : suc v ≡ v + 1 = omega arith in
     subst (λ (k : ℕ). (get_or (x ∷ xs) v 0 ≤ get_or (x ∷ xs) k 0) × (get_or (x ∷ xs) k 0 ≤ end)) next (climbs_at end x xs v high (omega (arith, below)))
+
+-- part v ends where the next one starts
+pub part_ends : (bytes starts : List ℕ) (v : ℕ) → is_table (length bytes) starts ≡ true → v < length starts - 1
+    → slice_index starts v + length (part_by_starts bytes starts v) ≡ slice_index starts (v + 1)
+part_ends bytes starts v e below =
+    let (up, within) = table_at (length bytes) starts v e below in
+    let next : suc v ≡ v + 1 = omega arith in
+    rw next (grind (arith, length-take, length-drop, up, within))
+
+-- the first place is 0, and the last one is the end
+pub table_first : (end : ℕ) (starts : List ℕ) → is_table end starts ≡ true → slice_index starts 0 ≡ 0
+table_first end [] e = refl
+table_first end (x ∷ xs) e = grind (arith, nat_tests, and_parts _ (climbs_to end x xs) e)
+
+climbs_last : (end first : ℕ) (xs : List ℕ) → climbs_to end first xs ≡ true → get_or (first ∷ xs) (length xs) 0 ≡ end
+climbs_last end first [] e = grind (arith, nat_tests, e)
+climbs_last end first (x ∷ xs) e = climbs_last end x xs (and_parts (nat_le first x) (climbs_to end x xs) e).1
+
+pub table_last : (end : ℕ) (starts : List ℕ) → is_table end starts ≡ true → slice_index starts (length starts - 1) ≡ end
+table_last end [] e = absurd (grind (arith, e))
+table_last end (x ∷ xs) e =
+    let same : length (x ∷ xs) - 1 ≡ length xs = omega arith in
+    ap (λ k. get_or (x ∷ xs) k 0) same ∙ climbs_last end x xs (and_parts _ (climbs_to end x xs) e).1
 
 -- a table has a first place
 pub table_some : (end : ℕ) (starts : List ℕ) → is_table end starts ≡ true → 1 ≤ length starts

@@ -29,6 +29,8 @@ pub mod DrawsPut
 pub mod FieldValues
 -- arrays of which a graph is made
 pub mod GivenLists
+-- names as lines
+pub mod NameLines
 -- graphs that are copied part by part
 pub mod CopiedGraphs
 -- worked examples

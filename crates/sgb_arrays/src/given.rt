@@ -103,7 +103,7 @@ fn are_tables(starts: &[u64], names: &[u8], from: &[u32], to: &[u32], lengths: &
 }
 
 // Whether the places begin with 0, never fall, and end with `end`.
-fn is_table(end: usize, starts: &[u64]) -> bool
+pub(crate) fn is_table(end: usize, starts: &[u64]) -> bool
     ensures { result ≡ is_table end starts.now }
 {
     match starts.split_first() {
@@ -171,7 +171,7 @@ fn are_names(starts: &[u64], bytes: &[u8]) -> bool
 }
 
 // Part v of the bytes.
-fn part<'a>(starts: &[u64], bytes: &'a [u8], v: usize) -> &'a [u8]
+pub(crate) fn part<'a>(starts: &[u64], bytes: &'a [u8], v: usize) -> &'a [u8]
     requires table { is_table (length bytes.now) starts.now ≡ true }
     requires there { v < length starts.now - 1 }
     ensures { result.now ≡ part_by_starts bytes.now starts.now v }

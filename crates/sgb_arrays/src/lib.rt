@@ -25,6 +25,8 @@ mod kinds;
 mod laws;
 // How long all lists of a graph are.
 mod list_sizes;
+// Names as lines of a text.
+mod name_lines;
 // Names as arrays.
 mod names;
 // Graphs that are open, built or not.
@@ -63,6 +65,7 @@ pub use graph_rows::{arcs_len, fill_rows, fill_tips};
 pub use ids::fill_id;
 pub use kinds::fill_kinds;
 pub use laws::{parts_law, runs_join_law};
+pub use name_lines::fill_name_lines;
 pub use names::Names;
 pub use open_graphs::OpenGraph;
 pub use operands::Operand;

@@ -2,12 +2,14 @@
 //! clauses again. A graph is held by a handle until it is closed. Arrays are of a run of its vertices: so many one after another.
 #![tactic(auto)]
 
-ghost use Rattle.std.specs.Prelude.{◌≡◌, ◌⊎◌, ◌≤◌, ◌+◌, ◌-◌, ◌^◌, length, map, min, None};
+ghost use Rattle.std.specs.Prelude.{◌≡◌, ◌⊎◌, ◌≤◌, ◌+◌, ◌-◌, ◌^◌, ◌++◌, ◌∷◌, [], true, length, map, min, None};
+ghost use Rattle.std.specs.List.{flat_map};
 ghost use Rattle.sgb_file.specs.Saving.{text_of_graph};
 ghost use Rattle.sgb_graph.specs.Graphs.{chain_of};
 ghost use Rattle.sgb_graph.specs.Draws.{modulus, plain_draws, seed_of, uniform_draws};
 ghost use Rattle.sgb_graph.specs.Kinds.{letter_of};
 ghost use Rattle.sgb_arrays.specs.Fields.{HoldsInts, IsIntsRefusal, ints_of};
+ghost use Rattle.sgb_arrays.specs.Given.{is_table, names_given};
 ghost use Rattle.sgb_arrays.specs.OpenGraphs.{IsFileRefusal};
 ghost use Rattle.sgb_arrays.specs.Runs.{AreNames, AreRows, AreTips, HaveNameLengths, HaveRowLengths, HaveTipLengths, IsFillRefusal, IsSizeRefusal, IsThere, parts_of};
 ghost use Rattle.sgb_graph.specs.Vertices.{name_at};
@@ -43,12 +45,12 @@ mod texts;
 
 use answers::Answer;
 use handles::GraphHandle;
-use sgb_arrays::{fill_draws, fill_uniform_draws};
+use sgb_arrays::{fill_draws, fill_name_lines, fill_uniform_draws};
 use std::alloc::Global;
 use texts::held_graph;
 
-// The version of the library, 1.1.0: 1000000 for each major number, 1000 for each minor one.
-const VERSION: u64 = 1_001_000;
+// The version of the library, 1.2.0: 1000000 for each major number, 1000 for each minor one.
+const VERSION: u64 = 1_002_000;
 
 /// How large a graph is.
 #[repr(C)]
@@ -280,6 +282,19 @@ pub extern "C" fn sgb_names(
     }
 }
 
+/// The names that arrays hold, as `sgb_names` fills these, as lines: each with a newline behind it.
+#[unsafe(no_mangle)]
+pub extern "C" fn sgb_name_lines(starts: &[u64], names: &[u8], lines: &mut [u8]) -> u64
+    ensures { ((result ≡ number_of Answer.Done) × (is_table (length names.now) starts.now ≡ true)
+        × (length lines.old ≡ length names.now + (length starts.now - 1))
+        × (lines.new ≡ flat_map (λ name. name ++ 10 ∷ []) (names_given starts.now names.now)))
+        ⊎ ((result ≡ number_of Answer.Length) × (lines.new ≡ lines.old)
+        × ((is_table (length names.now) starts.now ≡ true)
+        × (length lines.old ≡ length names.now + (length starts.now - 1)) → ⊥)) }
+{
+    Answer::of_filling(fill_name_lines(starts, names, lines)).number()
+}
+
 /// The integers in a utility field of the vertices of a run: of u v w x y z, from 0.
 #[unsafe(no_mangle)]
 pub extern "C" fn sgb_ints(
@@ -393,7 +408,7 @@ pub extern "C" fn sgb_uniform_draws(start: i64, skip: u64, m: u32, out: &mut [u3
 /// The version of the library: 1000000 times its major number, and 1000 times its minor one, and its patch.
 #[unsafe(no_mangle)]
 pub extern "C" fn sgb_version() -> u64
-    ensures { result ≡ 1_001_000 }
+    ensures { result ≡ 1_002_000 }
 {
     VERSION
 }
