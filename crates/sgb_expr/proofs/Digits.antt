@@ -1,11 +1,5 @@
 -- A reader of numbers in a radix.
-use Rattle.std.proofs.Common.{◌≡◌, ℕ, zero, suc, ◌<◌, ◌≤◌, ◌⊎◌, true, false, List, [], ◌∷◌, ◌++◌, length, Option, Some, None, Ok, Err, refl, sym, ◌∙◌, ap, inl, inr, arith}
-use Rattle.std.specs.Prelude.{drop, if◌then◌else◌, nat_lt, ok_or}
-use Rattle.std.specs.Char.{digit_value, is_digit}
-use Rattle.std.specs.Str.Parse.{AllDigits, digits_value}
-use Rattle.std.proofs.Math.Seq.{drop-append_seam}
-use Rattle.std.proofs.lemmas.Bool.{cases_lt, lt-ltb}
-use Rattle.std.proofs.lemmas.List.{nil_from_length}
+use Rattle.sgb_vec.proofs.Common.{◌≡◌, ℕ, zero, suc, ◌<◌, ◌≤◌, ◌⊎◌, true, false, List, [], ◌∷◌, ◌++◌, length, Option, Some, None, Ok, Err, refl, sym, ◌∙◌, ap, inl, inr, arith, drop, if◌then◌else◌, nat_lt, ok_or, digit_value, is_digit, AllDigits, digits_value, drop-append_seam, cases_lt, lt-ltb, nil_from_length}
 use Rattle.sgb_text.specs.Numbers.{IsNumber}
 use Rattle.sgb_vec.specs.Digits.{leading_digits, leading_number}
 use Rattle.sgb_vec.proofs.NamedNumbers.{first_byte}

@@ -1,8 +1,5 @@
 -- Readers of entries, integers and expressions, one after another to a `]`.
-use Rattle.std.proofs.Common.{◌≡◌, ◌≤◌, ◌<◌, ◌+◌, ◌&&◌, ◌==◌, ℕ, ℤ, pos, neg_ℤ, zero, suc, Bool, true, false, not, List, [], ◌∷◌, ◌++◌, length, min, codes, Result, Ok, Err, refl, sym, ◌∙◌, ap, subst, inl, inr, append_assoc, arith, lit≤}
-use Rattle.std.specs.Char.{is_digit}
-use Rattle.std.proofs.lemmas.Bool.{and_parts, not-true}
-use Rattle.std.proofs.lemmas.Bool.Decides.{eqb_tells}
+use Rattle.sgb_vec.proofs.Common.{◌≡◌, ◌≤◌, ◌<◌, ◌+◌, ◌&&◌, ◌==◌, ℕ, ℤ, pos, neg_ℤ, zero, suc, Bool, true, false, not, List, [], ◌∷◌, ◌++◌, length, min, codes, Result, Ok, Err, refl, sym, ◌∙◌, ap, subst, inl, inr, append_assoc, arith, lit≤, is_digit, and_parts, not-true, eqb_tells}
 use Rattle.sgb_expr.specs.Expression.{Expression, Entry}
 use Rattle.sgb_text.specs.Languages.{Fixed, Then, After, As, Or}
 use Rattle.sgb_expr.specs.Numbers.{IsInteger, most_digits}

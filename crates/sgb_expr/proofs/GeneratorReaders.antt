@@ -1,6 +1,5 @@
 -- Readers of argument lists, and of each generator's form.
-use Rattle.std.proofs.Common.{◌≤◌, ℕ, ℤ, zero, suc, List, [], ◌∷◌, ◌++◌, codes, sym, subst, lit≤}
-use Rattle.std.specs.Char.{digit_value}
+use Rattle.sgb_vec.proofs.Common.{◌≤◌, ℕ, ℤ, zero, suc, List, [], ◌∷◌, ◌++◌, codes, sym, subst, lit≤, digit_value}
 use Rattle.sgb_gen.specs.Shorthands.{complete, transitive, empty, circuit, cycle, disjoint_subsets, petersen}
 use Rattle.sgb_expr.specs.Numbers.{IsInteger}
 use Rattle.sgb_expr.specs.Forms.{AreArguments, AreSeparated, IsGeneratorCall, nth_number, board_params, simplex_params, subsets_params}

@@ -1,6 +1,5 @@
 -- Integers read one after another.
-use Rattle.std.proofs.Common.{◌<◌, ◌≤◌, ◌+◌, pos, nat_abs, length, take, set, get_or, append-nil, arith, ◌≡◌, ℕ, ℤ, suc, ◌-◌, List, [], ◌∷◌, ◌++◌, Result, Ok, Err, codes, sym, ◌∙◌, ap}
-use Rattle.std.proofs.lemmas.List.{take_all, take_more_set, get_or-set_same, get_or-set_other}
+use Rattle.sgb_vec.proofs.Common.{◌<◌, ◌≤◌, ◌+◌, pos, nat_abs, length, take, set, get_or, append-nil, arith, ◌≡◌, ℕ, ℤ, suc, ◌-◌, List, [], ◌∷◌, ◌++◌, Result, Ok, Err, codes, sym, ◌∙◌, ap, take_all, take_more_set, get_or-set_same, get_or-set_other}
 use Rattle.sgb_text.proofs.Readings.{◌>>=◌, fixed_at, read_after}
 use Rattle.sgb_expr.specs.inner.Readings.{integer_at, integers_at, separator_before}
 use Rattle.sgb_text.proofs.Readers.{bind_of, bind_stops, one_more, with_first}

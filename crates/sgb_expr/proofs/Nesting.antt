@@ -1,7 +1,5 @@
 -- Expressions inside expressions: their readers, and that as many levels as the text has bytes are enough.
-use Rattle.std.proofs.Common.{◌≡◌, ◌≤◌, ◌<◌, ◌&&◌, ℕ, zero, suc, Bool, true, List, [], ◌∷◌, ◌++◌, map, length, drop, get_or, cond, nat_eq, Ok, Err, refl, sym, ◌∙◌, ap, subst, inl, inr, arith, length-append, lit<}
-use Rattle.std.specs.Cmp.Lexicographic.{pointwise}
-use Rattle.std.proofs.lemmas.Bool.{and_parts, cases_lt}
+use Rattle.sgb_vec.proofs.Common.{◌≡◌, ◌≤◌, ◌<◌, ◌&&◌, ℕ, zero, suc, Bool, true, List, [], ◌∷◌, ◌++◌, map, length, drop, get_or, cond, nat_eq, Ok, Err, refl, sym, ◌∙◌, ap, subst, inl, inr, arith, length-append, lit<, pointwise, and_parts, cases_lt}
 use Rattle.sgb_expr.specs.Expression.{Expression}
 use Rattle.sgb_expr.specs.Expressions.{IsExpression, IsNested}
 use Rattle.sgb_text.specs.Languages.{As, Then}

@@ -1,7 +1,5 @@
 -- Readers of integers and bits.
-use Rattle.std.proofs.Common.{◌≡◌, ℕ, ℤ, pos, neg_ℤ, ◌<◌, ◌≤◌, List, [], ◌∷◌, ◌++◌, length, Some, Result, Ok, Err, codes, refl, sym, ◌∙◌, ap, subst, inl, inr, append_assoc, arith, length-append, lit<, lit≤, drop}
-use Rattle.std.specs.Char.{digit_value}
-use Rattle.std.specs.Str.Parse.{IsNumeral}
+use Rattle.sgb_vec.proofs.Common.{◌≡◌, ℕ, ℤ, pos, neg_ℤ, ◌<◌, ◌≤◌, List, [], ◌∷◌, ◌++◌, length, Some, Result, Ok, Err, codes, refl, sym, ◌∙◌, ap, subst, inl, inr, append_assoc, arith, length-append, lit<, lit≤, drop, digit_value, IsNumeral}
 use Rattle.sgb_text.specs.Numbers.{IsNumber}
 use Rattle.sgb_expr.specs.Numbers.{IsInteger, IsBits, most_digits}
 use Rattle.sgb_text.specs.Languages.{As}

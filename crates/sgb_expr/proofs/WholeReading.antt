@@ -1,9 +1,8 @@
 -- Whole texts read as expressions: what is read, and where a text goes wrong.
-use Rattle.std.proofs.Common.{◌≡◌, ◌≤◌, ◌+◌, ℕ, false, true≢false, List, ◌∷◌, length, take, ◌++◌, Result, Ok, Err, is_ok, refl, sym, ◌∙◌, ap, arith}
+use Rattle.std.proofs.Common.{◌≡◌, ◌≤◌, ◌+◌, ℕ, List, length, take, ◌++◌, Result, Ok, Err, sym, ◌∙◌, ap, arith}
 use Rattle.sgb_expr.specs.Expression.{Expression}
 use Rattle.sgb_expr.specs.Expressions.{IsExpression, IsNested}
-use Rattle.sgb_expr.specs.inner.Names.{generator_openings, openings}
-use Rattle.sgb_expr.specs.inner.Reading.{expression_at, nested_at, whole_at}
+use Rattle.sgb_expr.specs.inner.Reading.{nested_at, whole_at}
 use Rattle.sgb_text.proofs.Readings.{◌>>=◌, at_end, whole_by}
 use Rattle.sgb_expr.proofs.Nesting.{reads_nested, deep_enough, expression_nested}
 use Rattle.sgb_text.proofs.WholeWords.{GoesWrong, goes_wrong, whole_word, word_whole}
@@ -23,15 +22,6 @@ pub whole_again : (text : List ℕ) (e : Expression) → IsExpression text e →
 whole_again text e is =
     let depth = is.0 + length text in
     whole_same depth text (omega arith) ∙ whole_word (reads_nested depth) tt text e (deep_enough depth is.0 (omega arith) text e is.1)
-
--- no expression begins with a hyphen (45)
-hyphen_read : (rest : List ℕ) → is_ok (whole_at (45 ∷ rest)) ≡ false
-unfolding expression_at openings generator_openings
-hyphen_read rest = refl
-
-pub no_hyphen : (rest : List ℕ) (e : Expression) → IsExpression (45 ∷ rest) e → ⊥
-no_hyphen rest e is =
-    true≢false (sym (ap (λ (read : Result Expression ℕ). is_ok read) (whole_again (45 ∷ rest) e is)) ∙ hyphen_read rest)
 
 -- the longest prefix that begins an expression: no expression of any depth begins with more, since none does to a greater depth
 pub whole_wrong : (text : List ℕ) (left : ℕ) → whole_at text ≡ Err left → GoesWrong IsExpression text left

@@ -1,10 +1,5 @@
 -- Lemmas on the lines of a piece that is broken.
-use Rattle.std.specs.Prelude.{◌≡◌, ℕ, zero, suc, ◌+◌, ◌*◌, ◌<◌, ◌≤◌, List, [], ◌∷◌, ◌++◌, map, length, take, drop, refl}
-use Rattle.std.specs.List.{range_with_len}
-use Rattle.std.proofs.Common.{arith, ap, length-append, inl, inr}
-use Rattle.std.proofs.lemmas.List.{drop-drop, drop-append-le, take-append-le}
-use Rattle.std.proofs.Math.ListN.{length-drop}
-use Rattle.std.proofs.lemmas.Bool.{cases_lt}
+use Rattle.sgb_vec.proofs.Common.{arith, ap, length-append, inl, inr, ◌≡◌, ℕ, zero, suc, ◌+◌, ◌*◌, ◌<◌, ◌≤◌, List, [], ◌∷◌, ◌++◌, map, length, take, drop, refl, range_with_len, drop-drop, drop-append-le, take-append-le, length-drop, cases_lt}
 use Rattle.sgb_file.specs.Saving.{breaks_of}
 use Rattle.sgb_file.specs.inner.SavedLines.{broken_lines, last_part}
 

@@ -1,13 +1,7 @@
 -- Lemmas on the order of bytes in the checksum, and on the sum made byte by byte.
 use Rattle.std.specs.Prelude.{◌≡◌, ℕ, ◌+◌, ◌*◌, ◌/◌, ◌%◌, ◌^◌, ◌<◌, ◌≤◌, Bool, true, not, ◌&&◌, ◌||◌, List, [], ◌∷◌, length, take, fold, refl, nat_lt, ◌==◌, slice_index, slice_index_or as get_or}
-use Rattle.std.proofs.Common.{arith, ◌∙◌, rules}
-use Rattle.std.proofs.Math.Nat.{mul_assoc, mul_comm, add-mul, pow-suc, add-mul-mod_self_right, mod-add-div', mod-eq_of_lt, two-pow-succ}
-use Rattle.std.proofs.lemmas.List.{take_more}
-use Rattle.std.proofs.lemmas.List.Sums.{fold-append, prefix_len-le-length}
-use Rattle.std.proofs.lemmas.Nat.{mod_below}
-use Rattle.std.proofs.lemmas.Bool.Decides.{Decides-eqb, Decides-ltb, nat_tests}
+use Rattle.sgb_vec.proofs.Common.{arith, ◌∙◌, rules, mul_assoc, mul_comm, add-mul, pow-suc, add-mul-mod_self_right, mod-add-div', mod-eq_of_lt, two-pow-succ, take_more, fold-append, prefix_len-le-length, mod_below, Decides-eqb, Decides-ltb, nat_tests, get_or_default_zero}
 use Rattle.sgb_graph.proofs.TestLemmas.{at_each_below, both_first, both_second, where_passes}
-use Rattle.std.proofs.lemmas.Grind.{get_or_default_zero}
 use Rattle.sgb_file.specs.inner.Layouts.{checksum_after, checksum_from, place_of, places, value_after, value_from}
 use Rattle.sgb_file.specs.Checksum.{characters, checksum_prime, value_of_byte, is_character, weighted_sum}
 

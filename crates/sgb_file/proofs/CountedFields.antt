@@ -1,9 +1,6 @@
 -- Fields that the bytes before the first comma of a line say, found digit by digit, with the value of a checksum after them.
 use Rattle.std.specs.Prelude.{◌≡◌, ℕ, ℤ, neg_ℤ, pos, nat_le, ◌+◌, ◌*◌, ◌%◌, ◌^◌, ◌<◌, ◌≤◌, true, false, List, [], ◌∷◌, ◌++◌, length, take, drop, Option, Some, None, ◌==◌, refl, slice_index_or as get_or, suc, zero}
-use Rattle.std.proofs.Common.{rules, sym, ◌∙◌, arith, append_assoc, length-append, not}
-use Rattle.std.proofs.lemmas.List.{length-take, take_all, take-append-drop, drop-append-le, get_or-take}
-use Rattle.std.proofs.lemmas.List.Sums.{fold-append, prefix_len-le-length, AllPass-from_list_all, prefix_len_is, take_while-cons}
-use Rattle.std.proofs.lemmas.Bool.Decides.{nat_tests}
+use Rattle.sgb_vec.proofs.Common.{rules, sym, ◌∙◌, arith, append_assoc, length-append, not, length-take, take_all, take-append-drop, drop-append-le, get_or-take, fold-append, prefix_len-le-length, AllPass-from_list_all, prefix_len_is, take_while-cons, nat_tests, before_first, list_all, take_while, digits_value, and_parts}
 use Rattle.sgb_graph.specs.declared.fields.Ref.{Ref}
 use Rattle.sgb_graph.specs.declared.fields.Ref.TheVariants.{At}
 use Rattle.sgb_file.specs.Checksum.{checksum_prime, has_star}
@@ -12,9 +9,6 @@ use Rattle.sgb_file.specs.inner.FieldValues.{integer_of, number_below, number_of
 use Rattle.sgb_file.specs.inner.Found.{is_at_end}
 use Rattle.sgb_file.specs.inner.Layouts.{checksum_from, counted_bytes, value_after, value_from}
 use Rattle.sgb_file.specs.inner.LineRecords.{IsCountedField}
-use Rattle.std.specs.List.{before_first, list_all, take_while}
-use Rattle.std.specs.Str.Parse.{digits_value}
-use Rattle.std.proofs.lemmas.Bool.{and_parts}
 use Rattle.sgb_file.specs.inner.ReadFields.{plain_at}
 use Rattle.sgb_file.specs.inner.LinesLeft.{LinesLeft, text_left, skipped, has_no_newline}
 use Rattle.sgb_file.proofs.ChecksumLemmas.{byte_valued, digit_place, few_counted}

@@ -1,10 +1,5 @@
 -- Lemmas on the opening and the end of a file, in the words of the code.
-use Rattle.std.specs.Prelude.{if◌then◌else◌}
-use Rattle.std.proofs.Common.{◌≡◌, ◌<◌, ◌∙◌, ℕ, Bool, true, false, List, [], ◌∷◌, Some, None, length, take, drop, set, slice_index, ◌+◌, zero, suc, filter_map, refl, sym, ap, arith, Result, Ok, Err, inl}
-use Rattle.std.proofs.lemmas.Bool.Decides.{nat_tests}
-use Rattle.std.proofs.lemmas.List.{length-take, get_or-take, take_more, take_more_set, take_all}
-use Rattle.std.proofs.lemmas.List.Elements.{filter_map-append}
-use Rattle.std.specs.Result.{IsErrAnd}
+use Rattle.sgb_vec.proofs.Common.{◌≡◌, ◌<◌, ◌∙◌, ℕ, Bool, true, false, List, [], ◌∷◌, Some, None, length, take, drop, set, slice_index, ◌+◌, zero, suc, filter_map, refl, sym, ap, arith, Result, Ok, Err, inl, if◌then◌else◌, nat_tests, length-take, get_or-take, take_more, take_more_set, take_all, filter_map-append, IsErrAnd}
 use Rattle.sgb_graph.specs.declared.fields.Kind.{Kind}
 use Rattle.sgb_file.specs.FileLines.{lines_among, clean_lines, text_of_lines}
 use Rattle.sgb_file.specs.inner.LinesLeft.{lines_of_text, LinesLeft, text_left, next_begun, none_begun, lines_still, lines_passed}

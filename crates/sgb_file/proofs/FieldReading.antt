@@ -1,14 +1,5 @@
 -- The texts of fields: what they say as they are written, also with breaks, and where a plain text or a string ends.
-use Rattle.std.specs.Prelude.{◌≡◌, ◌≢◌, ℕ, zero, suc, ℤ, pos, negsuc, ◌+◌, ◌*◌, ◌^◌, ◌<◌, ◌≤◌, Bool, true, not, ◌||◌, List, [], ◌∷◌, ◌++◌, length, take, drop, codes, decimal, Option, Some, None, option_map, All, FitsSigned, nat_le, nat_lt, ◌==◌, refl}
-use Rattle.std.specs.Fmt.{signed_decimal}
-use Rattle.std.specs.Int.{w64}
-use Rattle.std.specs.List.{list_all, position_or_len}
-use Rattle.std.specs.Str.Parse.{AllDigits}
-use Rattle.std.proofs.Common.{rules, ap, ◌∙◌, append_assoc, append-nil, arith, length-append, take-append-drop}
-use Rattle.std.proofs.Math.Seq.{take-append_seam, drop-append-add}
-use Rattle.std.proofs.lemmas.Bool.{and_parts, and_from, not-true}
-use Rattle.std.proofs.lemmas.Bool.Decides.{nat_tests}
-use Rattle.std.proofs.lemmas.Fmt.{decimal_is_IsNumeral, length-decimal-le}
+use Rattle.sgb_vec.proofs.Common.{rules, ap, ◌∙◌, append_assoc, append-nil, arith, length-append, take-append-drop, ◌≡◌, ◌≢◌, ℕ, zero, suc, ℤ, pos, negsuc, ◌+◌, ◌*◌, ◌^◌, ◌<◌, ◌≤◌, Bool, true, not, ◌||◌, List, [], ◌∷◌, ◌++◌, length, take, drop, codes, decimal, Option, Some, None, option_map, All, FitsSigned, nat_le, nat_lt, ◌==◌, refl, signed_decimal, w64, list_all, position_or_len, AllDigits, take-append_seam, drop-append-add, and_parts, and_from, not-true, nat_tests, decimal_is_IsNumeral, length-decimal-le, AllPass-from_list_all, list_all-from_AllPass}
 use Rattle.std.proofs.lemmas.Str.Parse.{digit_at}
 use Rattle.sgb_text.proofs.Findings.{after_prefix}
 use Rattle.sgb_vec.specs.Names.{IsTextByte, is_text_byte}
@@ -21,7 +12,6 @@ use Rattle.sgb_file.specs.inner.FieldValues.{is_decimal_digit, number_of, number
 use Rattle.sgb_file.specs.inner.ReadFields.{string_at, plain_text}
 use Rattle.sgb_file.specs.Saving.{quoted, ref_text, record_number_text}
 use Rattle.sgb_file.proofs.LineLemmas.{is_line, is_one_line, is_within_line, ends_well, ends_well-last, list_all-drop, list_all-take, list_all-join}
-use Rattle.std.proofs.lemmas.List.Sums.{AllPass-from_list_all, list_all-from_AllPass}
 use Rattle.sgb_file.proofs.LeftTexts.{first_beyond, any_beyond}
 use Rattle.sgb_file.proofs.LaidOutText.{with_breaks, breaks_within}
 use Rattle.sgb_file.proofs.NumberReading.{number_tested, test_below}

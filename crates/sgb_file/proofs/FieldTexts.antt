@@ -1,9 +1,7 @@
 -- The texts of fields, laid out as pieces one after another.
-use Rattle.std.proofs.Common.{rules, ◌≡◌, ◌<◌, ◌≤◌, ◌+◌, ◌++◌, ℕ, Bool, true, false, List, [], ◌∷◌, Result, Ok, Err, length, drop, map, slice_index_or, refl, sym, subst, append-nil, Some, arith, slice_get}
+use Rattle.sgb_vec.proofs.Common.{rules, ◌≡◌, ◌<◌, ◌≤◌, ◌+◌, ◌++◌, ℕ, Bool, true, false, List, [], ◌∷◌, Result, Ok, Err, length, drop, map, slice_index_or, refl, sym, subst, append-nil, Some, arith, slice_get, flat_map, at_drop_more, drop_all}
 use Rattle.sgb_graph.specs.Columns.{util_seen}
 use Rattle.sgb_graph.specs.declared.fields.UtilRef.{UtilRef}
-use Rattle.std.specs.List.{flat_map}
-use Rattle.std.proofs.lemmas.List.{at_drop_more, drop_all}
 use Rattle.sgb_graph.specs.declared.fields.Util.{Util}
 use Rattle.sgb_graph.specs.declared.fields.Util.TheVariants.{Nothing}
 use Rattle.sgb_file.specs.Saving.{field_texts, pieces_of, laid_out}

@@ -1,10 +1,5 @@
 -- Fields and their texts: a field's reader finds exactly a text that stands for its value.
-use Rattle.std.specs.Prelude.{◌≡◌, ℕ, ℤ, ◌<◌, true, not, ◌&&◌, List, [], ◌∷◌, length, codes, Option, Some, None, nat_lt, ◌==◌, refl, ◌^◌, ◌≤◌, pos, neg_ℤ, nat_le, if◌then◌else◌}
-use Rattle.std.specs.List.{list_all, list_any, before_first, after_first}
-use Rattle.std.proofs.Common.{ap, sym, ◌∙◌, arith, append_assoc, inl, inr, rules}
-use Rattle.std.proofs.lemmas.Bool.{and_parts}
-use Rattle.std.proofs.lemmas.Bool.Decides.{nat_tests, Decides-eqb}
-use Rattle.std.proofs.lemmas.List.Sums.{list_all-from_AllPass, passes_at_first, split_at_first}
+use Rattle.sgb_vec.proofs.Common.{ap, sym, ◌∙◌, arith, append_assoc, inl, inr, rules, ◌≡◌, ℕ, ℤ, ◌<◌, true, not, ◌&&◌, List, [], ◌∷◌, length, codes, Option, Some, None, nat_lt, ◌==◌, refl, ◌^◌, ◌≤◌, pos, neg_ℤ, nat_le, if◌then◌else◌, list_all, list_any, before_first, after_first, and_parts, nat_tests, Decides-eqb, list_all-from_AllPass, passes_at_first, split_at_first, drop-append_seam}
 use Rattle.std.proofs.lemmas.Slice.Eq.{bytes_eq-Decides}
 use Rattle.sgb_text.proofs.Findings.{Found, after_prefix, taken_and_left, was_given, was_mapped, was_let_through, was_chosen, was_either, given}
 use Rattle.sgb_vec.specs.Limits.{most_bytes}
@@ -25,7 +20,6 @@ use Rattle.sgb_vec.specs.Names.{is_text_byte}
 use Rattle.sgb_file.proofs.FieldReading.{Ends, is_plain_byte, plain_begins, digits_are_plain, have_no_quote, string_says, digits_tested, integer_by_digits, plain_text_is}
 use Rattle.sgb_file.proofs.LeftTexts.{passes_within, prefix_passes}
 use Rattle.sgb_file.proofs.NumberReading.{number_says, all_digits, number_tested, test_below}
-use Rattle.std.proofs.Math.Seq.{drop-append_seam}
 
 -- digits
 pub digits_found : (most : ℕ) (text : List ℕ) (n : ℕ) → number_of most text ≡ Some n → IsNumber 10 most text n

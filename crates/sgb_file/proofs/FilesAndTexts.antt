@@ -1,14 +1,5 @@
 -- Files and their texts: their openings, their records and their closing lines are read exactly where they stand.
-use Rattle.std.specs.Prelude.{◌≡◌, ◌⊎◌, ℕ, ℤ, pos, neg_ℤ, ◌-◌, ◌<◌, Bool, true, false, List, [], ◌∷◌, ◌++◌, length, take, drop, codes, Option, Some, None, All, slice_index, ◌==◌, if◌then◌else◌, refl}
-use Rattle.std.specs.List.{list_all}
-use Rattle.std.specs.Option.{option_map_or}
-use Rattle.std.proofs.Common.{rules, ap, sym, ◌∙◌, append_assoc, arith, length-append, inl, inr, subst}
-use Rattle.std.proofs.Math.Seq.{take-append_seam}
-use Rattle.std.proofs.lemmas.Bool.{and_parts, and_from}
-use Rattle.std.proofs.lemmas.Bool.Decides.{nat_tests, Decides-eqb}
-use Rattle.std.proofs.lemmas.Grind.{flat_map-append}
-use Rattle.std.proofs.lemmas.List.Folds.{list_all-append}
-use Rattle.std.proofs.lemmas.List.Elements.{All-head, All-tail, All-cons, All-nil}
+use Rattle.sgb_vec.proofs.Common.{rules, ap, sym, ◌∙◌, append_assoc, arith, length-append, inl, inr, subst, ◌≡◌, ◌⊎◌, ℕ, ℤ, pos, neg_ℤ, ◌-◌, ◌<◌, Bool, true, false, List, [], ◌∷◌, ◌++◌, length, take, drop, codes, Option, Some, None, All, slice_index, ◌==◌, if◌then◌else◌, refl, list_all, option_map_or, take-append_seam, and_parts, and_from, nat_tests, Decides-eqb, flat_map-append, list_all-append, All-head, All-tail, All-cons, All-nil}
 use Rattle.sgb_text.proofs.Findings.{Found, after_prefix, prefix_is, was_given, was_mapped, was_either}
 use Rattle.sgb_vec.specs.Limits.{most_vertices}
 use Rattle.sgb_graph.specs.Graphs.{GraphData}

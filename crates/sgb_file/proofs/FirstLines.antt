@@ -1,12 +1,5 @@
 -- First lines: what one that is read says, and how its kinds and numbers are read.
-use Rattle.std.specs.Prelude.{◌≡◌, ℕ, ◌≤◌, true, false, List, [], ◌∷◌, ◌++◌, map, length, take, drop, codes, Some, filter_map, nat_le, ◌==◌, refl}
-use Rattle.std.specs.List.{prefix_len, list_all}
-use Rattle.std.proofs.Common.{rules, ap, sym, subst, ◌∙◌, arith}
-use Rattle.std.proofs.Math.Seq.{take-append_seam, drop-append_seam}
-use Rattle.std.proofs.lemmas.Bool.{and_parts}
-use Rattle.std.proofs.lemmas.Bool.Decides.{Decides-eqb, nat_tests}
-use Rattle.std.proofs.lemmas.List.{take-append-drop, length-map, length-take}
-use Rattle.std.proofs.lemmas.List.Sums.{take_while-cons}
+use Rattle.sgb_vec.proofs.Common.{rules, ap, sym, subst, ◌∙◌, arith, ◌≡◌, ℕ, ◌≤◌, true, false, List, [], ◌∷◌, ◌++◌, map, length, take, drop, codes, Some, filter_map, nat_le, ◌==◌, refl, prefix_len, list_all, take-append_seam, drop-append_seam, and_parts, Decides-eqb, nat_tests, take-append-drop, length-map, length-take, take_while-cons}
 use Rattle.sgb_text.proofs.Findings.{Found, after_prefix, prefix_is, taken_and_left, was_given, was_mapped, was_let_through}
 use Rattle.sgb_vec.specs.Limits.{most_vertices}
 use Rattle.sgb_graph.specs.declared.fields.Kind.{Kind}

@@ -1,7 +1,5 @@
 -- A text that is looked through sixteen elements at a time.
-use Rattle.std.proofs.Common.{rules, ◌≡◌, ◌+◌, ◌≤◌, ℕ, Bool, List, length, take, drop}
-use Rattle.std.specs.List.{position_or_len}
-use Rattle.std.proofs.lemmas.List.{take-append-drop, length-take}
+use Rattle.sgb_vec.proofs.Common.{rules, ◌≡◌, ◌+◌, ◌≤◌, ℕ, Bool, List, length, take, drop, position_or_len, take-append-drop, length-take}
 use Rattle.sgb_file.proofs.LeftTexts.{first_beyond, none_before}
 
 -- none of them passes

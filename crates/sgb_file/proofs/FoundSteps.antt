@@ -1,12 +1,8 @@
 -- Lemmas on readers one after another: a record is read field by field.
-use Rattle.std.specs.Prelude.{◌≡◌, ℕ, ℤ, ◌+◌, ◌<◌, ◌≤◌, true, false, List, [], ◌∷◌, ◌++◌, length, take, drop, codes, Option, Some, None, Err, option_map, refl}
-use Rattle.std.proofs.Common.{ap, sym, ◌∙◌, append_assoc, append-nil, arith, get_or, set, add-one}
-use Rattle.std.proofs.Math.Seq.{drop-cons}
-use Rattle.std.proofs.lemmas.List.{take_more_set, take_all, drop_all, set-get_or, get_or-set_other}
+use Rattle.sgb_vec.proofs.Common.{ap, sym, ◌∙◌, append_assoc, append-nil, arith, get_or, set, add-one, ◌≡◌, ℕ, ℤ, ◌+◌, ◌<◌, ◌≤◌, true, false, List, [], ◌∷◌, ◌++◌, length, take, drop, codes, Option, Some, None, Err, option_map, refl, drop-cons, take_more_set, take_all, drop_all, set-get_or, get_or-set_other, nat_tests}
 use Rattle.sgb_text.proofs.Findings.{Found, found_as, after_prefix, given}
 use Rattle.sgb_vec.specs.declared.panics.Panic.{Panic}
 use Rattle.sgb_vec.specs.declared.panics.Panic.TheVariants.{Syntax}
-use Rattle.std.proofs.lemmas.Bool.Decides.{nat_tests}
 use Rattle.sgb_graph.specs.Graphs.{GraphData}
 use Rattle.sgb_graph.specs.Growth.{graph_data}
 use Rattle.sgb_graph.specs.Ids.{most_id_bytes}

@@ -1,15 +1,9 @@
 -- Lines that are written one after another, with the checksum of those that count.
-use Rattle.std.proofs.Common.{arith, rules, ◌≡◌, ◌++◌, ℕ, true, false, List, [], ◌∷◌, Result, Ok, Err, refl, append_assoc, append-nil}
-use Rattle.std.proofs.lemmas.List.Concat.{flat_map-append}
-use Rattle.std.proofs.KnownBytes.{Appends-trans, Appends-nil}
-use Rattle.std.proofs.lemmas.List.Elements.{filter-append}
-use Rattle.std.proofs.lemmas.List.Sums.{fold-append}
+use Rattle.sgb_vec.proofs.Common.{arith, rules, ◌≡◌, ◌++◌, ℕ, true, false, List, [], ◌∷◌, Result, Ok, Err, refl, append_assoc, append-nil, flat_map-append, Appends-trans, Appends-nil, filter-append, fold-append, err_from_is_err_and, IsErrAnd}
 use Rattle.sgb_file.specs.FileLines.{text_of_lines}
 use Rattle.sgb_file.specs.Checksum.{has_star}
 use Rattle.sgb_file.specs.inner.Layouts.{checksum_after, checksum_from, counted_bytes, Stage, HasLaid, IsStopped, IsLaid, LinesSoFar}
 use Rattle.sgb_file.proofs.WrittenPrefixes.{prefix_more, prefix_after}
-use Rattle.std.proofs.lemmas.Result.{err_from_is_err_and}
-use Rattle.std.specs.Result.{IsErrAnd}
 
 -- the checksum after two texts
 pub checksum_from-append : (sum : ℕ) (xs ys : List ℕ) → checksum_from sum (xs ++ ys) ≡ checksum_from (checksum_from sum xs) ys

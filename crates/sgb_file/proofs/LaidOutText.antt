@@ -1,21 +1,12 @@
 -- Lemmas on the text of pieces that are laid out: what stands after a line's beginning.
-use Rattle.std.specs.Prelude.{◌≡◌, ℕ, zero, suc, ◌+◌, ◌*◌, ◌<◌, ◌≤◌, Bool, true, false, cond, not, List, [], ◌∷◌, ◌++◌, length, take, drop, ◌==◌, refl, ◌↔◌, All, nat_le}
-use Rattle.std.specs.List.{list_all}
-use Rattle.std.proofs.Common.{append_assoc, append-nil, arith, length-append, rules}
-use Rattle.std.proofs.lemmas.Bool.{and_parts, and_from}
-use Rattle.std.proofs.lemmas.Grind.{flat_map-append}
-use Rattle.std.proofs.lemmas.List.{take-append-le, drop-append-le, length-drop, length-take}
+use Rattle.sgb_vec.proofs.Common.{append_assoc, append-nil, arith, length-append, rules, ◌≡◌, ℕ, zero, suc, ◌+◌, ◌*◌, ◌<◌, ◌≤◌, Bool, true, false, cond, not, List, [], ◌∷◌, ◌++◌, length, take, drop, ◌==◌, refl, ◌↔◌, All, nat_le, list_all, and_parts, and_from, flat_map-append, take-append-le, drop-append-le, length-drop, length-take, AllPass-from_list_all, list_all-from_AllPass, list_all-append, nat_tests}
 use Rattle.sgb_file.specs.FileLines.{text_of_lines}
 use Rattle.sgb_file.specs.Saving.{breaks_of, laid_out, pieces_of, record_lines, most_file_line_bytes, part_from_break}
 use Rattle.sgb_file.specs.inner.SavedLines.{broken_lines, last_part, fits_on, line_begun}
 use Rattle.sgb_file.specs.inner.Layouts.{has_any, piece_of}
 use Rattle.sgb_file.proofs.BrokenLines.{breaks-long, breaks-short, broken-long, broken-short, last-long, last-short}
 use Rattle.sgb_file.proofs.LineLemmas.{no_bytes, is_line, is_one_line, is_within_line, ends_well, ends_well-last, line-append, line-drop, list_all-take, list_all-join}
-use Rattle.std.proofs.Math.ListN.{length-drop}
-use Rattle.std.proofs.lemmas.List.Sums.{AllPass-from_list_all, list_all-from_AllPass}
-use Rattle.std.proofs.lemmas.List.Folds.{list_all-append}
 use Rattle.sgb_graph.proofs.Lists.{list_all-made}
-use Rattle.std.proofs.lemmas.Bool.Decides.{nat_tests}
 
 -- the line has at most 79 bytes
 abbrev pub is_short : List ℕ → Bool

@@ -1,13 +1,5 @@
 -- Lemmas on the text that is left of a file's lines.
-use Rattle.std.specs.Prelude.{◌≡◌, ℕ, ◌+◌, ◌<◌, ◌≤◌, Bool, true, not, ◌||◌, List, [], ◌∷◌, ◌++◌, length, take, drop, codes, Some, None, ◌==◌, slice_get, refl}
-use Rattle.std.specs.List.{list_any, list_all, position_or_len, prefix_len, before_first}
-use Rattle.std.specs.Option.{option_map_or}
-use Rattle.std.proofs.Common.{rules, ap, sym, ◌∙◌, append_assoc, arith}
-use Rattle.std.proofs.lemmas.Bool.{and_parts, not-true}
-use Rattle.std.proofs.lemmas.Bool.Decides.{nat_tests}
-use Rattle.std.proofs.lemmas.List.{drop-append-le, get_or-take, take-append-le, length-take}
-use Rattle.std.proofs.lemmas.List.Folds.{prefix_len-append}
-use Rattle.std.proofs.lemmas.List.Sums.{fails_before_first, list_all-from_AllPass, prefix_len-le-length, prefix_len_passes}
+use Rattle.sgb_vec.proofs.Common.{rules, ap, sym, ◌∙◌, append_assoc, arith, ◌≡◌, ℕ, ◌+◌, ◌<◌, ◌≤◌, Bool, true, not, ◌||◌, List, [], ◌∷◌, ◌++◌, length, take, drop, codes, Some, None, ◌==◌, slice_get, refl, list_any, list_all, position_or_len, prefix_len, before_first, option_map_or, and_parts, not-true, nat_tests, drop-append-le, get_or-take, take-append-le, length-take, prefix_len-append, fails_before_first, list_all-from_AllPass, prefix_len-le-length, prefix_len_passes}
 use Rattle.sgb_text.proofs.Findings.{after_prefix}
 use Rattle.sgb_file.specs.FileLines.{text_of_lines}
 use Rattle.sgb_file.specs.inner.ReadFields.{plain_text}

@@ -1,12 +1,5 @@
 -- Lemmas on lines that are written one after another: they are the lines that are read.
-use Rattle.std.specs.Prelude.{◌≡◌, ℕ, Bool, true, false, not, ◌&&◌, List, [], ◌∷◌, ◌++◌, length, take, drop, ◌==◌, refl, zero, suc}
-use Rattle.std.specs.List.{list_all, slice_split}
-use Rattle.std.proofs.Common.{ap, sym, ◌∙◌, append_assoc, append-nil, arith, rules}
-use Rattle.std.proofs.lemmas.Bool.{and_parts, and_from, not-true}
-use Rattle.std.proofs.lemmas.List.Elements.{All-drop, All-take}
-use Rattle.std.proofs.lemmas.List.Folds.{list_all-append}
-use Rattle.std.proofs.lemmas.List.Sums.{AllPass-from_list_all, list_all-from_AllPass}
-use Rattle.std.proofs.lemmas.Bool.Decides.{nat_tests, Decides-eqb}
+use Rattle.sgb_vec.proofs.Common.{ap, sym, ◌∙◌, append_assoc, append-nil, arith, rules, ◌≡◌, ℕ, Bool, true, false, not, ◌&&◌, List, [], ◌∷◌, ◌++◌, length, take, drop, ◌==◌, refl, zero, suc, list_all, slice_split, and_parts, and_from, not-true, All-drop, All-take, list_all-append, AllPass-from_list_all, list_all-from_AllPass, nat_tests, Decides-eqb}
 use Rattle.sgb_graph.proofs.Lists.{list_all-mapped}
 use Rattle.sgb_file.specs.FileLines.{lines_among, without_end_spaces, clean_lines, text_of_lines}
 use Rattle.sgb_file.specs.inner.LinesLeft.{lines_of_text}

@@ -1,8 +1,6 @@
 -- Records that are one line: their fields are read of the line alone, with the value of a checksum after them.
 use Rattle.std.specs.Prelude.{◌≡◌, ◌==◌, ◌≤◌, ◌<◌, ◌++◌, ◌%◌, ◌^◌, ℕ, ℤ, true, not, List, [], ◌∷◌, length, drop, Option, Some, None, refl, ◌+◌, ◌-◌, suc, take, IfSome, slice_index_or as get_or}
-use Rattle.std.proofs.Common.{ap, sym, ◌∙◌, arith, append_assoc}
-use Rattle.std.proofs.lemmas.Bool.{and_parts}
-use Rattle.std.proofs.lemmas.List.{drop_all, drop-append-le, drop_more, length-drop, take-append-drop}
+use Rattle.sgb_vec.proofs.Common.{ap, sym, ◌∙◌, arith, append_assoc, and_parts, drop_all, drop-append-le, drop_more, length-drop, take-append-drop, nat_tests, list_all-from_AllPass}
 use Rattle.sgb_text.proofs.Findings.{found_as}
 use Rattle.sgb_graph.specs.declared.fields.Ref.{Ref}
 use Rattle.sgb_graph.specs.declared.fields.Kind.{Kind}
@@ -31,8 +29,6 @@ use Rattle.sgb_file.proofs.LeftTexts.{next_left, no_line_end, under_way}
 use Rattle.sgb_file.proofs.LineLemmas.{list_all-drop}
 use Rattle.sgb_file.proofs.LaidLines.{checksum-counted, checksum_from-append}
 use Rattle.sgb_file.proofs.StringReading.{has_quote, last_part, opened}
-use Rattle.std.proofs.lemmas.Bool.Decides.{nat_tests}
-use Rattle.std.proofs.lemmas.List.Sums.{list_all-from_AllPass}
 
 -- what follows a comma in a line has no newline either
 pub rest_of_line : (line rest : List ℕ) (k : ℕ) → has_no_newline line ≡ true → drop k line ≡ 44 ∷ rest → has_no_newline rest ≡ true

@@ -1,14 +1,6 @@
 -- Lemmas on the lines that are left of a file: their checksum, and that a line has no newlines.
-use Rattle.std.proofs.Common.{rules, ◌≡◌, ◌<◌, ◌≤◌, ◌++◌, ℕ, Bool, true, false, Bor, List, [], ◌∷◌, Option, Some, None, length, take, drop, slice_index, ◌&&◌, ◌+◌, ◌-◌, ◌≢◌, unwrap_or, cond, ◌==◌, refl, ap, append_assoc, length-append, slice_get, suc, arith, nat_lt, IsTrue, IfSome, option_map}
-use Rattle.std.specs.List.{list_all, position_or_len, position, before_first, after_first}
-use Rattle.std.proofs.lemmas.List.{drop_more, drop_all, take-append-drop, take_all, length-drop}
-use Rattle.std.proofs.lemmas.List.Folds.{list_all-append}
+use Rattle.sgb_vec.proofs.Common.{rules, ◌≡◌, ◌<◌, ◌≤◌, ◌++◌, ℕ, Bool, true, false, Bor, List, [], ◌∷◌, Option, Some, None, length, take, drop, slice_index, ◌&&◌, ◌+◌, ◌-◌, ◌≢◌, unwrap_or, cond, ◌==◌, refl, ap, append_assoc, length-append, slice_get, suc, arith, nat_lt, IsTrue, IfSome, option_map, list_all, position_or_len, position, before_first, after_first, drop_more, drop_all, take-append-drop, take_all, length-drop, list_all-append, fails_before_first, prefix_len-le-length, All-from_get_or, take-append_seam, and_parts, nat_tests}
 use Rattle.std.proofs.lemmas.List.Splits.{slice_split_first, slice_split_none}
-use Rattle.std.proofs.lemmas.List.Sums.{fails_before_first, prefix_len-le-length}
-use Rattle.std.proofs.lemmas.List.Elements.{All-from_get_or}
-use Rattle.std.proofs.Math.Seq.{take-append_seam}
-use Rattle.std.proofs.lemmas.Bool.{and_parts}
-use Rattle.std.proofs.lemmas.Bool.Decides.{nat_tests}
 use Rattle.sgb_file.specs.FileLines.{lines_among, clean_lines, text_of_lines, without_end_spaces}
 use Rattle.sgb_file.specs.inner.LinesLeft.{lines_of_text, IsWhole, lines_passed, text_left, next_begun, has_no_newline, HasPassed, AreLinesLeft, lines_left, lines_still}
 use Rattle.sgb_file.specs.Checksum.{checksum_of_lines}

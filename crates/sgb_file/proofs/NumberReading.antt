@@ -1,16 +1,6 @@
 -- Lemmas on numbers that are read digit by digit.
-use Rattle.std.specs.Prelude.{◌≡◌, zero, suc, drop, None, refl, ℕ, ◌+◌, ◌-◌, ◌*◌, ◌^◌, ◌<◌, ◌≤◌, true, List, [], ◌∷◌, Option, Some, length, take, nat_le, nat_lt}
-use Rattle.std.specs.Char.{is_digit}
-use Rattle.std.specs.List.{list_all, take_while}
-use Rattle.std.specs.Str.Parse.{AllDigits, digits_value}
-use Rattle.std.proofs.Common.{get_or, inl, inr, arith, sym, ◌∙◌}
-use Rattle.std.proofs.lemmas.Bool.{and_parts, and_from, cases_lt, lt-ltb, le-ltb}
-use Rattle.std.proofs.lemmas.List.{length-take, length-drop, drop_all, nil_from_length}
-use Rattle.std.proofs.lemmas.List.Sums.{take_while-cons}
-use Rattle.std.proofs.lemmas.List.Folds.{list_all_more}
-use Rattle.std.proofs.lemmas.Bool.Decides.{nat_tests}
+use Rattle.sgb_vec.proofs.Common.{get_or, inl, inr, arith, sym, ◌∙◌, ◌≡◌, zero, suc, drop, None, refl, ℕ, ◌+◌, ◌-◌, ◌*◌, ◌^◌, ◌<◌, ◌≤◌, true, List, [], ◌∷◌, Option, Some, length, take, nat_le, nat_lt, is_digit, list_all, take_while, AllDigits, digits_value, and_parts, and_from, cases_lt, lt-ltb, le-ltb, length-take, length-drop, drop_all, nil_from_length, take_while-cons, list_all_more, nat_tests, pow-le-pow_right}
 use Rattle.std.proofs.lemmas.Int.Digits.{digits_value_more, digits_value-lt}
-use native.Mathlib.Nat.{pow-le-pow_right}
 use Rattle.sgb_vec.specs.Digits.{leading_digits, leading_number}
 use Rattle.sgb_vec.proofs.NamedNumbers.{first_byte, leading_of_digits}
 use Rattle.sgb_file.specs.inner.FieldValues.{is_decimal_digit, number_of}

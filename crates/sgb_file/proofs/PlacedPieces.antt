@@ -1,6 +1,5 @@
 -- Bytes that are put on lines, and pieces that are laid out, one after another.
-use Rattle.std.proofs.Common.{rules, ◌≡◌, ◌≤◌, ◌++◌, ◌∙◌, ℕ, Bool, true, false, List, [], ◌∷◌, Result, Ok, Err, length, take, drop, ◌+◌, refl, sym, ap, append_assoc, append-nil, arith, length-append}
-use Rattle.std.proofs.lemmas.List.{take-append-drop}
+use Rattle.std.proofs.Common.{rules, ◌≡◌, ◌≤◌, ◌++◌, ◌∙◌, ℕ, Bool, true, false, List, [], ◌∷◌, Result, Ok, Err, length, take, drop, ◌+◌, refl, sym, ap, append_assoc, append-nil, arith, length-append, take-append-drop}
 use Rattle.sgb_file.specs.inner.SavedLines.{broken_lines, last_part, fits_on, lines_ended, line_begun}
 use Rattle.sgb_file.specs.inner.Layouts.{Stage, HasLaid, IsStopped, IsFilled, IsPlaced, lines_before}
 use Rattle.sgb_file.proofs.BrokenLines.{broken-short, last-short, broken-once, last-once, broken-append, last-append}

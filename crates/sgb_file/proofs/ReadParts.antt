@@ -1,9 +1,5 @@
 -- What is read of a file's records: fields that fit their kinds, texts and numbers within their limits.
-use Rattle.std.specs.Prelude.{◌≡◌, ℕ, ◌<◌, ◌≤◌, true, List, [], ◌∷◌, length, get_or, Some, Ok, Err, All, if◌then◌else◌, refl}
-use Rattle.std.proofs.Common.{sym, subst, ◌∙◌, arith}
-use Rattle.std.proofs.lemmas.Bool.{and_from}
-use Rattle.std.proofs.lemmas.List.Elements.{All-cons, All-nil}
-use Rattle.std.proofs.lemmas.List.Sums.{AllPass-from_list_all, list_all-from_AllPass}
+use Rattle.sgb_vec.proofs.Common.{sym, subst, ◌∙◌, arith, ◌≡◌, ℕ, ◌<◌, ◌≤◌, true, List, [], ◌∷◌, length, get_or, Some, Ok, Err, All, if◌then◌else◌, refl, and_from, All-cons, All-nil, AllPass-from_list_all, list_all-from_AllPass}
 use Rattle.sgb_text.proofs.Findings.{Found}
 use Rattle.sgb_vec.specs.Limits.{most_vertices}
 use Rattle.sgb_vec.specs.Names.{IsTextByte, is_text_byte}

@@ -1,8 +1,5 @@
 -- A section of a file: its title, and records that are written one after another, or put together before they are written.
-use Rattle.std.proofs.Common.{◌≡◌, ◌<◌, ◌+◌, ◌++◌, ℕ, true, List, [], ◌∷◌, Some, Result, Ok, Err, refl, append-nil, length, drop, slice_get, arith, false, Option}
-use Rattle.std.specs.Io.KnownBytes.{Appends}
-use Rattle.std.proofs.lemmas.List.{at_drop_more}
-use Rattle.std.proofs.lemmas.Option.{get_or_from_slice_get}
+use Rattle.sgb_vec.proofs.Common.{◌≡◌, ◌<◌, ◌+◌, ◌++◌, ℕ, true, List, [], ◌∷◌, Some, Result, Ok, Err, refl, append-nil, length, drop, slice_get, arith, false, Option, Appends, at_drop_more, get_or_from_slice_get}
 use Rattle.sgb_file.specs.Checksum.{has_star}
 use Rattle.sgb_file.specs.Devices.{AppendsPrefix}
 use Rattle.sgb_file.specs.Saving.{laid_out, pieces_of, record_lines, quoted, record_number_text}

@@ -1,7 +1,5 @@
 -- Records and their texts: a record's reader finds exactly a record of these values.
-use Rattle.std.specs.Prelude.{◌≡◌, ◌==◌, ℕ, List, [], ◌∷◌, ◌++◌, length, codes, Option, Some, None, option_map, if◌then◌else◌, refl}
-use Rattle.std.proofs.Common.{arith, sym, subst, inl, inr, ◌⊎◌}
-use Rattle.std.proofs.lemmas.Bool.Decides.{Decides-eqb, nat_tests}
+use Rattle.sgb_vec.proofs.Common.{arith, sym, subst, inl, inr, ◌⊎◌, ◌≡◌, ◌==◌, ℕ, List, [], ◌∷◌, ◌++◌, length, codes, Option, Some, None, option_map, if◌then◌else◌, refl, Decides-eqb, nat_tests}
 use Rattle.sgb_text.specs.Languages.{As, Each, Fixed, Then}
 use Rattle.sgb_text.proofs.Readers.{Anything}
 use Rattle.sgb_text.proofs.Finders.{AreSoMany, Finds, From, StandsIn, found_with, rest_alone, finds_all, finds_as, finds_cons, finds_fixed, finds_from, finds_is, finds_prefix, finds_then, tested}

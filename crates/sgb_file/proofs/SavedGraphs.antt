@@ -1,11 +1,6 @@
 -- Graphs that can be saved: the fields of their records, and what is found so an element at a time.
-use Rattle.std.specs.Prelude.{◌^◌, ◌≡◌, ℕ, suc, ◌+◌, ◌<◌, ◌≤◌, true, List, [], ◌∷◌, length, get_or, Some, slice_get, All, refl}
-use Rattle.std.proofs.Common.{rules, arith, length-drop}
+use Rattle.sgb_vec.proofs.Common.{rules, arith, length-drop, ◌^◌, ◌≡◌, ℕ, suc, ◌+◌, ◌<◌, ◌≤◌, true, List, [], ◌∷◌, length, get_or, Some, slice_get, All, refl, and_parts, cases_lt, All-cons, All-nil, slice_get-get_or, AllPass-from_list_all}
 use Rattle.std.proofs.Math.Bool.{and_assoc}
-use Rattle.std.proofs.lemmas.Bool.{and_parts, cases_lt}
-use Rattle.std.proofs.lemmas.List.Elements.{All-cons, All-nil}
-use Rattle.std.proofs.lemmas.Option.{slice_get-get_or}
-use Rattle.std.proofs.lemmas.List.Sums.{AllPass-from_list_all}
 use Rattle.sgb_vec.specs.Limits.{most_vertices}
 use Rattle.sgb_graph.specs.Graphs.{GraphData}
 use Rattle.sgb_graph.specs.Ids.{IsId}

@@ -1,8 +1,5 @@
 -- Lemmas on the sections of a file, in the words of the code.
-use Rattle.std.proofs.Common.{◌≡◌, ◌++◌, ◌<◌, ◌-◌, ◌+◌, ℕ, suc, true, List, [], ◌∷◌, Option, Some, None, Err, refl, append_assoc, append-nil, arith, codes, ◌==◌}
-use Rattle.std.specs.List.{starts_with}
-use Rattle.std.proofs.lemmas.Bool.{and_parts, not-true}
-use Rattle.std.proofs.lemmas.Bool.Decides.{nat_tests}
+use Rattle.sgb_vec.proofs.Common.{◌≡◌, ◌++◌, ◌<◌, ◌-◌, ◌+◌, ℕ, suc, true, List, [], ◌∷◌, Option, Some, None, Err, refl, append_assoc, append-nil, arith, codes, ◌==◌, starts_with, and_parts, not-true, nat_tests}
 use Rattle.sgb_text.proofs.Findings.{Found, found_as, after_prefix, all_at, prefix_read, was_mapped, given}
 use Rattle.sgb_graph.specs.Graphs.{GraphData}
 use Rattle.sgb_graph.specs.Parts.{with_vertex, with_record}

@@ -1,12 +1,6 @@
 -- Short lines that are put together: bytes after bytes, and the checksum that comes of the value.
 use Rattle.std.specs.Prelude.{◌≡◌, ℕ, ◌+◌, ◌*◌, ◌/◌, ◌%◌, ◌^◌, ◌<◌, ◌≤◌, false, List, [], ◌∷◌, ◌++◌, codes, decimal, length, take, slice_index_or as get_or, set, refl, Option, Some, None, IfSome}
-use Rattle.std.proofs.Common.{rules, arith, ap, sym, ◌∙◌, append_assoc, append-nil, length-append, ◌≡◌, ◌≤◌, ◌<◌, ◌+◌, ◌/◌, ◌%◌, ◌^◌, ◌∷◌, [], ◌++◌, ℕ, decimal}
-use Rattle.std.proofs.Math.Nat.{mod-eq_of_lt}
-use Rattle.std.proofs.lemmas.Bool.Decides.{nat_tests}
-use Rattle.std.proofs.lemmas.List.{length-take, take_more, take_more_set}
-use Rattle.std.proofs.lemmas.List.Sums.{fold-append}
-use Rattle.std.proofs.lemmas.Fmt.{length-decimal-le, decimal_digit, decimal_step}
-use Rattle.std.proofs.lemmas.Nat.{mod_below}
+use Rattle.sgb_vec.proofs.Common.{rules, arith, ap, sym, ◌∙◌, append_assoc, append-nil, length-append, ◌≡◌, ◌≤◌, ◌<◌, ◌+◌, ◌/◌, ◌%◌, ◌^◌, ◌∷◌, [], ◌++◌, ℕ, decimal, mod-eq_of_lt, nat_tests, length-take, take_more, take_more_set, fold-append, length-decimal-le, decimal_digit, decimal_step, mod_below}
 use Rattle.sgb_file.specs.Checksum.{checksum_prime, has_star}
 use Rattle.sgb_file.specs.Saving.{laid_out, pieces_of, quoted, record_lines, record_number_text}
 use Rattle.sgb_file.specs.inner.Layouts.{HasLaid, checksum_from, place_of, value_from}

@@ -1,7 +1,5 @@
 -- A text written part by part: what was written so far, and what is left.
-use Rattle.std.proofs.Common.{rules, ◌≡◌, ◌++◌, ℕ, List, [], Option, refl, append_assoc, append-nil}
-use Rattle.std.specs.Io.KnownBytes.{Appends}
-use Rattle.std.proofs.KnownBytes.{Appends-trans, Appends-nil}
+use Rattle.sgb_vec.proofs.Common.{rules, ◌≡◌, ◌++◌, ℕ, List, [], Option, refl, append_assoc, append-nil, Appends, Appends-trans, Appends-nil}
 use Rattle.sgb_file.specs.Devices.{AppendsPrefix}
 use Rattle.sgb_file.proofs.WrittenPrefixes.{prefix_more, prefix_after}
 

@@ -1,12 +1,5 @@
 -- Lemmas on strings that are read part by part, each on a line.
-use Rattle.std.specs.Prelude.{◌≡◌, ℕ, zero, suc, ◌+◌, ◌-◌, ◌<◌, Bool, true, false, not, List, [], ◌∷◌, ◌++◌, length, take, drop, Some, None, ◌==◌, ◌↔◌, Result, IfOk, IsErrOf, IsOkUnless, slice_index_or, refl}
-use Rattle.std.specs.List.{list_all, position, position_or_len, after_first}
-use Rattle.std.proofs.Common.{ap, ◌∙◌, append_assoc, arith}
-use Rattle.std.proofs.Math.Seq.{take-append-add, drop-append-add}
-use Rattle.std.proofs.lemmas.Bool.{and_parts, not-true}
-use Rattle.std.proofs.lemmas.Bool.Decides.{nat_tests}
-use Rattle.std.proofs.lemmas.List.{take-append-le}
-use Rattle.std.proofs.lemmas.List.Sums.{AllPass-from_list_all, list_all-from_AllPass}
+use Rattle.sgb_vec.proofs.Common.{ap, ◌∙◌, append_assoc, arith, ◌≡◌, ℕ, zero, suc, ◌+◌, ◌-◌, ◌<◌, Bool, true, false, not, List, [], ◌∷◌, ◌++◌, length, take, drop, Some, None, ◌==◌, ◌↔◌, Result, IfOk, IsErrOf, IsOkUnless, slice_index_or, refl, list_all, position, position_or_len, after_first, take-append-add, drop-append-add, and_parts, not-true, nat_tests, take-append-le, AllPass-from_list_all, list_all-from_AllPass, list_all-append}
 use Rattle.sgb_text.proofs.Findings.{after_prefix, was_let_through}
 use Rattle.sgb_vec.specs.Limits.{most_bytes}
 use Rattle.sgb_vec.specs.Names.{IsText, is_text_byte}
@@ -19,7 +12,6 @@ use Rattle.sgb_file.specs.inner.Found.{IsFoundBy, IsPartOf, IsNoString, goes_on,
 use Rattle.sgb_file.specs.inner.LinesLeft.{has_no_newline}
 use Rattle.sgb_file.proofs.LineLemmas.{list_all-take}
 use Rattle.sgb_file.proofs.LeftTexts.{none_before, first_beyond, any_beyond, first_within, any_within}
-use Rattle.std.proofs.lemmas.List.Folds.{list_all-append}
 
 abbrev pub is_quote : ℕ → Bool
 is_quote b = b == 34

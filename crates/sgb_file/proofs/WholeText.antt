@@ -1,6 +1,5 @@
 -- The text of a graph in three parts, and what stands in each.
-use Rattle.std.proofs.Common.{◌≡◌, ◌+◌, ◌*◌, ◌%◌, ◌^◌, ◌++◌, ◌∙◌, ℕ, List, [], ◌∷◌, length, map, codes, decimal, ap, append_assoc, append-nil, arith}
-use Rattle.std.proofs.lemmas.List.Concat.{flat_map-append}
+use Rattle.sgb_vec.proofs.Common.{◌≡◌, ◌+◌, ◌*◌, ◌%◌, ◌^◌, ◌++◌, ◌∙◌, ℕ, List, [], ◌∷◌, length, map, codes, decimal, ap, append_assoc, append-nil, arith, flat_map-append}
 use Rattle.sgb_graph.specs.Graphs.{GraphData}
 use Rattle.sgb_graph.specs.Kinds.{letter_of}
 use Rattle.sgb_file.specs.FileLines.{text_of_lines}

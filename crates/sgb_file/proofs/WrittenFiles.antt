@@ -1,11 +1,5 @@
 -- Lemmas on whole files: no newline is in the lines of a graph, no space is at their ends, and what is written is a file of it.
-use Rattle.std.specs.Prelude.{◌≡◌, ℕ, ◌^◌, ◌<◌, true, not, List, [], ◌∷◌, ◌++◌, length, codes, decimal, filter, refl, map, All}
-use Rattle.std.specs.List.{list_all, flat_map}
-use Rattle.std.proofs.Common.{ap, ◌∙◌, append_assoc, append-nil, arith, rules}
-use Rattle.std.proofs.lemmas.Bool.{and_from, and_parts}
-use Rattle.std.proofs.lemmas.Grind.{flat_map-append}
-use Rattle.std.proofs.lemmas.List.Elements.{All-nil, All-head, All-tail}
-use Rattle.std.proofs.lemmas.Nat.{mod_below}
+use Rattle.sgb_vec.proofs.Common.{ap, ◌∙◌, append_assoc, append-nil, arith, rules, ◌≡◌, ℕ, ◌^◌, ◌<◌, true, not, List, [], ◌∷◌, ◌++◌, length, codes, decimal, filter, refl, map, All, list_all, flat_map, and_from, and_parts, flat_map-append, All-nil, All-head, All-tail, mod_below, decimal_is_IsNumeral, list_all-append, AllPass-from_list_all, list_all-from_AllPass}
 use Rattle.sgb_graph.specs.Graphs.{GraphData}
 use Rattle.sgb_graph.specs.declared.fields.Kind.TheVariants.{S, V, Z}
 use Rattle.sgb_graph.specs.declared.fields.Util.TheVariants.{Int, Vertex as VertexField, Str, Chain}
@@ -24,9 +18,6 @@ use Rattle.sgb_file.proofs.FieldReading.{number_read, decimal_is_line, quoted_is
 use Rattle.sgb_file.proofs.WrittenRecords.{fields_stand, graph_written, all_written, field_of}
 use Rattle.sgb_file.proofs.SavedGraphs.{IsReady, VertexFits, ArcFits, ready, AreSmall, FieldsFit, fields_of_vertex, fields_of_arc}
 use Rattle.sgb_file.proofs.FieldsAndTexts.{digits_found}
-use Rattle.std.proofs.lemmas.Fmt.{decimal_is_IsNumeral}
-use Rattle.std.proofs.lemmas.List.Folds.{list_all-append}
-use Rattle.std.proofs.lemmas.List.Sums.{AllPass-from_list_all, list_all-from_AllPass}
 use Rattle.sgb_vec.proofs.Lists.{All-flat_map}
 use Rattle.sgb_graph.specs.Sound.{util_fits, utils_fit, graph_kinds}
 use Rattle.sgb_graph.specs.declared.fields.Kind.{Kind}

@@ -1,7 +1,5 @@
 -- Prefixes of texts, written one after the other.
-use Rattle.std.proofs.Common.{◌++◌, ℕ, Bool, List, [], Option, Result, Ok, Err, refl, sym, ap, ◌∙◌, append_assoc, append-nil, arith}
-use Rattle.std.specs.Io.KnownBytes.{Appends}
-use Rattle.std.proofs.KnownBytes.{Appends-trans, Appends-nil}
+use Rattle.sgb_vec.proofs.Common.{◌++◌, ℕ, Bool, List, [], Option, Result, Ok, Err, refl, sym, ap, ◌∙◌, append_assoc, append-nil, arith, Appends, Appends-trans, Appends-nil}
 use Rattle.sgb_file.specs.Devices.{AppendsPrefix, AppendsUnlessFailed, Change, IsPut}
 
 -- a whole text is a prefix of itself

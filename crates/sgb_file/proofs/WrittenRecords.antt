@@ -1,10 +1,5 @@
 -- The records of a file as they are written: each is a record of the graph's, with breaks in its texts.
-use Rattle.std.specs.Prelude.{◌≡◌, ℕ, Bool, true, cond, List, [], ◌∷◌, ◌++◌, length, codes, decimal, Option, Some, All, refl}
-use Rattle.std.specs.Fmt.{signed_decimal}
-use Rattle.std.specs.List.{flat_map}
-use Rattle.std.proofs.Common.{arith}
-use Rattle.std.proofs.lemmas.Bool.{and_parts}
-use Rattle.std.proofs.lemmas.List.Elements.{All-head, All-tail}
+use Rattle.sgb_vec.proofs.Common.{arith, ◌≡◌, ℕ, Bool, true, cond, List, [], ◌∷◌, ◌++◌, length, codes, decimal, Option, Some, All, refl, signed_decimal, flat_map, and_parts, All-head, All-tail}
 use Rattle.sgb_vec.specs.Limits.{most_bytes}
 use Rattle.sgb_graph.specs.Graphs.{GraphData}
 use Rattle.sgb_graph.specs.Ids.{most_id_bytes}

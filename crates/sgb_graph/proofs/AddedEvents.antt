@@ -1,7 +1,5 @@
 -- Events that are added to a graph one after another.
-use Rattle.std.proofs.Common.{arith, rules, ◌≡◌, ℕ, Bool, true, false, List, [], ◌∷◌, ◌++◌, length, map, min, max, refl, sym, ap, subst, ◌∙◌, append_assoc, append-nil}
-use Rattle.std.specs.List.{All}
-use Rattle.std.proofs.lemmas.List.Elements.{All-nil, All-cons, All-append}
+use Rattle.sgb_vec.proofs.Common.{arith, rules, ◌≡◌, ℕ, Bool, true, false, List, [], ◌∷◌, ◌++◌, length, map, min, max, refl, sym, ap, subst, ◌∙◌, append_assoc, append-nil, All, All-nil, All-cons, All-append}
 use Rattle.sgb_graph.specs.Descriptions.{IsGraphOf}
 use Rattle.sgb_graph.specs.Graphs.{GraphData, HasNoFields, arc_record}
 use Rattle.sgb_graph.specs.Events.{Event, HasArcsOf, HasEndsBelow}

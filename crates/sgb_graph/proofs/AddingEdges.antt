@@ -1,9 +1,5 @@
 -- A graph with one edge more.
-use Rattle.std.proofs.Common.{rules, ◌≡◌, ◌≢◌, ◌+◌, ◌≤◌, ◌<◌, ◌==◌, ℕ, suc, ℤ, min, max, true, List, [], ◌∷◌, ◌++◌, length, Option, Some, refl, ap, sym, subst, ◌∙◌, inl, inr, arith}
-use Rattle.std.specs.Prelude.{slice_get, if◌then◌else◌}
-use Rattle.std.proofs.lemmas.Bool.{lt-ltb, eq-eqb, ne_eqb, cases_eq}
-use Rattle.std.proofs.lemmas.List.{length-append}
-use Rattle.std.proofs.lemmas.List.Sums.{AllPass-from_list_all}
+use Rattle.sgb_vec.proofs.Common.{rules, ◌≡◌, ◌≢◌, ◌+◌, ◌≤◌, ◌<◌, ◌==◌, ℕ, suc, ℤ, min, max, true, List, [], ◌∷◌, ◌++◌, length, Option, Some, refl, ap, sym, subst, ◌∙◌, inl, inr, arith, slice_get, if◌then◌else◌, lt-ltb, eq-eqb, ne_eqb, cases_eq, length-append, AllPass-from_list_all}
 use Rattle.sgb_graph.specs.Graphs.{GraphData, ListsEnd, chain_of, ends_of, arc_record}
 use Rattle.sgb_graph.specs.Sound.{chain_fits}
 use Rattle.sgb_graph.specs.Growth.{IsKept, HasPlainArcs, KeepsAllButArcs, first_arc, link, with_edge, with_first}

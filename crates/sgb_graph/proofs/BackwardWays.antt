@@ -1,10 +1,5 @@
 -- Records of which each leads back to an earlier one, and leads to a vertex: no way of theirs has to be walked.
-use Rattle.std.proofs.Common.{◌≡◌, ◌<◌, ◌&&◌, ℕ, zero, suc, true, false, List, [], ◌∷◌, length, Option, Some, None, refl, arith, rules}
-use Rattle.std.specs.Prelude.{slice_get}
-use Rattle.std.specs.List.{list_all, range_with_len}
-use Rattle.std.specs.Option.{option_map_or}
-use Rattle.std.proofs.lemmas.Bool.{and_from, and_parts}
-use Rattle.std.proofs.lemmas.Bool.Decides.{nat_tests}
+use Rattle.sgb_vec.proofs.Common.{◌≡◌, ◌<◌, ◌&&◌, ℕ, zero, suc, true, false, List, [], ◌∷◌, length, Option, Some, None, refl, arith, rules, slice_get, list_all, range_with_len, option_map_or, and_from, and_parts, nat_tests}
 use Rattle.sgb_graph.specs.Graphs.{GraphData, ends_from, numbers_of}
 use Rattle.sgb_graph.specs.Sound.{chain_fits, is_sound, is_vertex, leads_to_vertex}
 use Rattle.sgb_graph.specs.inner.Walks.{leads_back, leads_of, chains_end, lists_lead_to_vertices}

@@ -1,10 +1,5 @@
 -- Chains of records: what more records at the end leave as it was.
-use Rattle.std.proofs.Common.{rules, ◌≡◌, ◌≤◌, ℕ, zero, suc, Bool, true, false, List, [], ◌∷◌, ◌++◌, length, Option, Some, None, refl, ap, sym, subst, ◌∙◌, arith}
-use Rattle.std.specs.Prelude.{slice_get, is_some}
-use Rattle.std.specs.List.{list_all, flat_map}
-use Rattle.std.specs.Option.{option_map_or}
-use Rattle.std.proofs.lemmas.List.{append-nil}
-use Rattle.std.proofs.lemmas.Bool.{and_parts, and_from}
+use Rattle.sgb_vec.proofs.Common.{rules, ◌≡◌, ◌≤◌, ℕ, zero, suc, Bool, true, false, List, [], ◌∷◌, ◌++◌, length, Option, Some, None, refl, ap, sym, subst, ◌∙◌, arith, slice_get, is_some, list_all, flat_map, option_map_or, append-nil, and_parts, and_from}
 use Rattle.sgb_graph.specs.Graphs.{numbers_from, ends_from, numbers_of, ends_of, vertex_of, link_of}
 use Rattle.sgb_graph.specs.inner.Chains.{links_of}
 use Rattle.sgb_graph.specs.Sound.{is_vertex, leads_to_vertex}

@@ -1,9 +1,5 @@
 -- Parts that were checked: what fits, and the graph that they make up.
-use Rattle.std.proofs.Common.{◌≡◌, ◌&&◌, ℕ, Bool, true, List, [], ◌∷◌, length, slice_index_or, refl, ap, arith}
-use Rattle.std.specs.Prelude.{Ok, Err, nat_le}
-use Rattle.std.specs.List.{list_all, zip}
-use Rattle.std.proofs.Math.Bool.{and-true}
-use Rattle.std.proofs.lemmas.Bool.{and_parts, cases_Bool}
+use Rattle.sgb_vec.proofs.Common.{◌≡◌, ◌&&◌, ℕ, true, List, [], ◌∷◌, length, refl, ap, arith, Ok, Err, nat_le, list_all, zip, and_parts, cases_Bool}
 use Rattle.sgb_vec.specs.Limits.{most_vertices}
 use Rattle.sgb_vec.specs.declared.panics.Panic.TheVariants.{Syntax}
 use Rattle.sgb_graph.specs.Graphs.{GraphData, ends_of}
@@ -21,15 +17,6 @@ utils_fit_each n m [] [] long = refl
 utils_fit_each n m (kind ∷ kinds) (util ∷ utils) long =
     ap (λ b. util_fits n m kind util && b) (utils_fit_each n m kinds utils (omega arith))
 utils_fit_each n m _ _ long = absurd (omega arith)
-
--- two of them
-two_fit : (n m : ℕ) (kinds : List Kind) (d : Kind) (a b : Util) → length kinds ≡ 2 → utils_fit n m kinds (a ∷ b ∷ []) ≡ (util_fits n m (slice_index_or kinds 0 d) a && util_fits n m (slice_index_or kinds 1 d) b)
-two_fit n m (x ∷ y ∷ []) d a b long = ap (λ t. util_fits n m x a && t) (and-true (util_fits n m y b))
-two_fit n m _ d a b long = absurd (omega arith)
-
--- where the first fits, they fit if the second does
-pub both_fit : (n m : ℕ) (kinds : List Kind) (d : Kind) (a b : Util) {fits : Bool} → length kinds ≡ 2 → util_fits n m (slice_index_or kinds 0 d) a ≡ true → fits ≡ util_fits n m (slice_index_or kinds 1 d) b → fits ≡ utils_fit n m kinds (a ∷ b ∷ [])
-both_fit n m kinds d a b long first second = rw (second, two_fit n m kinds d a b long, first) refl
 
 -- the list of each vertex ends where the numbers fit and all chains end
 pub lists_end : (g : GraphData) → fields_fit g ≡ true → chains_end g.records ≡ true → list_all (λ x. ends_of g.records x.arcs) g.vertices ≡ true

@@ -1,7 +1,5 @@
 -- Columns: those that are not used, their places, one value more.
-use Rattle.std.proofs.Common.{◌≡◌, ◌<◌, ◌+◌, ℕ, [], ◌∷◌, ◌++◌, length, ap, sym, ◌∙◌, arith, replicate}
-use Rattle.std.proofs.lemmas.List.{length-map, length-replicate, length_push, replicate_more}
-use Rattle.std.proofs.Math.Nat.{add_comm}
+use Rattle.sgb_vec.proofs.Common.{◌≡◌, ◌<◌, ◌+◌, ℕ, [], ◌∷◌, ◌++◌, length, ap, sym, ◌∙◌, arith, replicate, length-map, length-replicate, length_push, replicate_more, add_comm}
 use Rattle.sgb_graph.specs.inner.Columns.{HasPlace, HoldsMany, column_kind, values}
 use Rattle.sgb_graph.specs.declared.columns.Column.{Column}
 use Rattle.sgb_graph.specs.declared.columns.Column.TheVariants.{Unused}

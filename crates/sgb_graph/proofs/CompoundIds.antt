@@ -1,7 +1,5 @@
 -- An operand's id, or a prefix of it, may stand in the id of a result.
-use Rattle.std.proofs.Common.{◌≡◌, ℕ, true, List, take}
-use Rattle.std.proofs.lemmas.List.Elements.{All-take}
-use Rattle.std.proofs.lemmas.List.Sums.{list_all-from_AllPass}
+use Rattle.sgb_vec.proofs.Common.{◌≡◌, ℕ, true, List, take, All-take, list_all-from_AllPass}
 use Rattle.sgb_vec.specs.Names.{is_text_byte, IsTextByte}
 use Rattle.sgb_graph.specs.Ids.{IsId}
 use Rattle.sgb_graph.specs.IdTexts.{is_id_text}

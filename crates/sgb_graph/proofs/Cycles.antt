@@ -1,8 +1,7 @@
 -- A cycle of random numbers, the next one, and the numbers of the sequence that they are.
-use Rattle.std.proofs.Common.{rules, ◌≡◌, ℕ, ◌+◌, ◌-◌, ◌%◌, ◌<◌, ◌≤◌, List, get_or, set, ap, sym, ◌∙◌, inl, inr, arith, length-set, get_or-set_same, get_or-set_other}
-use Rattle.std.proofs.lemmas.Bool.{cases_eq, cases_lt}
+use Rattle.sgb_vec.proofs.Common.{rules, ◌≡◌, ℕ, ◌+◌, ◌-◌, ◌<◌, ◌≤◌, List, get_or, set, ap, sym, ◌∙◌, inl, inr, arith, length-set, get_or-set_same, get_or-set_other, cases_eq, cases_lt}
 use Rattle.sgb_graph.specs.Draws.{modulus, difference, x_number}
-use Rattle.sgb_graph.specs.inner.Flips.{HandsOut, IsCycle, IsNextCycle}
+use Rattle.sgb_graph.specs.inner.Flips.{IsCycle, IsNextCycle}
 use Rattle.sgb_graph.specs.inner.Jumps.{IsPartOf}
 use Rattle.sgb_graph.proofs.DrawLemmas.{later_number}
 
@@ -20,18 +19,6 @@ pub record IsCycling (old now : List ℕ) (n : ℕ) : Type 0 where
   pub early : (i : ℕ) → i < n → i < 24 → get_or now i 0 ≡ difference (get_or old i 0) (get_or old (i + 31) 0)
   pub late : (i : ℕ) → i < n → 24 ≤ i → get_or now i 0 ≡ difference (get_or old i 0) (get_or now (i - 24) 0)
   pub rest : (i : ℕ) → n ≤ i → get_or now i 0 ≡ get_or old i 0
-
--- at the start
-pub cycling_none : (numbers : List ℕ) → IsCycle numbers → IsCycling numbers numbers 0
-cycling_none numbers is = grind (arith)
-
--- one number more
-pub cycling_more : (old now : List ℕ) (n : ℕ) → n < 55 → IsCycling old now n → IsCycling old (set now n (difference (get_or now n 0) (get_or now ((n + 31) % 55) 0))) (n + 1)
-cycling_more old now n inside is = grind (arith, set, get_or-set_same, get_or-set_other, cycle_with, difference_below, cases_eq)
-
--- in the end the next cycle
-pub cycling_all : (old now : List ℕ) → IsCycling old now 55 → IsNextCycle old now
-cycling_all old now is = grind (arith)
 
 -- the numbers are X(n + 1) to X(n + 55)
 pub record IsWindow (seed n : ℕ) (numbers : List ℕ) : Type 0 where
@@ -73,11 +60,3 @@ next_part y n old new rule is next =
 pub next_window : (seed n : ℕ) (old new : List ℕ) → IsWindow seed n old → IsNextCycle old new → IsWindow seed (n + 55) new
 next_window seed n old new is next =
     part_window seed (n + 55) new (next_part (λ j. x_number seed (j + 1)) n old new (numbers_rule seed) (window_part seed n old is) next)
-
--- where numbers of the cycle are still to come, the last of them is handed out
-pub hands_on : (numbers : List ℕ) (left : ℕ) → IsCycle numbers → 0 < left → left ≤ 54 → HandsOut numbers left (get_or numbers (left - 1) 0) numbers (left - 1)
-hands_on numbers left is some few = grind (arith)
-
--- and else the last one of the next cycle
-pub hands_next : (old new : List ℕ) → IsNextCycle old new → HandsOut old 0 (get_or new 54 0) new 54
-hands_next old new next = grind (arith)

@@ -1,12 +1,5 @@
 -- The graph that is described: it is one, and the only one.
-use Rattle.std.proofs.Common.{rules, ◌≡◌, ◌≢◌, ◌+◌, ◌<◌, ◌≤◌, ℕ, zero, suc, min, max, Bool, true, List, [], ◌∷◌, length, get_or, map, zip, drop, Option, Some, None, refl, ap, sym, ◌∙◌, arith}
-use Rattle.std.specs.Prelude.{slice_get}
-use Rattle.std.specs.List.{All, AllPairs, Contains, enumerate_from, flat_map}
-use Rattle.std.proofs.lemmas.Bool.{eq-eqb, ne_eqb, cases_eq}
-use Rattle.std.proofs.lemmas.List.Elements.{All-nil, All-cons, All-contains, All-head, All-tail, All-map}
-use Rattle.std.proofs.lemmas.List.{length-map}
-use Rattle.std.proofs.lemmas.List.FromFn.{length-enumerate_from}
-use Rattle.std.proofs.lemmas.Option.{slice_get_within, get_or_from_slice_get}
+use Rattle.sgb_vec.proofs.Common.{rules, ◌≡◌, ◌≢◌, ◌+◌, ◌<◌, ◌≤◌, ℕ, zero, suc, min, max, Bool, true, List, [], ◌∷◌, length, get_or, map, zip, drop, Option, Some, None, refl, ap, sym, ◌∙◌, arith, slice_get, All, AllPairs, Contains, enumerate_from, flat_map, eq-eqb, ne_eqb, cases_eq, All-nil, All-cons, All-contains, All-head, All-tail, All-map, length-map, length-enumerate_from, slice_get_within, get_or_from_slice_get}
 use Rattle.sgb_vec.proofs.Lists.{All-flat_map, Contains-cases, Contains-first, Contains-none, Contains-other}
 use Rattle.sgb_graph.specs.Graphs.{GraphData, HasNoFields, arc_record, ends_from, ends_of, link_of, vertex_of}
 use Rattle.sgb_graph.specs.inner.Chains.{links_of}

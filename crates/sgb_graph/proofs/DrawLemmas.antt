@@ -1,11 +1,5 @@
 -- Lemmas on the random numbers, and on the first draw that is not thrown away.
-use Rattle.std.specs.Prelude.{◌≡◌, ℕ, zero, suc, ◌+◌, ◌-◌, ◌*◌, ◌%◌, ◌<◌, ◌≤◌, Bool, true, ◌&&◌, not, ◌||◌, Some, reverse, find, nat_lt, ◌==◌, refl, slice_index}
-use Rattle.std.specs.List.{list_all, range_with_len}
-use Rattle.std.proofs.Common.{arith, ap, sym, ◌∙◌, inl, inr}
-use Rattle.std.proofs.Math.Nat.{add-suc}
-use Rattle.std.proofs.lemmas.Bool.{cases_lt}
-use Rattle.std.proofs.lemmas.Bool.Decides.{Decides-eqb, Decides-ltb}
-use Rattle.std.proofs.lemmas.List.{get_or-map}
+use Rattle.sgb_vec.proofs.Common.{arith, ap, sym, ◌∙◌, inl, inr, ◌≡◌, ℕ, zero, suc, ◌+◌, ◌-◌, ◌*◌, ◌%◌, ◌<◌, ◌≤◌, Bool, true, ◌&&◌, not, ◌||◌, Some, reverse, find, nat_lt, ◌==◌, refl, slice_index, list_all, range_with_len, add-suc, cases_lt, Decides-eqb, Decides-ltb, get_or-map}
 use Rattle.sgb_graph.specs.Draws.{difference, back_to_first, x_number, y_number}
 use Rattle.sgb_graph.specs.inner.Flips.{first_x}
 use Rattle.sgb_graph.proofs.TestLemmas.{at_each_below, both_first, both_second, where_passes}

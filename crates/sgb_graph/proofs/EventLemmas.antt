@@ -1,13 +1,5 @@
 -- The lists of events, as events come one by one.
-use Rattle.std.proofs.Common.{◌≡◌, ◌≢◌, ◌+◌, ◌⊎◌, ℕ, ℤ, min, max, Bool, true, false, List, [], ◌∷◌, ◌++◌, length, map, Option, refl, ap, sym, subst, ◌∙◌, arith}
-use Rattle.std.specs.Prelude.{slice_get}
-use Rattle.std.specs.List.{All}
-use Rattle.std.specs.Option.{option_map, option_map_or}
-use Rattle.std.proofs.lemmas.Bool.{eq-eqb, ne_eqb, cases_eq}
-use Rattle.std.proofs.lemmas.List.{append-nil, append_assoc, map-append, length-append, length-map}
-use Rattle.std.proofs.lemmas.List.Elements.{All-nil, All-cons, All-append, All-map, All-tail}
-use Rattle.std.proofs.lemmas.List.Concat.{flat_map-append}
-use Rattle.std.proofs.lemmas.Option.{slice_get-map}
+use Rattle.sgb_vec.proofs.Common.{◌≡◌, ◌≢◌, ◌+◌, ◌⊎◌, ℕ, ℤ, min, max, Bool, true, false, List, [], ◌∷◌, ◌++◌, length, map, Option, refl, ap, sym, subst, ◌∙◌, arith, slice_get, All, option_map, option_map_or, eq-eqb, ne_eqb, cases_eq, append-nil, append_assoc, map-append, length-append, length-map, All-nil, All-cons, All-append, All-map, All-tail, flat_map-append, slice_get-map}
 use Rattle.sgb_graph.specs.Graphs.{GraphData, ListsEnd, chain_of, ends_of}
 use Rattle.sgb_graph.specs.inner.Chains.{links_of}
 use Rattle.sgb_graph.specs.Events.{Event, Record, HasArcsOf, HasEndsBelow, all_records, links_at, list_from, records_of}

@@ -1,15 +1,8 @@
 -- The first cycle of random numbers, made of the numbers of Y.
-use Rattle.std.proofs.Common.{◌≡◌, ℕ, suc, ◌+◌, ◌-◌, ◌*◌, ◌/◌, ◌%◌, ◌^◌, ◌<◌, List, replicate, get_or, set, true, refl, ap, sym, ◌∙◌, subst, inl, inr, arith, get_or-set_same, get_or-set_other}
-use Rattle.std.specs.Prelude.{◌==◌}
-use Rattle.std.specs.List.{list_all, range_with_len}
-use Rattle.std.proofs.lemmas.Bool.{cases_lt}
-use Rattle.std.proofs.lemmas.Bool.Decides.{Decides-eqb}
-use Rattle.std.proofs.lemmas.List.{get_or-replicate}
-use Rattle.std.proofs.lemmas.Nat.{pow_pos, pow-add}
+use Rattle.sgb_vec.proofs.Common.{◌≡◌, ℕ, suc, ◌+◌, ◌-◌, ◌*◌, ◌/◌, ◌%◌, ◌^◌, ◌<◌, List, replicate, get_or, set, true, refl, ap, sym, ◌∙◌, subst, inl, inr, arith, get_or-set_same, get_or-set_other, ◌==◌, list_all, range_with_len, cases_lt, Decides-eqb, get_or-replicate, pow_pos, pow-add, div-div-eq-div-mul, pow-succ'}
 use Rattle.std.proofs.Math.Arith.{mod-mul}
-use Rattle.std.proofs.Math.Nat.{div-div-eq-div-mul, pow-succ'}
 use Rattle.sgb_graph.specs.Draws.{modulus, difference, rotated, y_number}
-use Rattle.sgb_graph.specs.inner.Flips.{IsCycle, IsFirstCycle, first_x, rotated_once}
+use Rattle.sgb_graph.specs.inner.Flips.{IsCycle, first_x, rotated_once}
 use Rattle.sgb_graph.proofs.TestLemmas.{at_each_below}
 use Rattle.sgb_graph.proofs.Cycles.{difference_below, cycle_with}
 
@@ -125,7 +118,3 @@ pub filling_at : (seed : ℕ) (numbers : List ℕ) (number next turned k p : ℕ
 filling_at seed numbers number next turned k p small inside is place =
     subst (λ q. IsFilling seed (set numbers q number) next (difference (difference number next) (rotated_once turned)) (rotated_once turned) (k + 1)) place
     (filling_more seed numbers number next turned k small inside is)
-
--- in the end the whole cycle
-pub filling_all : (seed : ℕ) (numbers : List ℕ) (number next turned : ℕ) → IsFilling seed numbers number next turned 55 → IsFirstCycle seed numbers
-filling_all seed numbers number next turned is = grind (arith)

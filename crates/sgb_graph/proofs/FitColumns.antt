@@ -1,8 +1,5 @@
 -- Vertices and records fit where their columns do.
-use Rattle.std.proofs.Common.{rules, ◌≡◌, ◌&&◌, ℕ, zero, suc, Bool, true, List, [], ◌∷◌, length, map, replicate, refl, ap, sym, ◌∙◌, arith}
-use Rattle.std.specs.List.{list_all}
-use Rattle.std.proofs.lemmas.List.{length-map}
-use Rattle.std.proofs.lemmas.List.Folds.{list_all-map}
+use Rattle.sgb_vec.proofs.Common.{rules, ◌≡◌, ◌&&◌, ℕ, zero, suc, Bool, true, List, [], ◌∷◌, length, map, replicate, refl, ap, sym, ◌∙◌, arith, list_all, length-map, list_all-map}
 use Rattle.sgb_graph.specs.Sound.{chain_fits, util_fits, utils_fit}
 use Rattle.sgb_graph.specs.inner.Columns.{HoldsMany, column_kind, values}
 use Rattle.sgb_graph.specs.inner.Fitting.{record_fits_by, vertex_fits_by}

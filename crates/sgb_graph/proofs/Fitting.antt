@@ -1,6 +1,5 @@
 -- Values that fit a graph fit one with more vertices and records.
-use Rattle.std.proofs.Common.{◌≡◌, ◌≤◌, ℕ, Bool, true, ◌&&◌, List, [], ◌∷◌, Option, refl, arith, rules}
-use Rattle.std.proofs.lemmas.Bool.{and_parts, and_from, ltb-true, lt-ltb}
+use Rattle.sgb_vec.proofs.Common.{◌≡◌, ◌≤◌, ℕ, Bool, true, ◌&&◌, List, [], ◌∷◌, Option, refl, arith, rules, and_parts, and_from, ltb-true, lt-ltb}
 use Rattle.sgb_graph.specs.Sound.{vertex_kinds, arc_kinds, ref_fits, chain_fits, util_fits, utils_fit}
 use Rattle.sgb_graph.specs.declared.fields.Kind.{Kind}
 use Rattle.sgb_graph.specs.declared.fields.Ref.{Ref}

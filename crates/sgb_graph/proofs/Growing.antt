@@ -1,12 +1,5 @@
 -- A graph with more records at the end is one, and one whose lists end keeps the chains that stay.
-use Rattle.std.proofs.Common.{◌≡◌, ◌≤◌, ◌<◌, ℕ, Bool, true, ◌&&◌, List, [], ◌++◌, length, Option, Some, None, ap, ◌∙◌, inl, inr, arith, rules}
-use Rattle.std.specs.Prelude.{slice_get, nat_le}
-use Rattle.std.specs.Option.{option_map_or}
-use Rattle.std.specs.List.{list_all}
-use Rattle.std.proofs.lemmas.Bool.{and_parts, and_from, ltb-true, cases_lt}
-use Rattle.std.proofs.lemmas.List.{length-append}
-use Rattle.std.proofs.lemmas.List.Folds.{list_all-append}
-use Rattle.std.proofs.lemmas.List.Sums.{AllPass-from_list_all, list_all-from_AllPass}
+use Rattle.sgb_vec.proofs.Common.{◌≡◌, ◌≤◌, ◌<◌, ℕ, Bool, true, ◌&&◌, List, [], ◌++◌, length, Option, Some, None, ap, ◌∙◌, inl, inr, arith, rules, slice_get, nat_le, option_map_or, list_all, and_parts, and_from, ltb-true, cases_lt, length-append, list_all-append, AllPass-from_list_all, list_all-from_AllPass}
 use Rattle.sgb_vec.specs.Limits.{most_vertices}
 use Rattle.sgb_graph.specs.Graphs.{GraphData, ListsEnd, ends_of, chain_of}
 use Rattle.sgb_graph.specs.inner.Chains.{links_of}

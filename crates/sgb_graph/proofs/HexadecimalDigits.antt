@@ -1,9 +1,5 @@
 -- The hexadecimal digits of a number, put one after another from the last on.
-use Rattle.std.proofs.Common.{◌≡◌, ℕ, zero, suc, ◌+◌, ◌/◌, ◌%◌, ◌^◌, ◌<◌, Bool, true, false, cond, eqb, List, [], ◌∷◌, length, set, drop, refl, ap, ◌∙◌, arith}
-use Rattle.std.specs.Fmt.{digit_glyph, digits_onto, digits}
-use Rattle.std.proofs.Math.Nat.{pow-suc}
-use Rattle.std.proofs.lemmas.Bool.{eq-eqb, ne_eqb}
-use Rattle.std.proofs.lemmas.List.{drop_all, drop-set, length-set}
+use Rattle.sgb_vec.proofs.Common.{◌≡◌, ℕ, zero, suc, ◌+◌, ◌/◌, ◌%◌, ◌^◌, ◌<◌, Bool, true, false, cond, eqb, List, [], ◌∷◌, length, set, drop, refl, ap, ◌∙◌, arith, digit_glyph, digits_onto, digits, pow-suc, eq-eqb, ne_eqb, drop_all, drop-set, length-set}
 use Rattle.sgb_vec.specs.Names.{is_text_byte}
 use Rattle.sgb_graph.specs.IdTexts.{is_id_text}
 use Rattle.sgb_graph.proofs.TestLemmas.{at_each_below}

@@ -1,18 +1,11 @@
 -- Texts and numbers that may stand in an id.
-use Rattle.std.proofs.Common.{◌≡◌, ℕ, ◌+◌, ◌*◌, ◌^◌, ◌<◌, ◌≤◌, true, List, [], ◌∷◌, ◌++◌, length, decimal, ℤ, pos, negsuc, suc, arith, refl}
-use Rattle.std.specs.Fmt.{signed_decimal}
-use Rattle.std.specs.List.{All}
-use Rattle.std.proofs.lemmas.Fmt.{length_signed_le}
-use Rattle.std.proofs.lemmas.List.Elements.{All-cons, All-head, All-tail, All-append}
-use Rattle.std.proofs.lemmas.List.Sums.{AllPass-from_list_all}
-use Rattle.std.proofs.lemmas.List.{length-append}
+use Rattle.sgb_vec.proofs.Common.{ℕ, ◌+◌, ◌*◌, ◌^◌, ◌<◌, ◌≤◌, List, [], ◌∷◌, ◌++◌, length, decimal, ℤ, pos, negsuc, suc, arith, refl, signed_decimal, All, length_signed_le, All-cons, All-head, All-tail, All-append, length-append, nat_abs}
 use lib.Signed.{mag}
-use Rattle.sgb_vec.specs.Names.{is_text_byte, IsTextByte}
+use Rattle.sgb_vec.specs.Names.{IsTextByte}
 use Rattle.sgb_vec.proofs.VectorNames.{decimal_is_text}
 use Rattle.sgb_graph.specs.Ids.{IsId}
-use Rattle.sgb_graph.specs.IdTexts.{is_id_text, numbers_text}
+use Rattle.sgb_graph.specs.IdTexts.{numbers_text}
 use Rattle.sgb_vec.specs.Limits.{most_vertices}
-use Rattle.std.specs.Prelude.{nat_abs}
 
 -- a number with its sign may stand in an id
 number_passes : (z : ℤ) → mag z < 2 ^ 63 → All IsTextByte (signed_decimal z)
@@ -23,13 +16,6 @@ number_passes (negsuc n) h =
 -- a number of 64 bits takes at most 20 bytes
 pub length-number : (z : ℤ) → mag z < 2 ^ 63 → length (signed_decimal z) ≤ 20
 length-number z h = length_signed_le 19 z (omega arith) h
-
--- an id with such a text after it
-pub IsId-push_text : (bytes text : List ℕ) → IsId bytes → is_id_text text ≡ true → length bytes + length text ≤ 160 → IsId (bytes ++ text)
-IsId-push_text bytes text id passes room = record {
-  short = omega (arith, length-append bytes text);
-  printable = All-append IsTextByte bytes text id.printable (AllPass-from_list_all is_text_byte text passes);
-}
 
 -- an id with a number after it
 pub IsId-push_number : (bytes : List ℕ) (z : ℤ) → IsId bytes → mag z < 2 ^ 63 → length bytes + 20 ≤ 160 → IsId (bytes ++ signed_decimal z)

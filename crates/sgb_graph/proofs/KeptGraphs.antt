@@ -1,9 +1,5 @@
 -- Graphs made of vertices and records that are kept: how one with more arcs or with more numbers is made.
-use Rattle.std.proofs.Common.{◌≡◌, ◌+◌, ◌++◌, ℕ, ℤ, true, List, [], ◌∷◌, length, map, min, max, set, slice_get, Some, refl, arith}
-use Rattle.std.proofs.lemmas.Int.{to_z-of_z}
-use mir.Syntax.{w64}
-use mir.Val.{SFits, of_z, to_z}
-use Rattle.sgb_graph.specs.inner.Columns.{util_kind}
+use Rattle.sgb_vec.proofs.Common.{◌≡◌, ◌+◌, ◌++◌, ℕ, ℤ, true, List, [], ◌∷◌, length, min, max, slice_get, Some, refl, arith, to_z-of_z, w64, SFits, of_z, to_z}
 use Rattle.sgb_graph.specs.Graphs.{GraphData, ends_of, vertex_of, arc_record}
 use Rattle.sgb_graph.specs.inner.Chains.{links_of}
 use Rattle.sgb_graph.specs.Growth.{first_arc, link, with_arc, with_edge, with_first}
@@ -12,10 +8,7 @@ use Rattle.sgb_graph.specs.inner.Kept.{kept_graph}
 use Rattle.sgb_graph.specs.inner.KeptRecords.{KeptRecords}
 use Rattle.sgb_graph.specs.inner.KeptVertices.{KeptVertices}
 use Rattle.sgb_graph.specs.declared.fields.ArcRec.{ArcRec}
-use Rattle.sgb_graph.specs.declared.fields.Kind.{Kind}
-use Rattle.sgb_graph.specs.declared.fields.Kind.TheVariants.{I, Z}
 use Rattle.sgb_graph.specs.declared.fields.Util.{Util}
-use Rattle.sgb_graph.specs.declared.fields.Util.TheVariants.{Int}
 use Rattle.sgb_graph.proofs.Chains.{step_of}
 
 -- one arc more, where vertices and records are known to be those, and its length passes through words of 64 bits
@@ -33,15 +26,6 @@ pub edge_made : (g : GraphData) (text : List ℕ) (count : ℕ) (own : List Util
     → arcs ≡ record records { items = records.items ++ arc_record (max u v) (after_lower (length records.items) vertices.items u v) (to_z w64 (of_z w64 far)) ∷ arc_record (min u v) (first_arc vertices.items (max u v)) (to_z w64 (of_z w64 far)) ∷ [] }
     → kept_graph text (count + 2) own nodes arcs ≡ with_edge g u v far
 edge_made g text count own vertices nodes records arcs u v far fits view are_nodes are_arcs = rw (are_nodes, are_arcs, to_z-of_z w64 far fits, ← view) refl
-
--- the kinds of own fields, of which the first becomes a number
-pub uu_kinds_of : (value : ℤ) (own : List Util) → map util_kind (set own 0 (Int value)) ≡ set (map util_kind own) 0 I
-uu_kinds_of value [] = refl
-uu_kinds_of value (u ∷ own) = refl
-
--- where the fields of records are not used, neither is
-pub plain_kinds : (a b : Kind) → a ∷ b ∷ [] ≡ Z ∷ Z ∷ [] → (a ≡ Z) × (b ≡ Z)
-plain_kinds a b e = (cc, cc)
 
 -- a chain that ends, from the record that is read there
 pub record IsStepTo (records : List ArcRec) (k : ℕ) (r : ArcRec) : Type 0 where

@@ -1,15 +1,13 @@
 -- Parts that make up a graph, as the graph keeps them.
-use Rattle.std.proofs.Common.{◌≡◌, ◌<◌, ◌+◌, ◌^◌, ◌∙◌, ◌++◌, ℕ, true, List, [], ◌∷◌, length, map, Option, IfSome, refl, ap, arith}
-use Rattle.std.proofs.lemmas.Bool.{and_parts, ltb-true}
-use Rattle.std.specs.List.{list_all}
+use Rattle.sgb_vec.proofs.Common.{◌≡◌, ◌<◌, ◌+◌, ◌^◌, ◌++◌, ℕ, true, List, [], ◌∷◌, length, map, Option, IfSome, refl, arith, and_parts, ltb-true, list_all}
 use Rattle.sgb_graph.specs.inner.Columns.{util_kind}
-use Rattle.sgb_graph.specs.inner.Fitting.{most, record_fits_by, record_may_fit, vertex_fits_by, vertex_may_fit}
+use Rattle.sgb_graph.specs.inner.Fitting.{most, record_may_fit, vertex_fits_by, vertex_may_fit}
 use Rattle.sgb_graph.specs.Graphs.{GraphData}
 use Rattle.sgb_graph.specs.inner.Kept.{kept_graph}
 use Rattle.sgb_graph.specs.inner.KeptRecords.{KeptRecords}
 use Rattle.sgb_graph.specs.inner.KeptVertices.{KeptVertices, kinds_of_vertices}
 use Rattle.sgb_graph.specs.Growth.{graph_data}
-use Rattle.sgb_graph.specs.Sound.{IsGraph, arc_kinds, chain_fits, graph_kinds, record_fits, util_fits, utils_fit, vertex_fits, vertex_kinds}
+use Rattle.sgb_graph.specs.Sound.{IsGraph, arc_kinds, chain_fits, graph_kinds, util_fits, utils_fit, vertex_fits, vertex_kinds}
 use Rattle.sgb_graph.specs.declared.fields.ArcRec.{ArcRec}
 use Rattle.sgb_graph.specs.declared.fields.Kind.{Kind}
 use Rattle.sgb_graph.specs.declared.fields.Vertex.{Vertex}
@@ -64,9 +62,3 @@ kept_same text count kinds own vertices records is nodes arcs = grind (arith, ki
 pub vertices_fit_same : (g : GraphData) (vertices : KeptVertices) (m : ℕ) → vertices.items ≡ g.vertices → m ≡ length g.records → kinds_of_vertices vertices ≡ vertex_kinds g.kinds
     → list_all (vertex_fits_by (length vertices.items) m (kinds_of_vertices vertices)) vertices.items ≡ list_all (vertex_fits g) g.vertices
 vertices_fit_same g vertices m nodes count kinds = rw (nodes, count, kinds) refl
-
--- so do those of the records
-pub records_fit_same : (g : GraphData) (records : KeptRecords) (n : ℕ) → records.items ≡ g.records → n ≡ length g.vertices → records.a ∷ records.b ∷ [] ≡ arc_kinds g.kinds
-    → list_all (record_fits_by n (length records.items) (records.a ∷ records.b ∷ [])) records.items ≡ list_all (record_fits g) g.records
-records_fit_same g records n arcs count kinds =
-    ap (λ ks. list_all (record_fits_by n (length records.items) ks) records.items) kinds ∙ rw (arcs, count) refl

@@ -61,8 +61,6 @@ pub mod Misfits
 pub mod NewGraphs
 -- integers in the fields x, y, z of vertices
 pub mod Numbers
--- a number in the graph's own field uu
-pub mod OwnNumbers
 -- the graph of a list of events, for examples
 pub mod PlainGraphs
 -- a generator at a draw, and what it hands out

@@ -1,13 +1,5 @@
 -- What stands on the list of a vertex: the records that start there.
-use Rattle.std.proofs.Common.{◌≡◌, ◌≢◌, get_or, ◌+◌, ◌-◌, ◌≤◌, ◌==◌, ℕ, zero, suc, Bool, List, [], ◌∷◌, ◌++◌, length, Some, count_by, refl, ap, sym, ◌∙◌, inl, inr, arith}
-use Rattle.std.specs.Prelude.{slice_get}
-use Rattle.std.specs.List.{All, AllPairs, Contains, filter}
-use Rattle.std.proofs.lemmas.List.Kept.{AllPairs-cons}
-use Rattle.std.proofs.lemmas.Option.{slice_get_within}
-use Rattle.std.proofs.lemmas.Bool.{cases_eq, cases_lt}
-use Rattle.std.proofs.lemmas.List.{length-append}
-use Rattle.std.proofs.lemmas.List.Elements.{Contains-get_or, filter-append, Contains-append_left, Contains-append_right, Contains-append_cases}
-use Rattle.std.proofs.lemmas.List.Sums.{count_by-le-length, length-filter}
+use Rattle.sgb_vec.proofs.Common.{◌≡◌, ◌≢◌, get_or, ◌+◌, ◌-◌, ◌≤◌, ◌==◌, ℕ, zero, suc, Bool, List, [], ◌∷◌, ◌++◌, length, Some, count_by, refl, ap, sym, ◌∙◌, inl, inr, arith, slice_get, All, AllPairs, Contains, filter, AllPairs-cons, slice_get_within, cases_eq, cases_lt, length-append, Contains-get_or, filter-append, Contains-append_left, Contains-append_right, Contains-append_cases, count_by-le-length, length-filter}
 use Rattle.sgb_vec.proofs.Lists.{AllPairs-append, Contains-cases, Contains-first, Contains-none, Contains-other}
 use Rattle.sgb_graph.specs.Events.{Event, Record, all_records, links_at, list_from, list_of, records_of}
 use Rattle.sgb_graph.specs.Growth.{link}

@@ -1,9 +1,5 @@
 -- Lemmas on places of lists, and on tests that each element passes.
-use Rattle.std.proofs.Common.{◌≡◌, ◌≢◌, ◌+◌, ◌<◌, ℕ, zero, suc, Bool, true, ◌&&◌, List, [], ◌∷◌, ◌++◌, length, get_or, set, map, Some, refl, ap, sym, ◌∙◌, arith}
-use Rattle.std.specs.Prelude.{slice_get}
-use Rattle.std.specs.List.{list_all, flat_map, range_with_len}
-use Rattle.std.proofs.lemmas.Bool.{and_parts, and_from}
-use Rattle.std.proofs.lemmas.List.Folds.{list_all-map}
+use Rattle.sgb_vec.proofs.Common.{◌≡◌, ◌≢◌, ◌+◌, ◌<◌, ℕ, zero, suc, Bool, true, ◌&&◌, List, [], ◌∷◌, ◌++◌, length, get_or, set, map, Some, refl, ap, sym, ◌∙◌, arith, slice_get, list_all, flat_map, range_with_len, and_parts, and_from, list_all-map}
 use Rattle.sgb_graph.specs.Growth.{at_place}
 
 -- what stands in a prefix of a list
@@ -90,11 +86,6 @@ list_all-made p f (a ∷ xs) passes = and_from (p (f a)) (list_all p (map f xs))
 -- a test that each element passes after a change of all
 pub list_all-mapped : {X Y : Type 0} (p : X → Bool) (q : Y → Bool) (f : X → Y) (xs : List X) → ((x : X) → p x ≡ true → q (f x) ≡ true) → list_all p xs ≡ true → list_all q (map f xs) ≡ true
 list_all-mapped p q f xs passes all = list_all-map q f xs ∙ list_all-weaker p (λ x. q (f x)) xs passes all
-
--- a change that changes no element that passes
-pub map-stays : {X : Type 0} (p : X → Bool) (f : X → X) (xs : List X) → ((x : X) → p x ≡ true → f x ≡ x) → list_all p xs ≡ true → map f xs ≡ xs
-map-stays p f [] stays all = refl
-map-stays p f (a ∷ xs) stays all = grind (arith, and_parts, map-stays p f xs stays (and_parts (p a) (list_all p xs) all).1)
 
 -- what agrees on each element
 pub flat_map-agree : {X Y : Type 0} (p : X → Bool) (f g : X → List Y) (xs : List X) → ((x : X) → p x ≡ true → f x ≡ g x) → list_all p xs ≡ true → flat_map f xs ≡ flat_map g xs

@@ -1,15 +1,8 @@
 -- Steps of walks along chains of records, and the marks that they set.
-use Rattle.std.proofs.Common.{rules, ◌≡◌, ◌≤◌, ◌<◌, ◌⊎◌, ◌+◌, ◌&&◌, ℕ, zero, suc, Bool, true, false, List, length, set, get_or, Option, Some, None, refl, ap, sym, ◌∙◌, arith, ◌-◌}
-use Rattle.std.specs.Prelude.{slice_get, is_some, not, IsTrue}
-use Rattle.std.specs.List.{list_all, range_with_len}
-use Rattle.std.proofs.lemmas.Bool.{and_parts, cases_eq}
-use Rattle.std.proofs.lemmas.List.{get_or-set_same, get_or-set_other}
-use Rattle.std.proofs.lemmas.List.Folds.{list_all_at}
-use Rattle.std.proofs.lemmas.Option.{slice_get_past, slice_get_within}
-use Rattle.std.proofs.lemmas.List.FromFn.{length-range_with_len, get_or-range_with_len}
+use Rattle.sgb_vec.proofs.Common.{rules, ◌≡◌, ◌≤◌, ◌<◌, ◌⊎◌, ◌+◌, ◌&&◌, ℕ, zero, suc, Bool, true, false, List, length, set, get_or, Option, Some, None, refl, ap, sym, ◌∙◌, arith, ◌-◌, slice_get, is_some, not, IsTrue, list_all, range_with_len, and_parts, cases_eq, get_or-set_same, get_or-set_other, list_all_at, slice_get_past, slice_get_within, length-range_with_len, get_or-range_with_len}
 use Rattle.sgb_graph.specs.Graphs.{ends_from, numbers_of, ends_of}
 use Rattle.sgb_graph.specs.Sound.{leads_to_vertex, is_vertex}
-use Rattle.sgb_graph.specs.inner.Walks.{leads_of, is_marked, MarksGoOn, chains_end}
+use Rattle.sgb_graph.specs.inner.Walks.{leads_of, is_marked, chains_end}
 use Rattle.sgb_graph.specs.declared.fields.ArcRec.{ArcRec}
 use Rattle.sgb_graph.proofs.Chains.{ends_none, ends_step, numbers_none, step_of}
 use Rattle.sgb_graph.proofs.EndingWays.{ends_within}
@@ -129,10 +122,3 @@ reached_more marks k first inside h = grind (arith, cases_eq, get_or-set_same, g
 -- the walk goes on by one record
 pub reach_more : (records : List ArcRec) (marks : List Bool) (k : ℕ) (r : ArcRec) → k < length marks → slice_get records k ≡ Some r → MarksReach records marks (Some k) → MarksReach records (set marks k true) r.next
 reach_more records marks k r inside is reach j x there marked = grind (arith, cases_eq, reached_more, get_or-set_other)
-
--- it is over where the next record is marked, or there is none
-pub reached_all : (marks : List Bool) (next first : Option ℕ) → is_marked marks next ≡ true → (first ≡ next) ⊎ IsTrue (is_marked marks first) → IsTrue (is_marked marks first)
-reached_all marks next first over h = grind (arith)
-
-pub reach_all : (records : List ArcRec) (marks : List Bool) (next : Option ℕ) → is_marked marks next ≡ true → MarksReach records marks next → MarksGoOn records marks
-reach_all records marks next over reach k r is marked = reached_all marks next r.next over (reach k r is marked)

@@ -1,13 +1,8 @@
 -- Parts with vertices or records that can stand in no graph of their kinds.
-use Rattle.std.proofs.Common.{Bool, ◌≡◌, ◌<◌, ◌+◌, ◌^◌, ◌&&◌, ◌++◌, ◌∙◌, true, false, List, [], ◌∷◌, length, refl, ap, sym, arith}
-use Rattle.std.specs.Prelude.{◌==◌, Err}
-use Rattle.std.specs.List.{list_all}
-use Rattle.std.proofs.lemmas.Bool.{and_parts, eqb-true}
-use Rattle.std.proofs.lemmas.List.{append-nil, length-append}
-use Rattle.std.proofs.lemmas.List.Folds.{list_all-append}
+use Rattle.sgb_vec.proofs.Common.{Bool, ◌≡◌, ◌<◌, ◌+◌, ◌^◌, ◌&&◌, ◌++◌, ◌∙◌, true, false, List, [], ◌∷◌, length, refl, ap, arith, ◌==◌, Err, list_all, and_parts, eqb-true, append-nil, length-append, list_all-append}
 use Rattle.sgb_vec.specs.declared.panics.Panic.TheVariants.{Syntax}
 use Rattle.sgb_graph.specs.Graphs.{GraphData}
-use Rattle.sgb_graph.specs.Parts.{checked, with_vertex}
+use Rattle.sgb_graph.specs.Parts.{checked}
 use Rattle.sgb_graph.specs.Sound.{IsGraph}
 use Rattle.sgb_graph.specs.inner.Fitting.{first_fails, most, record_may_fit, vertex_may_fit, with_more}
 use Rattle.sgb_graph.specs.declared.fields.ArcRec.{ArcRec}
@@ -25,12 +20,6 @@ pub with_none : (vertices : List Vertex) (records : List ArcRec) (g : GraphData)
 with_none [] [] g v r =
     ap (λ xs. record g { vertices = xs; records = g.records ++ [] }) (append-nil g.vertices) ∙ ap (λ xs. record g { records = xs }) (append-nil g.records)
 with_none _ _ g v e = absurd (omega arith)
-
--- a vertex that is kept
-pub vertex_among : (vertices : List Vertex) (records : List ArcRec) (g : GraphData) (x : Vertex) → length vertices ≡ 0 → with_more vertices records (with_vertex x g) ≡ with_vertex x (with_more vertices records g)
-vertex_among [] records g x e =
-    ap (λ xs. record g { vertices = xs; records = g.records ++ records }) (append-nil (g.vertices ++ x ∷ []) ∙ ap (λ xs. xs ++ x ∷ []) (sym (append-nil g.vertices)))
-vertex_among (y ∷ vertices) records g x e = absurd (omega (arith, e))
 
 -- where all elements fit, and what fits may stand there, no list begins with one that may not
 none_fails : {X : Type 0} (fits may : X → Bool) (xs ys : List X) → ((x : X) → fits x ≡ true → may x ≡ true) → list_all fits (xs ++ ys) ≡ true → first_fails may ys ≡ true → length ys ≡ 0

@@ -1,7 +1,5 @@
 -- A new graph is one.
-use Rattle.std.proofs.Common.{◌≤◌, ℕ, List, [], length, map, arith}
-use Rattle.std.proofs.lemmas.Bool.{and_from, le-leb}
-use Rattle.std.proofs.lemmas.List.{length-map}
+use Rattle.sgb_vec.proofs.Common.{◌≤◌, ℕ, List, [], length, map, arith, and_from, le-leb, length-map}
 use Rattle.sgb_vec.specs.Limits.{most_vertices}
 use Rattle.sgb_graph.specs.Graphs.{GraphData, numbers_from}
 use Rattle.sgb_graph.specs.Made.{no_kinds, no_fields}

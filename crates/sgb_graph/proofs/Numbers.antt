@@ -1,10 +1,5 @@
 -- Integers in the utility fields x, y, z of vertices.
-use Rattle.std.proofs.Common.{rules, ◌≡◌, ℕ, slice_get, option_map, zero, suc, ℤ, true, List, [], ◌∷◌, length, set, map, refl, ap, ◌∙◌, arith}
-use Rattle.std.specs.Option.{option_map_or}
-use Rattle.std.proofs.lemmas.Bool.{and_parts, and_from}
-use Rattle.std.proofs.Math.Seq.{take-set-lt}
-use Rattle.std.proofs.lemmas.List.{drop-set-lt, length-map}
-use Rattle.std.proofs.lemmas.Option.{slice_get-map}
+use Rattle.sgb_vec.proofs.Common.{rules, ◌≡◌, ℕ, slice_get, option_map, zero, suc, ℤ, true, List, [], ◌∷◌, length, set, map, refl, ap, ◌∙◌, arith, option_map_or, and_parts, and_from, take-set-lt, drop-set-lt, length-map, slice_get-map}
 use Rattle.sgb_graph.specs.Graphs.{GraphData, chain_of}
 use Rattle.sgb_graph.specs.inner.Chains.{links_of}
 use Rattle.sgb_graph.specs.Sound.{arc_kinds, graph_kinds, vertex_kinds, util_fits, utils_fit}

@@ -1,12 +1,5 @@
 -- A generator that stands at a draw, and the draw that it hands out.
-use Rattle.std.proofs.Common.{◌≡◌, ℕ, ℤ, ◌+◌, ◌-◌, ◌*◌, ◌/◌, ◌%◌, ◌<◌, ◌≤◌, List, length, map, get_or, ap, sym, ◌∙◌, subst, inl, inr, arith}
-use Rattle.std.specs.Prelude.{pos}
-use Rattle.std.specs.Int.{int_rem_euclid}
-use Rattle.std.specs.List.{range_with_len}
-use lib.IntN.{nat_abs}
-use Rattle.std.proofs.lemmas.Bool.{cases_lt}
-use Rattle.std.proofs.lemmas.List.{ext_get_or}
-use Rattle.std.proofs.lemmas.List.FromFn.{get_or-map-range_with_len, length-map-range_with_len}
+use Rattle.sgb_vec.proofs.Common.{◌≡◌, ℕ, ℤ, ◌+◌, ◌-◌, ◌*◌, ◌/◌, ◌%◌, ◌<◌, ◌≤◌, List, length, map, get_or, ap, sym, ◌∙◌, subst, inl, inr, arith, range_with_len, cases_lt, ext_get_or, get_or-map-range_with_len, length-map-range_with_len}
 use Rattle.sgb_graph.specs.Draws.{IsUniformDraw, IsAtDraw, bound_below, draw, modulus, seed_of, x_number}
 use Rattle.sgb_graph.specs.inner.Flips.{HandsOut, IsCycle, IsFirstCycle, IsNextCycle}
 use Rattle.sgb_graph.proofs.DrawLemmas.{first_number}
@@ -91,14 +84,6 @@ skips_over start k count old left new next cycle stands jump follows many =
 pub result_below : (old : List ℕ) (left result : ℕ) (new : List ℕ) (left_after : ℕ) → HandsOut old left result new left_after → result < modulus
 result_below old left result new left_after out = grind (arith)
 
--- a start value modulo 2^31 is its remainder that is not negative
-pub remainder_is_seed : (z : ℤ) → nat_abs (int_rem_euclid z (pos modulus)) ≡ seed_of z
-remainder_is_seed z = grind (arith)
-
--- and below 2^31
-pub seed_below : (z : ℤ) → seed_of z < modulus
-seed_below z = grind (arith)
-
 -- a cycle that has the numbers X(n + 1) to X(n + 55)
 pub record IsCycleFrom (seed n : ℕ) (numbers : List ℕ) : Type 0 where
   pub cycle : IsCycle numbers
@@ -124,10 +109,6 @@ pub record HasThrownAway (start : ℤ) (m k : ℕ) (numbers : List ℕ) (left : 
   pub from_place : k ≤ next
   pub thrown_away : (t : ℕ) → k ≤ t → t < next → bound_below m ≤ draw (seed_of start) t
   pub stands : IsAtDraw start next numbers left
-
--- none yet
-pub thrown_none : (start : ℤ) (m k : ℕ) (numbers : List ℕ) (left : ℕ) → IsAtDraw start k numbers left → HasThrownAway start m k numbers left
-thrown_none start m k numbers left stands = record { next = k; from_place = omega arith; thrown_away = λ t low high. absurd (omega arith); stands = stands }
 
 -- one more
 pub thrown_more : (start : ℤ) (m k : ℕ) (old : List ℕ) (left result : ℕ) (new : List ℕ) (left_after : ℕ) → HasThrownAway start m k old left → HandsOut old left result new left_after → bound_below m ≤ result → HasThrownAway start m k new left_after

@@ -1,8 +1,5 @@
 -- The rows of a table, given by its columns.
-use Rattle.std.proofs.Common.{◌≡◌, ◌<◌, ℕ, zero, suc, List, [], ◌∷◌, ◌++◌, length, get_or, map, replicate, set, Some, refl, ap, sym, ◌∙◌, add-one, arith}
-use Rattle.std.specs.Prelude.{slice_get}
-use Rattle.std.proofs.lemmas.List.{length-replicate}
-use Rattle.std.proofs.lemmas.Grind.{replicate_next}
+use Rattle.sgb_vec.proofs.Common.{◌≡◌, ◌<◌, ℕ, zero, suc, List, [], ◌∷◌, ◌++◌, length, get_or, map, replicate, set, Some, refl, ap, sym, ◌∙◌, add-one, arith, slice_get, length-replicate, replicate_next}
 use Rattle.sgb_graph.specs.Growth.{at_place}
 use Rattle.sgb_graph.specs.inner.KeptVertices.{AreColumns, combined, in_front, rows, with_row}
 

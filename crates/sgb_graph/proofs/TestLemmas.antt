@@ -1,9 +1,5 @@
 -- Facts from tests that are tried out.
-use Rattle.std.specs.Prelude.{◌≡◌, ℕ, ◌<◌, Bool, true, not, ◌&&◌, ◌||◌, length}
-use Rattle.std.specs.List.{list_all, range_with_len}
-use Rattle.std.proofs.Common.{arith}
-use Rattle.std.proofs.lemmas.List.Sums.{AllPass-from_list_all}
-use Rattle.std.proofs.lemmas.List.FromFn.{length-range_with_len, get_or-range_with_len}
+use Rattle.sgb_vec.proofs.Common.{arith, ◌≡◌, ℕ, ◌<◌, Bool, true, not, ◌&&◌, ◌||◌, length, list_all, range_with_len, AllPass-from_list_all, length-range_with_len, get_or-range_with_len}
 
 -- a test that passes at each number below n, tried one by one
 pub at_each_below : (test : ℕ → Bool) (n : ℕ) → list_all test (range_with_len 0 n) ≡ true → (k : ℕ) → k < n → test k ≡ true

@@ -1,10 +1,5 @@
 -- Arcs lead to vertices of the graph.
-use Rattle.std.proofs.Common.{◌≡◌, ◌<◌, ℕ, zero, suc, true, List, [], ◌∷◌, Option, Some, None, refl, arith}
-use Rattle.std.specs.Prelude.{slice_get}
-use Rattle.std.specs.Option.{option_map_or}
-use Rattle.std.specs.List.{All, list_all, flat_map}
-use Rattle.std.proofs.lemmas.Bool.{and_parts, ltb-true}
-use Rattle.std.proofs.lemmas.List.Elements.{All-nil, All-cons}
+use Rattle.sgb_vec.proofs.Common.{◌≡◌, ◌<◌, ℕ, zero, suc, true, List, [], ◌∷◌, Option, Some, None, refl, arith, slice_get, option_map_or, All, list_all, flat_map, and_parts, ltb-true, All-nil, All-cons}
 use Rattle.sgb_graph.specs.Graphs.{numbers_from, link_of, vertex_of}
 use Rattle.sgb_graph.specs.Sound.{ref_fits}
 use Rattle.sgb_graph.specs.declared.fields.Kind.{Kind}

@@ -1,10 +1,5 @@
 -- Of 1760 draws in a row one is below the bound of a uniform draw, so that each uniform draw is found.
-use Rattle.std.specs.Prelude.{◌≡◌, ℕ, zero, suc, ◌+◌, ◌-◌, ◌*◌, ◌/◌, ◌%◌, ◌^◌, ◌<◌, ◌≤◌, Option, Some, None, find, nat_lt, unwrap_or, refl}
-use Rattle.std.specs.List.{range_with_len}
-use Rattle.std.proofs.Common.{rules, arith, ap, subst}
-use Rattle.std.proofs.Math.Nat.{two-pow-succ}
-use Rattle.std.proofs.lemmas.Bool.{cases_lt}
-use Rattle.std.proofs.lemmas.Bool.Decides.{Decides-ltb}
+use Rattle.sgb_vec.proofs.Common.{rules, arith, ap, subst, ◌≡◌, ℕ, zero, suc, ◌+◌, ◌-◌, ◌*◌, ◌/◌, ◌%◌, ◌^◌, ◌<◌, ◌≤◌, Option, Some, None, find, nat_lt, unwrap_or, refl, range_with_len, two-pow-succ, cases_lt, Decides-ltb}
 use Rattle.sgb_graph.specs.Draws.{modulus, difference, x_number, draw, bound_below, IsUniformDraw, first_taken, most_tried, used_draw}
 use Rattle.sgb_graph.proofs.Cycles.{difference_below}
 use Rattle.sgb_graph.proofs.DrawLemmas.{later_number, found_first}

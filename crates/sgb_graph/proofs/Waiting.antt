@@ -1,8 +1,5 @@
 -- How long a generator may hand out numbers from a bound on, where that bound is above 2^30.
-use Rattle.std.proofs.Common.{rules, ◌≡◌, ℕ, ◌+◌, ◌-◌, ◌*◌, ◌^◌, ◌<◌, ◌≤◌, Bool, ◌&&◌, ◌||◌, cond, List, get_or, inl, inr, arith, ltb, leb}
-use Rattle.std.proofs.lemmas.Bool.{cases_lt, cases_Bool, cond-true, cond-false, cond_both, or_cases, or_parts, or_left, or_right, and_parts, and_from, ltb-true, ltb-false, leb-true, lt-ltb, le-leb}
-use Rattle.std.proofs.lemmas.Nat.{le-div, mod_below}
-use Rattle.std.proofs.Math.Nat.{div-add-mod, mul-le-mul_left}
+use Rattle.sgb_vec.proofs.Common.{rules, ◌≡◌, ℕ, ◌+◌, ◌-◌, ◌*◌, ◌^◌, ◌<◌, ◌≤◌, Bool, ◌&&◌, ◌||◌, cond, List, get_or, inl, inr, arith, ltb, leb, cases_lt, cases_Bool, cond-true, cond-false, cond_both, or_cases, or_parts, or_left, or_right, and_parts, and_from, ltb-true, ltb-false, leb-true, lt-ltb, le-leb, le-div, mod_below, div-add-mod, mul-le-mul_left}
 use Rattle.sgb_graph.specs.Draws.{modulus, difference, bound_below}
 use Rattle.sgb_graph.specs.inner.Flips.{HandsOut, IsNextCycle}
 

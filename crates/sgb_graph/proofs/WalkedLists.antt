@@ -1,10 +1,5 @@
 -- Walks along the lists of all vertices, one after another.
-use Rattle.std.proofs.Common.{◌≡◌, ◌<◌, ◌+◌, ◌∙◌, ℕ, true, false, List, [], length, get_or, take, Option, ap, sym}
-use Rattle.std.specs.List.{list_all}
-use Rattle.std.specs.Option.{option_and_then}
-use Rattle.std.proofs.lemmas.Bool.{and_from}
-use Rattle.std.proofs.lemmas.List.Folds.{list_all_at, list_all_more}
-use Rattle.std.proofs.lemmas.Option.{slice_get-get_or}
+use Rattle.sgb_vec.proofs.Common.{◌≡◌, ◌<◌, ◌+◌, ◌∙◌, ℕ, true, false, List, [], length, get_or, take, Option, ap, sym, list_all, option_and_then, and_from, list_all_at, list_all_more, slice_get-get_or}
 use Rattle.sgb_graph.specs.Graphs.{ends_of}
 use Rattle.sgb_graph.specs.Growth.{first_arc}
 use Rattle.sgb_graph.specs.inner.KeptVertices.{bare_named}

@@ -1,9 +1,5 @@
 -- An induced graph under way, and finished: it is the one that is described.
-use Rattle.std.proofs.Common.{arith, ◌≡◌, ◌∙◌, Bool, true, false, List, Result, Ok, length, refl, sym, ap, subst}
-use Rattle.std.specs.Prelude.{All, IfOk, IsOkUnless}
-use Rattle.std.specs.List.{list_any}
-use Rattle.std.proofs.lemmas.List.{length-map}
-use Rattle.std.proofs.lemmas.List.Elements.{All-filter, filter-append}
+use Rattle.sgb_vec.proofs.Common.{arith, ◌≡◌, ◌∙◌, Bool, true, false, List, Result, Ok, length, refl, sym, ap, subst, All, IfOk, IsOkUnless, list_any, length-map, All-filter, filter-append}
 use Rattle.sgb_vec.specs.declared.panics.Panic.{Panic}
 use Rattle.sgb_vec.specs.declared.panics.Panic.TheVariants.{NoRoom}
 use Rattle.sgb_graph.specs.Descriptions.{IsAnswerOf, IsGraphOf}

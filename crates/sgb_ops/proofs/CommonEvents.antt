@@ -1,12 +1,5 @@
 -- The events of an intersection, as they are found one by one.
-use Rattle.std.proofs.Common.{rules, ◌≡◌, ◌<◌, ◌+◌, ◌-◌, ◌==◌, ℕ, min, ℤ, Bool, true, false, List, [], ◌∷◌, ◌++◌, map, take, length, Option, Some, None, refl, sym, ◌∙◌, append_assoc, arith}
-use Rattle.std.specs.Prelude.{All, flat_map, nat_lt, if◌then◌else◌}
-use Rattle.std.specs.List.{enumerate_from}
-use Rattle.std.proofs.lemmas.Bool.{cases_Bool, cond_both, ltb-true}
-use Rattle.std.proofs.lemmas.Bool.Decides.{nat_tests}
-use Rattle.std.proofs.lemmas.List.{length-append, take_at}
-use Rattle.std.proofs.lemmas.List.Elements.{All-nil, All-cons, All-append}
-use Rattle.std.proofs.lemmas.List.Sums.{length-filter}
+use Rattle.sgb_vec.proofs.Common.{rules, ◌≡◌, ◌<◌, ◌+◌, ◌-◌, ◌==◌, ℕ, min, ℤ, Bool, true, false, List, [], ◌∷◌, ◌++◌, map, take, length, Option, Some, None, refl, sym, ◌∙◌, append_assoc, arith, All, flat_map, nat_lt, if◌then◌else◌, enumerate_from, cases_Bool, cond_both, ltb-true, nat_tests, length-append, take_at, All-nil, All-cons, All-append, length-filter, int_max}
 use Rattle.sgb_graph.specs.Graphs.{GraphData}
 use Rattle.sgb_graph.specs.Events.{Event, HasEndsBelow}
 use Rattle.sgb_graph.specs.Growth.{IsKept}
@@ -19,7 +12,6 @@ use Rattle.sgb_ops.specs.Taken.{taken}
 use Rattle.sgb_ops.specs.inner.Tallies.{tally_left, tally_of, tally_to, without_one, second_length, event_left}
 use Rattle.sgb_ops.specs.declared.tallies.Tally.{Tally}
 use Rattle.sgb_ops.specs.inner.Intersection.{common_event}
-use Rattle.std.specs.Int.{int_max}
 use Rattle.sgb_ops.proofs.EventsWithin.{TipBelow, taken_tips, events_after_within}
 use Rattle.sgb_ops.proofs.PlainLists.{places_from}
 use Rattle.sgb_ops.proofs.TallyLemmas.{arcs_to, count_more, count_at, tip_counted}

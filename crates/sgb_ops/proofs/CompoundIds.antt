@@ -1,6 +1,5 @@
 -- The ids of results: whole where they fit, else cut.
-use Rattle.std.proofs.Common.{rules, ◌≡◌, ℕ, List, ◌+◌, ◌-◌, ◌/◌, ◌++◌, ◌≤◌, ◌<◌, length, length-append}
-use Rattle.std.proofs.lemmas.List.{length-take-le}
+use Rattle.std.proofs.Common.{rules, ◌≡◌, ℕ, List, ◌+◌, ◌-◌, ◌/◌, ◌++◌, ◌≤◌, ◌<◌, length, length-append, length-take-le}
 use Rattle.sgb_graph.specs.Ids.{compound_id, cut_id, double_compound_id, most_id_bytes}
 
 -- an operand's id that fits, and one that does not

@@ -1,10 +1,7 @@
 -- The arcs of a copy: the vertices that a list leads to, in order and each once.
-use Rattle.std.proofs.Common.{Less, ◌≡◌, ℕ, ◌+◌, ◌<◌, ◌≤◌, ◌==◌, Bool, true, false, zero, suc, ◌&&◌, ◌||◌, cond, ◌++◌, List, [], ◌∷◌, filter, map, pos, refl, ap, subst, ◌∙◌, sym, arith}
-use Rattle.std.specs.List.{All, AllByRecursion, dedup, dedup_from, list_any, range_with_len}
-use Rattle.std.proofs.lemmas.Bool.Decides.{nat_tests}
+use Rattle.sgb_vec.proofs.Common.{Less, ◌≡◌, ℕ, ◌+◌, ◌<◌, ◌≤◌, ◌==◌, Bool, true, false, zero, suc, ◌&&◌, ◌||◌, cond, ◌++◌, List, [], ◌∷◌, filter, map, pos, refl, ap, subst, ◌∙◌, sym, arith, All, AllByRecursion, dedup, dedup_from, list_any, range_with_len, nat_tests, All-nil, All-cons, All-head, All-tail, filter_agree}
 use Rattle.std.specs.List.Sorted.{IsStrictlySortedBy}
 use Rattle.std.specs.Ordering.{nat_cmp}
-use Rattle.std.proofs.lemmas.List.Elements.{All-nil, All-cons, All-head, All-tail, filter_agree}
 use Rattle.sgb_graph.specs.Events.{Event}
 use Rattle.sgb_graph.specs.Graphs.{GraphData}
 use Rattle.sgb_graph.specs.Vertices.{order_of}

@@ -1,13 +1,5 @@
 -- The copies of the vertices, one vertex after another.
-use Rattle.std.proofs.Common.{◌≡◌, ◌<◌, ◌≤◌, ◌+◌, ◌-◌, ℕ, zero, suc, List, [], ◌∷◌, ◌++◌, length, take, false, refl, sym, ap, ◌∙◌, inl, inr, append-nil, arith}
-use Rattle.std.specs.Prelude.{◌⊎◌, Contains, Option, Some, None, filter, flat_map, nat_le, slice_get, sum_by}
-use Rattle.std.specs.List.{list_any, range_with_len}
-use Rattle.std.specs.Option.{option_map_or}
-use Rattle.std.proofs.lemmas.Bool.{cases_lt, le-leb, lt-leb}
-use Rattle.std.proofs.lemmas.Bool.Decides.{nat_tests}
-use Rattle.std.proofs.lemmas.Grind.{flat_map-append}
-use Rattle.std.proofs.lemmas.List.{take_all}
-use Rattle.std.proofs.lemmas.List.Elements.{All-contains}
+use Rattle.sgb_vec.proofs.Common.{◌≡◌, ◌<◌, ◌≤◌, ◌+◌, ◌-◌, ℕ, zero, suc, List, [], ◌∷◌, ◌++◌, length, take, false, refl, sym, ap, ◌∙◌, inl, inr, append-nil, arith, ◌⊎◌, Contains, Option, Some, None, filter, flat_map, nat_le, slice_get, sum_by, list_any, range_with_len, option_map_or, cases_lt, le-leb, lt-leb, nat_tests, flat_map-append, take_all, All-contains}
 use Rattle.sgb_vec.proofs.Lists.{range-within, filter-all, range-joined, range-more}
 use Rattle.sgb_ops.specs.declared.induced_graphs.entries.Entry.{Entry}
 use Rattle.sgb_ops.specs.Copies.{own_copies}

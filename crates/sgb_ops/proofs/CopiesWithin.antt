@@ -1,11 +1,5 @@
 -- The vertices that entries make: the names of all, and the events between them.
-use Rattle.std.proofs.Common.{rules, ◌≡◌, ◌<◌, ◌≤◌, ◌+◌, ℕ, Bool, false, List, [], ◌∷◌, length, get_or, refl, arith}
-use Rattle.std.specs.Prelude.{All}
-use Rattle.std.specs.List.{list_any, range_with_len, enumerate_from}
-use Rattle.std.proofs.lemmas.List.{length-append, length-map, get_or_default}
-use Rattle.std.proofs.lemmas.List.Elements.{All-nil, All-map, All-filter, All-weaker}
-use Rattle.std.proofs.lemmas.List.FromFn.{length-range_with_len, length-enumerate_from, get_or-enumerate_from}
-use Rattle.std.proofs.lemmas.List.Sums.{sum_by-cons, sum_by-take-le}
+use Rattle.sgb_vec.proofs.Common.{rules, ◌≡◌, ◌<◌, ◌≤◌, ◌+◌, ℕ, Bool, false, List, [], ◌∷◌, length, get_or, refl, arith, All, list_any, range_with_len, enumerate_from, length-append, length-map, get_or_default, All-nil, All-map, All-filter, All-weaker, length-range_with_len, length-enumerate_from, get_or-enumerate_from, sum_by-cons, sum_by-take-le}
 use Rattle.sgb_vec.proofs.Lists.{All-flat_map, range-within}
 use Rattle.sgb_graph.specs.Events.{HasEndsBelow}
 use Rattle.sgb_graph.specs.Graphs.{GraphData}

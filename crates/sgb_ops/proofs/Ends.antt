@@ -1,8 +1,6 @@
 -- What it means that two events have the same ends.
-use Rattle.std.proofs.Common.{◌≡◌, ◌⊎◌, ◌==◌, ◌&&◌, ℕ, Bool, true, false, arith}
+use Rattle.sgb_vec.proofs.Common.{◌≡◌, ◌⊎◌, ◌==◌, ◌&&◌, ℕ, Bool, true, false, arith, and_parts, or_cases, eqb-true, nat_tests}
 use Rattle.std.proofs.Math.Bool.{or-false}
-use Rattle.std.proofs.lemmas.Bool.{and_parts, or_cases, eqb-true}
-use Rattle.std.proofs.lemmas.Bool.Decides.{nat_tests}
 use Rattle.sgb_graph.specs.Events.{Event}
 use Rattle.sgb_ops.specs.inner.Ends.{ends_key}
 use Rattle.sgb_ops.specs.Merged.{has_ends_of}

@@ -1,8 +1,5 @@
 -- Events whose ends are vertices of a graph.
-use Rattle.std.proofs.Common.{◌<◌, ◌≤◌, ◌+◌, ℕ, Bool, true, false, List, map, length, arith}
-use Rattle.std.specs.Prelude.{All, flat_map}
-use Rattle.std.specs.List.{range_with_len}
-use Rattle.std.proofs.lemmas.List.Elements.{All-nil, All-map}
+use Rattle.sgb_vec.proofs.Common.{◌<◌, ◌≤◌, ◌+◌, ℕ, Bool, true, false, List, map, length, arith, All, flat_map, range_with_len, All-nil, All-map}
 use Rattle.sgb_graph.specs.Graphs.{GraphData, chain_of}
 use Rattle.sgb_vec.proofs.Lists.{All-flat_map, range-within}
 use Rattle.sgb_graph.specs.Events.{Event, HasEndsBelow}

@@ -1,13 +1,6 @@
 -- The events of an induced graph where parts have no ends in common: those of each vertex of a graph that is put in, and
 -- those of each copy.
-use Rattle.std.proofs.Common.{◌≡◌, ◌⊎◌, ◌<◌, ◌≤◌, ◌+◌, ◌==◌, ℕ, zero, suc, Bool, true, false, List, [], ◌∷◌, ◌++◌, length, get_or, Option, Some, None, inl, inr, refl, sym, ap, subst, ◌∙◌, arith, rules}
-use Rattle.std.specs.Prelude.{All, Contains, flat_map, slice_get}
-use Rattle.std.specs.List.{list_any, enumerate_from, range_with_len}
-use Rattle.std.specs.Option.{option_map_or}
-use Rattle.std.proofs.lemmas.Bool.{both_ways, cases_eq, cases_lt, eq-eqb, or_parts}
-use Rattle.std.proofs.lemmas.Bool.Decides.{nat_tests}
-use Rattle.std.proofs.lemmas.List.Folds.{list_any_at}
-use Rattle.std.proofs.lemmas.List.Elements.{All-nil, All-map, All-filter, All-weaker, All-contains_itself, filter_passes, filter-append}
+use Rattle.sgb_vec.proofs.Common.{◌≡◌, ◌⊎◌, ◌<◌, ◌≤◌, ◌+◌, ◌==◌, ℕ, zero, suc, Bool, true, false, List, [], ◌∷◌, ◌++◌, length, get_or, Option, Some, None, inl, inr, refl, sym, ap, subst, ◌∙◌, arith, rules, All, Contains, flat_map, slice_get, list_any, enumerate_from, range_with_len, option_map_or, both_ways, cases_eq, cases_lt, eq-eqb, or_parts, nat_tests, list_any_at, All-nil, All-map, All-filter, All-weaker, All-contains_itself, filter_passes, filter-append, get_or_from_slice_get, slice_get_within}
 use Rattle.sgb_vec.proofs.Lists.{All-flat_map, Contains-range, never_true, range-within}
 use Rattle.sgb_graph.specs.Graphs.{GraphData}
 use Rattle.sgb_graph.specs.Events.{Event, HasEndsBelow}
@@ -34,7 +27,6 @@ use Rattle.sgb_ops.proofs.EventsWithin.{taken_tips}
 use Rattle.sgb_ops.proofs.MergedParts.{AreApart, merged_both}
 use Rattle.sgb_ops.proofs.RisingParts.{Rises, merged_rising, rises_wider}
 use Rattle.sgb_ops.proofs.Taking.{taken_up}
-use Rattle.std.proofs.lemmas.Option.{get_or_from_slice_get, slice_get_within}
 
 -- the ends of the event are vertices of a to b
 abbrev pub Inside : ℕ → ℕ → Event → Type 0

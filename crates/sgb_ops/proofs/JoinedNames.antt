@@ -1,8 +1,5 @@
 -- Names that are made of names.
-use Rattle.std.proofs.Common.{◌≡◌, ℕ, ◌≤◌, ◌<◌, ◌^◌, [], ◌∷◌, take, length, arith}
-use Rattle.std.specs.Prelude.{decimal}
-use Rattle.std.proofs.lemmas.Fmt.{length-decimal-le}
-use Rattle.std.proofs.lemmas.List.{take_all}
+use Rattle.sgb_vec.proofs.Common.{◌≡◌, ℕ, ◌≤◌, ◌<◌, ◌^◌, [], ◌∷◌, take, length, arith, decimal, length-decimal-le, take_all}
 use Rattle.sgb_vec.specs.Names.{name_of_vector}
 
 -- a number of 32 bits has at most ten digits

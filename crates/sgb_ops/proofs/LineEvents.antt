@@ -1,9 +1,5 @@
 -- The lines of a graph and the events between them, as they are found one by one.
-use Rattle.std.proofs.Common.{rules, ◌≡◌, ◌<◌, ◌≤◌, ◌+◌, ℕ, suc, Bool, List, [], ◌∷◌, ◌++◌, map, reverse, length, ap, ◌∙◌, arith}
-use Rattle.std.specs.Prelude.{All, flat_map}
-use Rattle.std.specs.List.{range_with_len, enumerate_from}
-use Rattle.std.proofs.lemmas.List.{reverse-append}
-use Rattle.std.proofs.lemmas.List.Elements.{All-nil, All-cons, All-map, All-weaker}
+use Rattle.sgb_vec.proofs.Common.{rules, ◌≡◌, ◌<◌, ◌≤◌, ◌+◌, ℕ, suc, Bool, List, [], ◌∷◌, ◌++◌, map, reverse, length, ap, ◌∙◌, arith, All, flat_map, range_with_len, enumerate_from, reverse-append, All-nil, All-cons, All-map, All-weaker}
 use Rattle.sgb_graph.specs.Graphs.{GraphData}
 use Rattle.sgb_graph.specs.Events.{Event}
 use Rattle.sgb_graph.specs.Growth.{IsKept}

@@ -1,11 +1,5 @@
 -- The earlier lines at each vertex: the edges to them are those of the line graph. And the lines come from the last vertex down.
-use Rattle.std.proofs.Common.{rules, ◌≡◌, ◌<◌, ◌≤◌, ◌+◌, ◌==◌, ℕ, zero, suc, Bool, true, false, not, ◌&&◌, cond, List, [], ◌∷◌, ◌++◌, map, take, reverse, length, append-nil, refl, sym, ap, subst, ◌∙◌, inl, inr, arith}
-use Rattle.std.specs.Prelude.{All, filter, if◌then◌else◌, slice_index_or, slice_set}
-use Rattle.std.specs.List.{enumerate_from, range_with_len}
-use Rattle.std.proofs.lemmas.Bool.{cases_Bool, cases_eq, eq-eqb, ne_eqb}
-use Rattle.std.proofs.lemmas.List.{map-append, take_more, length-take-le, get_or-take, get_or_default, get_or-set_same, get_or-set_other, map-set, length-map, get_or-map}
-use Rattle.std.proofs.lemmas.List.Elements.{All-nil, All-cons, All-head, All-tail, All-map, All-filter, All-weaker}
-use Rattle.std.proofs.lemmas.List.FromFn.{length-enumerate_from, get_or-enumerate_from}
+use Rattle.sgb_vec.proofs.Common.{rules, ◌≡◌, ◌<◌, ◌≤◌, ◌+◌, ◌==◌, ℕ, zero, suc, Bool, true, false, not, ◌&&◌, cond, List, [], ◌∷◌, ◌++◌, map, take, reverse, length, append-nil, refl, sym, ap, subst, ◌∙◌, inl, inr, arith, All, filter, if◌then◌else◌, slice_index_or, slice_set, enumerate_from, range_with_len, cases_Bool, cases_eq, eq-eqb, ne_eqb, map-append, take_more, length-take-le, get_or-take, get_or_default, get_or-set_same, get_or-set_other, map-set, length-map, get_or-map, All-nil, All-cons, All-head, All-tail, All-map, All-filter, All-weaker, length-enumerate_from, get_or-enumerate_from, nat_tests}
 use Rattle.std.proofs.Math.Bool.{and-false}
 use Rattle.sgb_vec.proofs.Lists.{All-flat_map, filter-all, filter-none, made-append}
 use Rattle.smallvec.specs.SmallVec.{SmallVec}
@@ -20,7 +14,6 @@ use Rattle.sgb_ops.specs.declared.line_graphs.line.Line.{Line}
 use Rattle.sgb_ops.proofs.LineEvents.{lines_at, lines_below, lines_below-more, numbers_below}
 use Rattle.sgb_ops.proofs.LineRuns.{events_of_places}
 use Rattle.sgb_ops.proofs.Taking.{each_edge_once_leads_up}
-use Rattle.std.proofs.lemmas.Bool.Decides.{nat_tests}
 
 -- the lines before a place fall to where the line there begins
 abbrev pub FallTo : ℕ → List Line → ℕ → Type 0

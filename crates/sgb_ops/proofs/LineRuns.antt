@@ -1,11 +1,5 @@
 -- The lines that begin at one vertex, as a run.
-use Rattle.std.proofs.Common.{rules, ◌≡◌, ◌<◌, ◌≤◌, ◌+◌, ◌-◌, ◌==◌, ℕ, pos, true, not, nat_lt, List, [], ◌∷◌, map, length, set, get_or, refl, ap, ◌∙◌, arith}
-use Rattle.std.specs.Prelude.{All, filter, slice_index}
-use Rattle.std.specs.List.{enumerate_from, range_with_len}
-use Rattle.std.proofs.lemmas.Bool.{cases_eq, lt-ltb}
-use Rattle.std.proofs.lemmas.Bool.Decides.{nat_tests}
-use Rattle.std.proofs.lemmas.List.{length-set, get_or-set_same, get_or-set_other, get_or_default}
-use Rattle.std.proofs.lemmas.List.Sums.{length-filter, count_by-le-length}
+use Rattle.sgb_vec.proofs.Common.{rules, ◌≡◌, ◌<◌, ◌≤◌, ◌+◌, ◌-◌, ◌==◌, ℕ, pos, true, not, nat_lt, List, [], ◌∷◌, map, length, set, get_or, refl, ap, ◌∙◌, arith, All, filter, slice_index, enumerate_from, range_with_len, cases_eq, lt-ltb, nat_tests, length-set, get_or-set_same, get_or-set_other, get_or_default, length-filter, count_by-le-length}
 use Rattle.sgb_vec.proofs.Lists.{filter-none}
 use Rattle.sgb_ops.specs.inner.Lines.{DescendFrom, LineWithin, events_to_numbers, events_to}
 use Rattle.sgb_ops.specs.inner.LineRuns.{begin_at, begin_from}

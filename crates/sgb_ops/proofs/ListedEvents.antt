@@ -1,12 +1,5 @@
 -- The events of a list by its tips and lengths.
-use Rattle.std.proofs.Common.{◌≡◌, ◌≢◌, ◌∙◌, ◌+◌, ◌-◌, ◌*◌, ◌<◌, ℕ, suc, ℤ, pos, Bool, true, false, Some, None, List, [], ◌∷◌, ◌++◌, append_assoc, length, map, reverse, refl, sym, ap, ap₂, subst, Result, Ok, Err, arith}
-use Rattle.std.specs.Prelude.{All, OnOk, filter, nat_lt, if◌then◌else◌}
-use Rattle.std.specs.List.{range_with_len}
-use Rattle.std.proofs.lemmas.Bool.{cases_lt, lt-ltb, le-ltb, ne_eqb}
-use Rattle.std.proofs.lemmas.Bool.Decides.{nat_tests}
-use Rattle.std.proofs.lemmas.List.{length-append, length-map, length-reverse, reverse-append}
-use Rattle.std.proofs.lemmas.List.FromFn.{map-range_with_len_more}
-use Rattle.std.proofs.lemmas.List.Elements.{All-tail}
+use Rattle.sgb_vec.proofs.Common.{◌≡◌, ◌≢◌, ◌∙◌, ◌+◌, ◌-◌, ◌*◌, ◌<◌, ℕ, suc, ℤ, pos, Bool, true, false, Some, None, List, [], ◌∷◌, ◌++◌, append_assoc, length, map, reverse, refl, sym, ap, ap₂, subst, Result, Ok, Err, arith, All, OnOk, filter, nat_lt, if◌then◌else◌, range_with_len, cases_lt, lt-ltb, le-ltb, ne_eqb, nat_tests, length-append, length-map, length-reverse, reverse-append, map-range_with_len_more, All-tail}
 use Rattle.sgb_graph.specs.Events.{Event}
 use Rattle.sgb_graph.specs.Graphs.{GraphData, chain_of}
 use Rattle.sgb_graph.specs.Growth.{IsKept}

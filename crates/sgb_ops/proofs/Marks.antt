@@ -1,9 +1,5 @@
 -- Marks at the vertices that a list of arcs leads to.
-use Rattle.std.proofs.Common.{rules, ◌≡◌, ℕ, ◌+◌, ◌<◌, ◌≤◌, ◌==◌, Bool, cond, List, ◌∷◌, ◌++◌, length, take, set, get_or, ◌∙◌, arith}
-use Rattle.std.specs.List.{list_any}
-use Rattle.std.proofs.lemmas.Bool.{cases_Bool, cond_both}
-use Rattle.std.proofs.lemmas.Bool.Decides.{nat_tests}
-use Rattle.std.proofs.lemmas.List.{get_or-set_same, get_or-set_other, take-append-le, take_all}
+use Rattle.sgb_vec.proofs.Common.{rules, ◌≡◌, ℕ, ◌+◌, ◌<◌, ◌≤◌, ◌==◌, Bool, cond, List, ◌∷◌, ◌++◌, length, take, set, get_or, ◌∙◌, arith, list_any, cases_Bool, cond_both, nat_tests, get_or-set_same, get_or-set_other, take-append-le, take_all}
 use Rattle.sgb_graph.specs.declared.fields.Link.{Link}
 
 -- one of these arcs leads to w
@@ -17,10 +13,6 @@ mark_at links mark marks w = cond (leads_to links w) mark (get_or marks w 0)
 -- the tip of the first arc is marked
 pub mark_at-next : (l : Link) (links : List Link) (mark : ℕ) (marks : List ℕ) (w : ℕ) → l.tip < length marks → mark_at links mark (set marks l.tip mark) w ≡ mark_at (l ∷ links) mark marks w
 mark_at-next l links mark marks w within = grind (arith, cases_Bool, nat_tests, get_or-set_same, cond_both, get_or-set_other)
-
--- marks of earlier lists are less than the mark of this one, so that this mark is at w where this list leads there
-pub is_marked : (links : List Link) (u : ℕ) (marks : List ℕ) (w : ℕ) → get_or marks w 0 ≤ u → (mark_at links (u + 1) marks w == u + 1) ≡ leads_to links w
-is_marked links u marks w earlier = search (rules, cases_Bool, nat_tests)
 
 -- and no mark is greater
 pub mark_at-le : (links : List Link) (u : ℕ) (marks : List ℕ) (w : ℕ) → get_or marks w 0 ≤ u → mark_at links (u + 1) marks w ≤ u + 1

@@ -1,11 +1,5 @@
 -- Events that are merged one by one.
-use Rattle.std.proofs.Common.{rules, ◌≡◌, ℕ, suc, Bool, true, false, not, List, [], ◌∷◌, ◌++◌, map, set, get_or, append-nil, refl, sym, ◌∙◌, inl, inr, arith}
-use Rattle.std.specs.Prelude.{filter}
-use Rattle.std.specs.List.{list_any, position_or_len}
-use Rattle.std.proofs.lemmas.Bool.{cases_Bool, or_parts}
-use Rattle.std.proofs.lemmas.List.{map_push}
-use Rattle.std.proofs.lemmas.List.Elements.{filter-append}
-use Rattle.std.proofs.lemmas.List.Sums.{fold-append}
+use Rattle.sgb_vec.proofs.Common.{rules, ◌≡◌, ℕ, suc, Bool, true, false, not, List, [], ◌∷◌, ◌++◌, map, set, get_or, append-nil, refl, sym, ◌∙◌, inl, inr, arith, filter, list_any, position_or_len, cases_Bool, or_parts, map_push, filter-append, fold-append}
 use Rattle.sgb_graph.specs.Events.{Event}
 use Rattle.sgb_ops.specs.inner.Ends.{ends_key, shortened, with_event}
 use Rattle.sgb_ops.specs.Merged.{has_ends_of, merged}

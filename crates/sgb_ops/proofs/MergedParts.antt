@@ -1,9 +1,5 @@
 -- Events in parts that share no ends are merged part by part.
-use Rattle.std.proofs.Common.{◌≡◌, ◌<◌, ◌≤◌, ◌+◌, ℕ, zero, suc, Bool, not, List, [], ◌∷◌, ◌++◌, get_or, refl, ap, ◌∙◌, append-nil, arith}
-use Rattle.std.specs.Prelude.{All, filter, flat_map}
-use Rattle.std.specs.List.{range_with_len}
-use Rattle.std.proofs.lemmas.Bool.{not_from_false}
-use Rattle.std.proofs.lemmas.List.Elements.{All-nil, All-head, All-tail, All-append, filter-append}
+use Rattle.sgb_vec.proofs.Common.{◌≡◌, ◌<◌, ◌≤◌, ◌+◌, ℕ, zero, suc, Bool, not, List, [], ◌∷◌, ◌++◌, get_or, refl, ap, ◌∙◌, append-nil, arith, All, filter, flat_map, range_with_len, not_from_false, All-nil, All-head, All-tail, All-append, filter-append}
 use Rattle.sgb_vec.proofs.Lists.{filter-none, filter-all}
 use Rattle.sgb_graph.specs.Events.{Event}
 use Rattle.sgb_ops.specs.Merged.{has_ends_of, merged, merged_unless}

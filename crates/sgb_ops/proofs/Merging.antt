@@ -1,15 +1,7 @@
 -- What is known of merged events.
-use Rattle.std.proofs.Common.{◌≡◌, ◌+◌, ◌≤ℤ◌, ℕ, ℤ, pos, Bool, true, false, not, ◌||◌, List, [], ◌∷◌, ◌++◌, map, take, length, fold, refl, sym, ap, ◌∙◌, subst, inl, inr, arith, rules}
-use Rattle.std.specs.Prelude.{All, AllPairs, Contains, filter, flat_map, if◌then◌else◌}
-use Rattle.std.specs.List.{list_any, enumerate_from}
-use Rattle.std.proofs.lemmas.Bool.{cases_Bool, not-true, not_from_false}
-use Rattle.std.proofs.lemmas.Int.{fold-int_min_bounds, fold-int_min_reached}
-use Rattle.std.proofs.lemmas.List.{append_assoc, length-append, take_at}
-use Rattle.std.proofs.lemmas.List.Elements.{All-nil, All-cons, All-head, All-tail, All-contains, All-filter, All-contains_itself, filter_passes, filter-append}
-use Rattle.std.proofs.lemmas.List.Kept.{AllPairs-filter, AllPairs-cons}
+use Rattle.sgb_vec.proofs.Common.{◌≡◌, ◌+◌, ◌≤ℤ◌, ℕ, ℤ, pos, Bool, true, false, not, ◌||◌, List, [], ◌∷◌, ◌++◌, map, take, length, fold, refl, sym, ap, ◌∙◌, subst, inl, inr, arith, rules, All, AllPairs, Contains, filter, flat_map, if◌then◌else◌, list_any, enumerate_from, cases_Bool, not-true, not_from_false, fold-int_min_bounds, fold-int_min_reached, append_assoc, length-append, take_at, All-nil, All-cons, All-head, All-tail, All-contains, All-filter, All-contains_itself, filter_passes, filter-append, AllPairs-filter, AllPairs-cons, int_min}
 use Rattle.sgb_vec.proofs.Lists.{Contains-first, Contains-other, Contains-none, Contains-cases, Contains-image, Contains-passing, same_tests}
 use Rattle.sgb_graph.specs.Events.{Event}
-use Rattle.std.specs.Int.{int_min}
 use Rattle.sgb_ops.specs.Merged.{has_ends_of, merged, named_ends, first_ones, IsShortest}
 use Rattle.sgb_ops.specs.inner.Merged.{with_least_length}
 use Rattle.sgb_ops.proofs.Ends.{own_ends, ends_turned, ends_joined}

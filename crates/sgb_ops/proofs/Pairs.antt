@@ -1,8 +1,5 @@
 -- The pairs of vertices of two graphs: how many there are, and their names.
-use Rattle.std.proofs.Common.{◌≡◌, ◌*◌, List, [], ◌∷◌, length, map, length-append, arith}
-use Rattle.std.specs.List.{flat_map}
-use Rattle.std.proofs.Math.Nat.{add-mul}
-use Rattle.std.proofs.lemmas.List.{length-map}
+use Rattle.sgb_vec.proofs.Common.{◌≡◌, ◌*◌, List, [], ◌∷◌, length, map, length-append, arith, flat_map, add-mul, length-map}
 use Rattle.sgb_graph.specs.Graphs.{GraphData}
 use Rattle.sgb_graph.specs.Vertices.{order_of}
 use Rattle.sgb_ops.specs.inner.Pairs.{names_of_pairs}

@@ -1,8 +1,6 @@
 -- What is done place by place, or arc by arc, as events that are added one after another.
-use Rattle.std.proofs.Common.{rules, ◌≡◌, ℕ, ℤ, Option, Some, ◌+◌, ◌<◌, ◌≤◌, Bool, List, [], ◌∷◌, ◌++◌, ap, subst, ◌∙◌, arith}
+use Rattle.sgb_vec.proofs.Common.{rules, ◌≡◌, ℕ, ℤ, Option, Some, ◌+◌, ◌<◌, ◌≤◌, Bool, List, [], ◌∷◌, ◌++◌, ap, subst, ◌∙◌, arith, All, range_with_len, All-head, All-tail}
 use Rattle.std.specs.Iterator.{YieldsFirst}
-use Rattle.std.specs.List.{All, range_with_len}
-use Rattle.std.proofs.lemmas.List.Elements.{All-head, All-tail}
 use Rattle.sgb_vec.proofs.Lists.{steps_to}
 use Rattle.sgb_graph.specs.Graphs.{GraphData}
 use Rattle.sgb_graph.specs.Events.{Event}

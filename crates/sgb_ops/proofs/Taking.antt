@@ -1,11 +1,5 @@
 -- What is known of the arcs taken of a list.
-use Rattle.std.proofs.Common.{rules, ◌≡◌, ◌+◌, ◌*◌, ◌≤◌, ◌<◌, ◌==◌, ℕ, ℤ, min, max, Bool, true, false, cond, ltb, nat_lt, List, [], ◌∷◌, ◌++◌, map, reverse, length, refl, sym, ap, ◌∙◌, Option, Some, None, arith}
-use Rattle.std.specs.Prelude.{All, filter, if◌then◌else◌}
-use Rattle.std.specs.List.{enumerate_from}
-use Rattle.std.specs.Option.{option_map_or}
-use Rattle.std.proofs.lemmas.Bool.{cases_eq, cond_both, ltb-false, eq-eqb, ne_eqb, lt-ltb, le-ltb, and_right}
-use Rattle.std.proofs.lemmas.List.{append-nil, reverse-append}
-use Rattle.std.proofs.lemmas.List.Elements.{All-nil, All-cons, All-head, All-tail, All-append, All-weaker}
+use Rattle.sgb_vec.proofs.Common.{rules, ◌≡◌, ◌+◌, ◌*◌, ◌≤◌, ◌<◌, ◌==◌, ℕ, ℤ, min, max, Bool, true, false, cond, ltb, nat_lt, List, [], ◌∷◌, ◌++◌, map, reverse, length, refl, sym, ap, ◌∙◌, Option, Some, None, arith, All, filter, if◌then◌else◌, enumerate_from, option_map_or, cases_eq, cond_both, ltb-false, eq-eqb, ne_eqb, lt-ltb, le-ltb, and_right, append-nil, reverse-append, All-nil, All-cons, All-head, All-tail, All-append, All-weaker}
 use Rattle.sgb_graph.specs.Graphs.{GraphData}
 use Rattle.sgb_graph.specs.Events.{Event, Record, HasArcsOf, links_at, list_from, records_of}
 use Rattle.sgb_graph.specs.Growth.{link}

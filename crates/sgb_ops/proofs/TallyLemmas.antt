@@ -1,14 +1,8 @@
 -- What is noted of arcs.
-use Rattle.std.proofs.Common.{◌≡◌, ◌<◌, ◌≤◌, ◌+◌, ◌==◌, ℕ, pos, Bool, true, false, cond, List, [], ◌∷◌, ◌++◌, length, Some, refl, sym, ap, ◌∙◌, append-nil, arith}
-use Rattle.std.specs.Prelude.{All, filter, if◌then◌else◌}
-use Rattle.std.specs.Option.{option_map_or}
-use Rattle.std.proofs.lemmas.Bool.{eq-eqb, eqb-true}
-use Rattle.std.proofs.lemmas.List.{map_push, length-append}
-use Rattle.std.proofs.lemmas.List.Elements.{All-filter, filter-append, filter_passes}
-use Rattle.std.proofs.lemmas.List.Sums.{fold-append, length-filter, count_by-le-length}
+use Rattle.sgb_vec.proofs.Common.{◌≡◌, ◌<◌, ◌≤◌, ◌+◌, ◌==◌, ℕ, pos, Bool, true, false, cond, List, [], ◌∷◌, ◌++◌, length, sym, ap, ◌∙◌, append-nil, arith, All, filter, if◌then◌else◌, option_map_or, eq-eqb, eqb-true, length-append, All-filter, filter-append, filter_passes, length-filter, count_by-le-length}
 use Rattle.sgb_graph.specs.declared.fields.Link.{Link}
 use Rattle.sgb_ops.specs.Intersection.{count_to}
-use Rattle.sgb_ops.specs.inner.Tallies.{tally_of, tally_to, one_more}
+use Rattle.sgb_ops.specs.inner.Tallies.{tally_of, tally_to}
 use Rattle.sgb_ops.specs.declared.tallies.Tally.{Tally}
 use Rattle.sgb_ops.proofs.EventsWithin.{TipBelow}
 
@@ -20,19 +14,9 @@ no_arc = record { number = 0; tip = 0; len = pos 0 }
 abbrev pub arcs_to : ℕ → List Link → List Link
 arcs_to u links = filter (λ l. l.tip == u) links
 
--- one arc more
-tally_of_more : (links : List Link) (l : Link) → tally_of (links ++ l ∷ []) ≡ Some (one_more l.len (tally_of links))
-tally_of_more [] l = refl
-tally_of_more (x ∷ links) l = grind (arith, length-append, map_push, fold-append)
-
 arcs_to_more : (u : ℕ) (links : List Link) (l : Link) (b : Bool) → (l.tip == u) ≡ b → arcs_to u (links ++ l ∷ []) ≡ arcs_to u links ++ (if b then l ∷ [] else [])
 arcs_to_more u links l b is =
     filter-append (λ x. x.tip == u) links (l ∷ []) ∙ ap (λ c. arcs_to u links ++ cond c (l ∷ []) []) is
-
--- to u itself, or to another vertex
-tally_more : (u : ℕ) (links : List Link) (l : Link) (b : Bool) → (l.tip == u) ≡ b → tally_to u (links ++ l ∷ []) ≡ (if b then Some (one_more l.len (tally_to u links)) else tally_to u links)
-tally_more u links l true is = ap tally_of (arcs_to_more u links l true is) ∙ tally_of_more (arcs_to u links) l
-tally_more u links l false is = ap tally_of (arcs_to_more u links l false is ∙ append-nil (arcs_to u links))
 
 -- how many arcs to u there are
 counted : (u : ℕ) (links : List Link) → count_to u links ≡ length (arcs_to u links)

@@ -1,9 +1,5 @@
 -- The events of a union, as they are found and merged vertex by vertex.
-use Rattle.std.proofs.Common.{rules, ◌≡◌, ◌<◌, ◌≤◌, ℕ, Bool, false, List, [], ◌++◌, map, get_or, sym, append-nil, arith}
-use Rattle.std.specs.Prelude.{All, filter, flat_map, nat_lt}
-use Rattle.std.proofs.lemmas.Bool.{cond_both, lt-ltb, le-ltb, ltb-true, ne_eqb, and_right}
-use Rattle.std.proofs.lemmas.List.{map-append}
-use Rattle.std.proofs.lemmas.List.Elements.{All-append, All-filter, All-map, All-nil, filter_passes}
+use Rattle.sgb_vec.proofs.Common.{rules, ◌≡◌, ◌<◌, ◌≤◌, ℕ, Bool, false, List, [], ◌++◌, map, get_or, sym, append-nil, arith, All, filter, flat_map, nat_lt, cond_both, lt-ltb, le-ltb, ltb-true, ne_eqb, and_right, map-append, All-append, All-filter, All-map, All-nil, filter_passes}
 use Rattle.sgb_vec.proofs.Lists.{filter-all}
 use Rattle.sgb_graph.specs.Graphs.{GraphData}
 use Rattle.sgb_graph.specs.Events.{Event}

@@ -1,9 +1,5 @@
 -- The wanted events of a list, as they are found part by part.
-use Rattle.std.proofs.Common.{rules, ◌≡◌, ◌<◌, ◌+◌, ℕ, Bool, List, [], ◌∷◌, ◌++◌, map, refl, ap, ◌∙◌, arith}
-use Rattle.std.specs.Prelude.{filter, flat_map}
-use Rattle.std.specs.List.{enumerate_from}
-use Rattle.std.proofs.lemmas.Bool.{ltb-false, cases_Bool}
-use Rattle.std.proofs.lemmas.List.Elements.{filter-append}
+use Rattle.sgb_vec.proofs.Common.{rules, ◌≡◌, ◌<◌, ◌+◌, ℕ, Bool, List, [], ◌∷◌, ◌++◌, map, refl, ap, ◌∙◌, arith, filter, flat_map, enumerate_from, ltb-false, cases_Bool, filter-append}
 use Rattle.sgb_vec.proofs.Lists.{made-append}
 use Rattle.sgb_graph.specs.Events.{Event}
 use Rattle.sgb_graph.specs.declared.fields.Link.{Link}

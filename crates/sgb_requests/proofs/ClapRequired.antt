@@ -1,10 +1,7 @@
 -- Words that clap takes give each argument that is required its value: where a walk over the words has no fault, each row has a value.
-use Rattle.std.proofs.Common.{◌≡◌, ◌<◌, ◌&&◌, ℕ, Bool, cond, true, false, not, zero, suc, List, [], ◌∷◌, ◌++◌, length, length-append, Option, Some, None, IsSome, is_some, refl, arith, fold, rules}
-use Rattle.std.specs.Prelude.{encode_utf8, drop, find, nat_lt, slice_get}
-use Rattle.std.specs.List.{list_all, list_any}
+use Rattle.sgb_vec.proofs.Common.{◌≡◌, ◌<◌, ◌&&◌, ℕ, Bool, cond, true, false, not, zero, suc, List, [], ◌∷◌, ◌++◌, length, length-append, Option, Some, None, IsSome, is_some, refl, arith, fold, rules, encode_utf8, drop, find, nat_lt, slice_get, list_all, list_any, cond_both}
 use Rattle.clap.specs.declared.error.kind.ErrorKind.TheVariants as kind
 use Rattle.std.specs.Str.{chars}
-use Rattle.std.proofs.lemmas.Bool.{cond_both}
 use Rattle.clap.specs.Facts.{unwrap_or_range}
 use Rattle.clap.specs.Faults.{bundle_step_fault, check_fault, flag_word_fault, flags_fault, level_fault, long_fault, option_fault, other_fault, react_fault, settle_fault, short_fault, step_fault, turn_fault, use_fault, walk_fault, word_fault}
 use Rattle.clap.specs.Kinds.{Kinds, or_else, check_kinds}

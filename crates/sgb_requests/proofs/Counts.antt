@@ -1,8 +1,6 @@
 -- Numbers of 1 to 18 digits, as `parse` reads them.
-use Rattle.std.proofs.Common.{◌≢◌, ◌≤◌, ◌<◌, ◌^◌, ℕ, List, length, get_or, MatchOption, Result, arith}
+use Rattle.sgb_vec.proofs.Common.{◌≢◌, ◌≤◌, ◌<◌, ◌^◌, ℕ, List, length, get_or, MatchOption, Result, arith, result_ok, AllDigits, ParsesUnsigned, digits_value}
 use Rattle.std.proofs.lemmas.Str.Parse.{IsNumeralModel, digits_value_short, numerals_by_value, tells_digits}
-use Rattle.std.specs.Result.{result_ok}
-use Rattle.std.specs.Str.Parse.{AllDigits, ParsesUnsigned, digits_value}
 use Rattle.sgb_text.specs.Numbers.{IsNumber}
 use Rattle.sgb_expr.specs.Numbers.{most_digits}
 

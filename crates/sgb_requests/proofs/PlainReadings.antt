@@ -1,6 +1,5 @@
 -- What words are read as, where it is known what they ask.
-use Rattle.std.proofs.Common.{◌≡◌, ◌⊎◌, ◌∙◌, ◌↔◌, true≢false, false, List, None, Result, Ok, Err, inl, inr, refl, sym, ap, subst, codes, rules, arith}
-use Rattle.std.specs.Str.{bytes_eq}
+use Rattle.std.proofs.Common.{◌≡◌, ◌⊎◌, ◌∙◌, ◌↔◌, true≢false, false, List, None, Result, Ok, Err, inl, inr, refl, sym, ap, subst, codes, rules, arith, bytes_eq}
 use Rattle.std.proofs.lemmas.Slice.Eq.{bytes_eq-Decides}
 use Rattle.clap.specs.Words.{Row, Text, first_of}
 use Rattle.sgb_requests.specs.CommandLine.{Asks, Enters}

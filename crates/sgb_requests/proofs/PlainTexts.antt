@@ -1,6 +1,5 @@
 -- Texts that do not begin with a hyphen.
-use Rattle.std.proofs.Common.{◌≡◌, ◌≢◌, ◌∙◌, ◌<◌, ◌==◌, ℕ, false, true≢false, List, [], ◌∷◌, Ok, refl, sym, ap, subst, arith}
-use Rattle.std.specs.Char.{digit_value}
+use Rattle.sgb_vec.proofs.Common.{◌≡◌, ◌≢◌, ◌∙◌, ◌<◌, ◌==◌, ℕ, false, true≢false, List, [], ◌∷◌, Ok, refl, sym, ap, subst, arith, digit_value}
 use Rattle.sgb_expr.specs.Expression.{Expression, expression_of}
 use Rattle.sgb_expr.specs.Expressions.{IsExpression}
 use Rattle.sgb_expr.specs.declared.expressions.Expr.{Expr}

@@ -1,7 +1,5 @@
 -- The walk of clap's over words that are no options, and over words that it passes over.
-use Rattle.std.proofs.Common.{◌≡◌, ◌≢◌, ◌∙◌, ◌==◌, ℕ, Bool, true, false, List, [], ◌∷◌, ◌++◌, append_assoc, append-nil, Option, Some, None, slice_index, refl, sym, ap, find, fold, option_map, arith}
-use Rattle.std.specs.Option.{option_and_then}
-use Rattle.std.specs.Str.{bytes_eq}
+use Rattle.std.proofs.Common.{◌≡◌, ◌∙◌, ℕ, Bool, true, false, List, [], ◌∷◌, ◌++◌, append_assoc, append-nil, Option, Some, None, slice_index, refl, sym, ap, find, fold, option_map, arith, option_and_then, bytes_eq}
 use Rattle.std.proofs.lemmas.Slice.Eq.{bytes_eq-Decides}
 use Rattle.clap.specs.Faults.{built_fault, check_fault, defaults_fault, level_fault, settle_fault, step_fault, turn_fault, walk_fault, word_fault}
 use Rattle.clap.specs.Kinds.{Kinds, or_else}
@@ -31,10 +29,6 @@ module _ (s : Shape) (names : Names) where
   words_pass name before (word ∷ rest) = words_pass name (before ++ word ∷ []) rest
 
 -- ---- words that are no options
-
--- a first byte is not the hyphen
-no_hyphen : (x : ℕ) → x ≢ 45 → (x == 45) ≡ false
-no_hyphen x other = grind arith
 
 -- there is no hyphen to take off
 no_strip : (word : Text) → IsPlain word → strip_byte 45 word ≡ None

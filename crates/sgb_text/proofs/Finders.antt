@@ -1,7 +1,6 @@
 -- Readers that find the words of a language or nothing: what each finds is said by the text before what it leaves, and each
 -- such text is found again; they leave values of any kind, as a text alone.
-use Rattle.std.specs.Prelude.{◌≡◌, ℕ, zero, suc, Bool, List, [], ◌∷◌, ◌++◌, length, Option, Some, None, option_map, if◌then◌else◌, refl}
-use Rattle.std.proofs.Common.{ap, sym, subst, ◌∙◌, append_assoc, arith}
+use Rattle.std.proofs.Common.{ap, sym, subst, ◌∙◌, append_assoc, arith, ◌≡◌, ℕ, zero, suc, Bool, List, [], ◌∷◌, ◌++◌, length, Option, Some, None, option_map, if◌then◌else◌, refl}
 use Rattle.sgb_text.proofs.Findings.{given, Found, found_as, after_prefix, all_at, was_given, was_mapped, prefix_is, prefix_read}
 use Rattle.sgb_text.specs.Languages.{As, Cons, Each, Fixed, Then}
 use Rattle.sgb_text.proofs.Readers.{Anything}

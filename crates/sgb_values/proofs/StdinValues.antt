@@ -1,9 +1,6 @@
 -- What standard input is read for: values depend on it only through the graph that it is a file of, and only where an expression
 -- reads it.
-use Rattle.std.proofs.Common.{◌≡◌, ◌⊎◌, ◌≤◌, ◌<◌, ◌+◌, ℕ, true, false, cond, nat_le, List, length, take, Result, Err, refl, arith}
-use Rattle.std.proofs.lemmas.Bool.{leb-true, leb-false}
-use Rattle.std.proofs.lemmas.Bool.Decides.{nat_tests}
-use Rattle.std.proofs.lemmas.List.{length-take-le, take_all}
+use Rattle.sgb_vec.proofs.Common.{◌≡◌, ◌⊎◌, ◌≤◌, ◌<◌, ◌+◌, ℕ, true, false, cond, nat_le, List, length, take, Result, Err, refl, arith, leb-true, leb-false, nat_tests, length-take-le, take_all}
 use Rattle.sgb_vec.specs.Results.{IsValue}
 use Rattle.sgb_vec.specs.declared.panics.Panic.{Panic}
 use Rattle.sgb_vec.specs.declared.panics.Panic.TheVariants.{NoRoom, Syntax}

@@ -1,14 +1,8 @@
 -- The sizes and parameters of a board, one entry or one size at a time.
-use Rattle.std.proofs.Common.{◌≡◌, ℕ, ℤ, pos, ◌+◌, ◌%◌, ◌<◌, ◌≤◌, List, [], ◌∷◌, ◌++◌, true, false, get_or, length, map, Ok, Err, refl, arith}
-use Rattle.std.specs.Prelude.{nat_lt}
-use Rattle.std.specs.List.{range_with_len}
-use Rattle.std.proofs.lemmas.Bool.Decides.{nat_tests}
-use Rattle.std.proofs.lemmas.List.FromFn.{map-range_with_len_more, get_or-map-range_with_len, length-map-range_with_len}
-use Rattle.std.proofs.lemmas.List.Folds.{list_any_at, list_any-append}
-use Rattle.sgb_vec.specs.Limits.{most_dimensions, most_entry}
-use Rattle.sgb_vec.specs.Sizes.{zero_after_stop, repeated, count_by_stop, board_by_stop}
+use Rattle.sgb_vec.proofs.Common.{◌≡◌, ℕ, pos, ◌+◌, ◌%◌, ◌<◌, ◌≤◌, List, [], ◌∷◌, ◌++◌, true, false, get_or, length, map, Ok, refl, arith, nat_lt, range_with_len, nat_tests, map-range_with_len_more, get_or-map-range_with_len, length-map-range_with_len, list_any_at, list_any-append}
+use Rattle.sgb_vec.specs.Limits.{most_entry}
+use Rattle.sgb_vec.specs.Sizes.{repeated, board_by_stop}
 use Rattle.sgb_vec.specs.inner.Sizes.{has_great_size}
-use Rattle.sgb_vec.specs.declared.panics.Panic.TheVariants.{VeryBad}
 
 -- no size repeated
 pub repeated-none : (s : List ℕ) → repeated s 0 ≡ []
@@ -31,14 +25,6 @@ has_great_size-repeated s n i h great =
 -- one more size, which is not too great
 pub has_great_size-push : (s : List ℕ) (n : ℕ) → n ≤ most_entry → has_great_size s ≡ false → has_great_size (s ++ n ∷ []) ≡ false
 has_great_size-push s n h small = grind (arith, list_any-append, nat_tests)
-
--- few dimensions, with a size too great
-pub board_by_stop-great : (entries : List ℤ) (s : List ℕ) (e : ℤ) → 0 < length s → count_by_stop 0 s e ≤ most_dimensions → has_great_size (repeated s (count_by_stop 0 s e)) ≡ true → board_by_stop entries s e ≡ Err VeryBad
-board_by_stop-great entries s e some few great = grind arith
-
--- few dimensions, with no size too great
-pub board_by_stop-fits : (entries : List ℤ) (s : List ℕ) (e : ℤ) → 0 < length s → count_by_stop 0 s e ≤ most_dimensions → has_great_size (repeated s (count_by_stop 0 s e)) ≡ false → board_by_stop entries s e ≡ Ok (record { params = zero_after_stop entries; sizes = repeated s (count_by_stop 0 s e) })
-board_by_stop-fits entries s e some few small = grind arith
 
 -- 8 and 8 with zeros after them are the chessboard
 pub chessboard_by_stop : board_by_stop (pos 8 ∷ pos 8 ∷ pos 0 ∷ pos 0 ∷ []) (8 ∷ 8 ∷ []) (pos 0) ≡ Ok (record { params = pos 8 ∷ pos 8 ∷ pos 0 ∷ pos 0 ∷ []; sizes = 8 ∷ 8 ∷ [] })

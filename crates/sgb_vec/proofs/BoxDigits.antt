@@ -1,8 +1,5 @@
 -- The vector at a place of a box: the digits of the place in mixed radix.
-use Rattle.std.proofs.Common.{◌≡◌, ℕ, zero, suc, ◌+◌, ◌*◌, ◌/◌, ◌%◌, ◌<◌, ◌≤◌, List, [], ◌∷◌, length, get_or, drop, set, Some, refl, sym, ap, subst, ◌∙◌, arith, rules}
-use Rattle.std.specs.List.{slice_get}
-use Rattle.std.proofs.lemmas.List.{at_drop_more, drop_all, drop-set}
-use Rattle.std.proofs.lemmas.Nat.{mod_below}
+use Rattle.sgb_vec.proofs.Common.{◌≡◌, ℕ, zero, suc, ◌+◌, ◌*◌, ◌/◌, ◌%◌, ◌<◌, List, [], ◌∷◌, length, get_or, drop, set, Some, refl, sym, ap, subst, ◌∙◌, arith, rules, slice_get, at_drop_more, drop-set, mod_below}
 use Rattle.sgb_vec.specs.Boxes.{box, product_of}
 use Rattle.sgb_vec.specs.Lexicographic.{IsBelow}
 use Rattle.sgb_vec.proofs.BoxPlaces.{place_of, slice_get-place_of}
@@ -24,10 +21,6 @@ digit_more : (s n rest front : ℕ) → (rest / s) * (s * n) + ((rest % s) * n +
 digit_more s n rest front =
     let grouped : (rest / s) * (s * n) + ((rest % s) * n + front) ≡ (rest / s * s + rest % s) * n + front = omega arith in
     grind arith
-
--- none stands behind the last entry
-pub digits-none : (sizes entries : List ℕ) (k place : ℕ) → length sizes ≤ k → length entries ≡ length sizes → AreDigits sizes entries k place place
-digits-none sizes entries k place h e = grind (arith, drop_all)
 
 pub digits-more : (sizes entries : List ℕ) (k next rest place : ℕ) → next ≡ k + 1 → 0 < product_of sizes → k < length sizes → length entries ≡ length sizes
     → AreDigits sizes entries next rest place

@@ -1,14 +1,6 @@
 -- Where a vector stands among the vectors of a box, and which vectors those are.
-use Rattle.std.proofs.Common.{◌≡◌, ℕ, Bool, ◌+◌, ◌*◌, ◌/◌, ◌%◌, ◌<◌, ◌↔◌, true, nat_lt, List, [], ◌∷◌, length, get_or, take, map, refl, sym, ap, subst, ◌∙◌, zero-add, arith, length-append}
-use Rattle.std.specs.List.{AllZip, Contains, flat_map, range_with_len, slice_get, list_all, zip}
-use Rattle.std.specs.Prelude.{Some}
-use Rattle.std.proofs.lemmas.List.{length-map, length-take-le, get_or-map}
-use Rattle.std.proofs.lemmas.List.Elements.{length_all_zip, AllZip-get_or}
-use Rattle.std.proofs.lemmas.Bool.{ltb-true, lt-ltb}
-use Rattle.std.proofs.lemmas.Option.{slice_get_within, slice_get_read, get_or_from_slice_get}
-use Rattle.std.proofs.lemmas.List.FromFn.{length-range_with_len, get_or-range_with_len}
+use Rattle.sgb_vec.proofs.Common.{◌≡◌, ℕ, Bool, ◌+◌, ◌*◌, ◌/◌, ◌%◌, ◌<◌, ◌↔◌, true, nat_lt, List, [], ◌∷◌, length, get_or, take, map, refl, sym, ap, subst, ◌∙◌, zero-add, arith, length-append, AllZip, Contains, flat_map, range_with_len, slice_get, list_all, zip, Some, length-map, length-take-le, get_or-map, length_all_zip, AllZip-get_or, ltb-true, lt-ltb, slice_get_within, slice_get_read, get_or_from_slice_get, length-range_with_len, get_or-range_with_len, mul-add-lt, div_below, mod_below}
 use Rattle.std.proofs.lemmas.List.Concat.{get_or-flat_map}
-use Rattle.std.proofs.lemmas.Nat.{mul-add-lt, div_below, mod_below}
 use Rattle.sgb_vec.specs.Boxes.{box, product_of}
 use Rattle.sgb_vec.specs.Lexicographic.{IsBelow}
 use Rattle.sgb_vec.proofs.Products.{factors-pos}

@@ -1,10 +1,6 @@
 -- The step from a vector of a box to the one before it: an entry falls by 1, and those after it are at their top.
 use borrow.Rule.Slice.PartMut.{put_mid}
-use Rattle.std.proofs.Common.{◌≡◌, ℕ, suc, ◌+◌, ◌-◌, ◌<◌, List, [], ◌∷◌, length, get_or, set, drop, map, refl, arith, rules}
-use Rattle.std.specs.Prelude.{All}
-use Rattle.std.specs.List.{refill}
-use Rattle.std.proofs.lemmas.List.{places, get_or-map, get_or-drop, length-map, length-drop, take_at}
-use Rattle.std.proofs.lemmas.List.Elements.{All-nil, All-cons}
+use Rattle.sgb_vec.proofs.Common.{◌≡◌, ℕ, suc, ◌+◌, ◌-◌, ◌<◌, List, [], ◌∷◌, length, get_or, set, drop, map, refl, arith, rules, All, refill, places, get_or-map, get_or-drop, length-map, length-drop, take_at, All-nil, All-cons}
 use Rattle.sgb_vec.specs.Boxes.{box, product_of}
 use Rattle.sgb_vec.specs.Order.{HasNoneBefore, IsFinal, IsPrevious}
 use Rattle.sgb_vec.specs.Lexicographic.{IsBelow}

@@ -1,7 +1,6 @@
 -- The step from a vector of a box to the next one: an entry grows by 1, and zeros stand after it.
 use borrow.Rule.Slice.PartMut.{put_mid}
-use Rattle.std.proofs.Common.{◌≡◌, ℕ, suc, zero, ◌+◌, ◌-◌, ◌<◌, ◌≤◌, List, [], ◌∷◌, length, get_or, set, replicate, refl, arith, rules}
-use Rattle.std.proofs.lemmas.List.{places}
+use Rattle.sgb_vec.proofs.Common.{◌≡◌, ℕ, suc, zero, ◌+◌, ◌-◌, ◌<◌, ◌≤◌, List, [], ◌∷◌, length, get_or, set, replicate, refl, arith, rules, places}
 use Rattle.sgb_vec.specs.Boxes.{box, product_of}
 use Rattle.sgb_vec.specs.Order.{IsNext, IsLast}
 use Rattle.sgb_vec.specs.Lexicographic.{IsBelow}

@@ -1,8 +1,5 @@
 -- The members of the families are vectors that have names.
-use Rattle.std.proofs.Common.{ℕ, ◌<◌, ◌≤◌, ◌^◌, List, length, get_or, arith}
-use Rattle.std.specs.List.{Contains}
-use Rattle.std.proofs.lemmas.Grind.{get_or_default_zero}
-use Rattle.std.proofs.lemmas.List.Elements.{AllZip-get_or}
+use Rattle.sgb_vec.proofs.Common.{ℕ, ◌<◌, ◌≤◌, ◌^◌, List, length, get_or, arith, Contains, get_or_default_zero, AllZip-get_or}
 use Rattle.sgb_vec.specs.Boxes.{box}
 use Rattle.sgb_vec.specs.Sums.{bounded_sums}
 use Rattle.sgb_vec.specs.NamedVectors.{IsVector}

@@ -1,6 +1,5 @@
 -- The decimal text of a number of few digits, put together digit by digit.
-use Rattle.std.proofs.Common.{rules, ◌≡◌, ◌≤◌, ◌<◌, ◌+◌, ◌/◌, ◌%◌, ◌∷◌, [], ◌++◌, ℕ, List, decimal, arith, append_assoc}
-use Rattle.std.proofs.lemmas.Fmt.{decimal_digit, decimal_step}
+use Rattle.sgb_vec.proofs.Common.{rules, ◌≡◌, ◌≤◌, ◌<◌, ◌+◌, ◌/◌, ◌%◌, ◌∷◌, [], ◌++◌, ℕ, List, decimal, arith, append_assoc, decimal_digit, decimal_step}
 
 -- one digit
 pub one_digit : (text : List ℕ) (n : ℕ) → n < 10 → text ++ (48 + n % 10) ∷ [] ≡ text ++ decimal n

@@ -1,11 +1,5 @@
 -- Whether more vectors than a graph may have vertices add to some number, told from the rows of counts.
-use Rattle.std.proofs.Common.{rules, ◌≡◌, ℕ, suc, zero, ◌+◌, ◌-◌, ◌*◌, ◌<◌, ◌≤◌, Bool, true, false, List, ◌∷◌, length, take, sum, get_or, min, refl, ap, ◌∙◌, inl, inr, arith}
-use Rattle.std.specs.List.{All, list_any, range_with_len, remove}
-use Rattle.std.specs.Prelude.{nat_lt, nat_le, ◌/◌, ◌⊎◌}
-use Rattle.std.proofs.lemmas.Bool.{cases_lt, lt-ltb, ltb-true, leb-true, and_parts, or_from}
-use Rattle.std.proofs.lemmas.List.{get_or_default, take_all}
-use Rattle.std.proofs.lemmas.List.Folds.{list_any_at, Any-from_list_any}
-use Rattle.std.proofs.lemmas.List.FromFn.{length-range_with_len, get_or-range_with_len}
+use Rattle.sgb_vec.proofs.Common.{rules, ◌≡◌, ℕ, suc, zero, ◌+◌, ◌-◌, ◌*◌, ◌<◌, ◌≤◌, Bool, true, false, List, ◌∷◌, length, take, sum, get_or, min, refl, ap, ◌∙◌, inl, inr, arith, All, list_any, range_with_len, remove, nat_lt, nat_le, ◌/◌, ◌⊎◌, cases_lt, lt-ltb, ltb-true, leb-true, and_parts, or_from, get_or_default, take_all, list_any_at, Any-from_list_any, length-range_with_len, get_or-range_with_len}
 use Rattle.sgb_vec.specs.Limits.{most_vertices}
 use Rattle.sgb_vec.specs.Sums.{has_great_count}
 use Rattle.sgb_vec.specs.inner.SumRows.{CountsSums, HasGreatSum, count_of_sum, great_bound, has_great_three}

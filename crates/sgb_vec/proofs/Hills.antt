@@ -1,6 +1,5 @@
 -- Sequences that rise to the middle of 0 to s, fall after it as they rose, and are 0 after s; so are their windows.
-use Rattle.std.proofs.Common.{◌≡◌, ℕ, suc, zero, ◌+◌, ◌-◌, ◌<◌, ◌≤◌, inl, inr, ap, ◌⊎◌, arith}
-use Rattle.std.proofs.lemmas.Bool.{cases_lt}
+use Rattle.sgb_vec.proofs.Common.{◌≡◌, ℕ, suc, zero, ◌+◌, ◌-◌, ◌<◌, ◌≤◌, inl, inr, ap, ◌⊎◌, arith, cases_lt}
 use Rattle.sgb_vec.proofs.Windows.{window, window_far, window-wider, window-wide}
 
 pub record IsHill (f : ℕ → ℕ) (s : ℕ) : Type 0 where

@@ -13,6 +13,8 @@ pub mod BoxPredecessors
 pub mod BoxRanks
 -- the step on in a box
 pub mod BoxSuccessors
+-- the names of std that most proofs cite
+pub mod Common
 -- sums of products over windows
 pub mod Convolutions
 -- worked examples of the definitions

@@ -1,13 +1,7 @@
 -- Plain lists: pairs of elements in order, what stands in a list that is made of others, what passes a test, numbers one
 -- after another, and walks.
-use Rattle.std.proofs.Common.{rules, ◌≡◌, ℕ, zero, suc, ◌+◌, ◌-◌, ◌<◌, ◌≤◌, ◌==◌, ◌⊎◌, Bool, true, false, cond, List, [], ◌∷◌, ◌++◌, length, map, reverse, get_or, Option, Some, refl, sym, ap, subst, ◌∙◌, inl, inr, arith}
+use Rattle.sgb_vec.proofs.Common.{rules, ◌≡◌, ℕ, zero, suc, ◌+◌, ◌-◌, ◌<◌, ◌≤◌, ◌==◌, ◌⊎◌, Bool, true, false, cond, List, [], ◌∷◌, ◌++◌, length, map, reverse, get_or, Option, Some, refl, sym, ap, subst, ◌∙◌, inl, inr, arith, All, AllPairs, Contains, filter, flat_map, range_with_len, slice_get, cases_order, cond_both, eq-eqb, eqb-true, get_or-reverse, length-reverse, map-append, reverse-append, All-append, All-get_or, All-head, All-map, All-nil, All-tail, Contains-append_left, Contains-append_right, filter-append, get_or-range_with_len, length-range_with_len, AllPairs-cons}
 use Rattle.std.specs.Iterator.{YieldsFirst}
-use Rattle.std.specs.List.{All, AllPairs, Contains, filter, flat_map, range_with_len, slice_get}
-use Rattle.std.proofs.lemmas.Bool.{cases_order, cond_both, eq-eqb, eqb-true}
-use Rattle.std.proofs.lemmas.List.{get_or-reverse, length-reverse, map-append, reverse-append}
-use Rattle.std.proofs.lemmas.List.Elements.{All-append, All-get_or, All-head, All-map, All-nil, All-tail, Contains-append_left, Contains-append_right, filter-append}
-use Rattle.std.proofs.lemmas.List.FromFn.{get_or-range_with_len, length-range_with_len}
-use Rattle.std.proofs.lemmas.List.Kept.{AllPairs-cons}
 
 -- no elements are in any order
 pub AllPairs-none : {X : Type 0} (R : X → X → Type 0) → AllPairs R []

@@ -1,8 +1,6 @@
 -- Bytes that are moved a word at once, of which a first part counts.
-use Rattle.std.proofs.Common.{◌≡◌, ◌≤◌, ◌+◌, ◌++◌, ℕ, List, length, take, arith}
+use Rattle.sgb_vec.proofs.Common.{◌≡◌, ◌≤◌, ◌+◌, ◌++◌, ℕ, List, length, take, arith, take-append-add, length-take-le, take-take}
 use borrow.Rule.Slice.PartMut.{put_mid}
-use Rattle.std.proofs.Math.Seq.{take-append-add}
-use Rattle.std.proofs.lemmas.List.{length-take-le, take-take}
 use Rattle.std.proofs.lemmas.Slice.{take-put_mid}
 
 -- what stands before a place, and a first part of the word that was put there

@@ -1,14 +1,6 @@
 -- The name of a vector read back: cut at its dots, each part is the decimal of an entry.
-use Rattle.std.proofs.Common.{rules, ◌≡◌, ℕ, ◌<◌, ◌≤◌, ◌^◌, Bool, true, false, cond, eqb, ◌&&◌, List, [], ◌∷◌, length, get_or, map, refl, ap, ap₂, subst, ◌∙◌, arith, decimal, Some, None, nat_eq, length-append}
-use Rattle.std.specs.List.{All, join_with_byte, slice_split}
-use Rattle.std.specs.Cmp.Lexicographic.{pointwise}
-use Rattle.std.specs.Str.Parse.{digits_value}
-use Rattle.std.proofs.lemmas.Bool.{leb-true, le-leb, ne_eqb, and_parts}
-use Rattle.std.proofs.lemmas.Fmt.{decimal_is_IsNumeral}
-use Rattle.std.proofs.lemmas.List.Elements.{All-from_get_or, All-head, All-tail, All-weaker}
-use Rattle.std.proofs.lemmas.List.{get_or-map, length-map}
+use Rattle.sgb_vec.proofs.Common.{rules, ◌≡◌, ℕ, ◌<◌, ◌≤◌, ◌^◌, Bool, true, false, cond, eqb, ◌&&◌, List, [], ◌∷◌, length, get_or, map, refl, ap, ap₂, subst, ◌∙◌, arith, decimal, Some, None, nat_eq, length-append, All, join_with_byte, slice_split, pointwise, digits_value, leb-true, le-leb, ne_eqb, and_parts, decimal_is_IsNumeral, All-from_get_or, All-head, All-tail, All-weaker, get_or-map, length-map, AllPass-from_list_all, list_all-from_AllPass}
 use Rattle.std.proofs.lemmas.List.Splits.{slice_split_none, slice_split_at, join_with_byte-slice_split}
-use Rattle.std.proofs.lemmas.List.Sums.{AllPass-from_list_all, list_all-from_AllPass}
 use Rattle.std.proofs.lemmas.Str.Parse.{digit_at}
 use Rattle.sgb_vec.specs.Limits.{most_entry}
 use Rattle.sgb_vec.specs.Names.{name_of_vector}

@@ -1,23 +1,12 @@
 -- Numbers read back from their decimals.
-use native.Mathlib.Nat.{pow-le-pow_right}
-use Rattle.std.proofs.Common.{lt_of_lt_of_le, ◌≡◌, ℕ, zero, suc, ◌^◌, ◌<◌, ◌≤◌, ◌⊎◌, true, false, cond, List, [], ◌∷◌, length, take, Some, decimal, refl, arith, rules}
-use Rattle.std.specs.Char.{digit_value, is_digit}
-use Rattle.std.specs.Str.Parse.{AllDigits, digits_value}
-use Rattle.std.proofs.lemmas.Bool.{cases_lt, lt-ltb, le-ltb}
-use Rattle.std.proofs.lemmas.Fmt.{decimal_is_IsNumeral, length-decimal-le}
+use Rattle.sgb_vec.proofs.Common.{lt_of_lt_of_le, ◌≡◌, ℕ, zero, suc, ◌^◌, ◌<◌, ◌≤◌, cond, List, [], ◌∷◌, length, take, Some, decimal, refl, arith, rules, pow-le-pow_right, is_digit, AllDigits, digits_value, decimal_is_IsNumeral, length-decimal-le, drop_all, take_while-cons}
 use Rattle.std.proofs.lemmas.Int.Digits.{digits_value-lt}
-use Rattle.std.proofs.lemmas.List.{drop_all}
-use Rattle.std.proofs.lemmas.List.Sums.{take_while-cons}
 use Rattle.sgb_vec.specs.Digits.{leading_digits, leading_number}
 
 -- some digits in the radix, so many at most
 pub record AreDigits (radix most : ℕ) (digits : List ℕ) : Type 0 where
   pub all : AllDigits radix digits
   pub short : length digits ≤ most
-
--- a byte is a digit or none
-digit_cases : (radix byte : ℕ) → ((is_digit byte radix ≡ true) × (digit_value byte < radix)) ⊎ (is_digit byte radix ≡ false)
-digit_cases radix byte = grind (arith, cases_lt, lt-ltb, le-ltb)
 
 -- one byte more
 pub first_byte : (radix most byte : ℕ) (text : List ℕ) → leading_digits radix (suc most) (byte ∷ text) ≡ cond (is_digit byte radix) (byte ∷ leading_digits radix most text) []

@@ -1,8 +1,5 @@
 -- The product of the sizes of a box.
-use Rattle.std.proofs.Common.{◌≡◌, ℕ, ◌*◌, ◌<◌, true, false, List, [], ◌∷◌, eqb, inl, inr, arith, rules}
-use Rattle.std.specs.List.{list_any}
-use Rattle.std.proofs.lemmas.Bool.{or_cases, or_parts, eqb-true}
-use Rattle.std.proofs.lemmas.Nat.{mul-le}
+use Rattle.sgb_vec.proofs.Common.{◌≡◌, ℕ, ◌*◌, ◌<◌, true, false, List, [], ◌∷◌, eqb, inl, inr, arith, rules, list_any, or_cases, or_parts, eqb-true, mul-le}
 use Rattle.sgb_vec.specs.Boxes.{product_of}
 
 -- a size of 0 makes the product 0, however great the others are

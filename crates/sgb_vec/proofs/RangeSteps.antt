@@ -1,13 +1,5 @@
 -- The vectors from one to another of a rising list: with one more or one less at either end.
-use Rattle.std.proofs.Common.{rules, ◌≡◌, ◌≢◌, ℕ, ◌+◌, ◌-◌, ◌<◌, Bool, true, false, List, [], ◌∷◌, ◌++◌, length, get_or, take, drop, nat_eq, Some, refl, sym, ap, ◌∙◌, inl, inr, arith}
-use Rattle.std.specs.Bool.{IsTrue, OnTrue, OnFalse}
-use Rattle.std.specs.List.{Contains, slice_get}
-use Rattle.std.specs.Cmp.Lexicographic.{pointwise, bytes_decides}
-use Rattle.std.proofs.lemmas.Bool.{cases_Bool, cases_order}
-use Rattle.std.proofs.Math.Seq.{get_or-append_seam, take-append_seam}
-use Rattle.std.proofs.lemmas.List.{length_push, drop_more, take_more, drop_all, drop-append-le, drop-take, take-append-drop, take_all, length-take-le, get_or-take}
-use Rattle.std.proofs.lemmas.List.Sums.{position_or_len_is, passes_at_first}
-use Rattle.std.proofs.lemmas.Option.{slice_get_within, slice_get_read, get_or_from_slice_get}
+use Rattle.sgb_vec.proofs.Common.{rules, ◌≡◌, ◌≢◌, ℕ, ◌+◌, ◌-◌, ◌<◌, Bool, true, false, List, [], ◌∷◌, ◌++◌, length, get_or, take, drop, nat_eq, Some, refl, sym, ap, ◌∙◌, inl, inr, arith, IsTrue, OnTrue, OnFalse, Contains, slice_get, pointwise, bytes_decides, cases_Bool, cases_order, get_or-append_seam, take-append_seam, length_push, drop_more, take_more, drop_all, drop-append-le, drop-take, take-append-drop, take_all, length-take-le, get_or-take, position_or_len_is, passes_at_first, slice_get_within, slice_get_read, get_or_from_slice_get}
 use Rattle.sgb_vec.specs.Lexicographic.{IsBefore, IsRising}
 use Rattle.sgb_vec.specs.Order.{IsFirst, IsFinal, IsNext, IsLast, IsPrevious, HasNoneBefore}
 use Rattle.sgb_vec.specs.Ranges.{ComeAfter}

@@ -1,11 +1,6 @@
 -- Neighbours in a list that rises strictly: the least element is the first, the least above one comes right after it,
 -- and one that nothing is above is the last. No element stands at two places.
-use Rattle.std.proofs.Common.{rules, ◌≡◌, ℕ, zero, suc, ◌+◌, ◌-◌, ◌<◌, List, length, get_or, refl, sym, subst, inl, inr, arith}
-use Rattle.std.specs.List.{AllPairs, Contains, slice_get}
-use Rattle.std.specs.Prelude.{Some}
-use Rattle.std.proofs.lemmas.Bool.{cases_order}
-use Rattle.std.proofs.lemmas.List.Elements.{Contains-get_or}
-use Rattle.std.proofs.lemmas.Option.{slice_get_within, slice_get_read, get_or_from_slice_get}
+use Rattle.sgb_vec.proofs.Common.{rules, ◌≡◌, ℕ, zero, suc, ◌+◌, ◌-◌, ◌<◌, List, length, get_or, refl, sym, subst, inl, inr, arith, AllPairs, Contains, slice_get, Some, cases_order, Contains-get_or, slice_get_within, slice_get_read, get_or_from_slice_get}
 
 -- no two elements are each before the other
 abbrev pub IsAsymmetric : {X : Type 0} → (X → X → Type 0) → Type 0

@@ -1,12 +1,8 @@
 -- The bounds and parameters of a simplex, one bound or one entry at a time.
-use Rattle.std.proofs.Common.{◌≡◌, ℕ, zero, suc, ℤ, pos, negsuc, ◌+◌, ◌%◌, ◌≤◌, min, List, [], ◌∷◌, ◌++◌, false, get_or, length, map, Ok, Err, refl, ap, subst, arith, rules}
-use Rattle.std.specs.Prelude.{Bool, nat_abs, All, if◌then◌else◌}
-use Rattle.std.proofs.lemmas.Bool.Decides.{nat_tests}
-use Rattle.std.proofs.lemmas.List.{map-append, length-map}
-use Rattle.std.proofs.lemmas.List.Elements.{All-nil, All-cons}
+use Rattle.sgb_vec.proofs.Common.{◌≡◌, ℕ, zero, suc, ℤ, pos, negsuc, ◌+◌, ◌%◌, ◌≤◌, min, List, [], ◌∷◌, ◌++◌, false, get_or, length, map, Ok, Err, refl, ap, subst, arith, rules, Bool, nat_abs, All, if◌then◌else◌, nat_tests, map-append, length-map, All-nil, All-cons}
 use Rattle.sgb_vec.specs.Limits.{most_dimensions, most_vertices}
 use Rattle.sgb_vec.specs.Sizes.{Normalized, before_stop, count_by_stop, stop_of, zero_after_stop, repeated}
-use Rattle.sgb_vec.specs.Bounds.{first_parameter, bounds_to_repeat, clamped_parameter, simplex_by_stop, simplex_of}
+use Rattle.sgb_vec.specs.Bounds.{first_parameter, bounds_to_repeat, clamped_parameter, simplex_of}
 use Rattle.sgb_vec.specs.declared.panics.Panic.TheVariants.{Bad, VeryBad}
 use Rattle.sgb_vec.proofs.BoardSizes.{repeated-none, repeated-more}
 
@@ -24,10 +20,6 @@ length-zero_after_stop [] = refl
 length-zero_after_stop (pos zero ∷ rest) = grind (arith, length-map rest (λ (n : ℤ). pos 0))
 length-zero_after_stop (pos (suc n) ∷ rest) = grind (arith, length-zero_after_stop rest)
 length-zero_after_stop (negsuc d ∷ rest) = grind (arith, length-map rest (λ (n : ℤ). pos 0))
-
--- an accepted simplex
-pub simplex_by_stop-fits : (n : ℕ) (entries : List ℤ) (s : List ℕ) (e : ℤ) → count_by_stop 1 s e ≤ most_dimensions + 1 → n ≤ most_vertices → simplex_by_stop n entries s e ≡ Ok (record { params = pos n ∷ map (clamped_parameter n) (zero_after_stop entries); sizes = map (λ b. min b n) (repeated s (count_by_stop 1 s e)) })
-simplex_by_stop-fits n entries s e few small = grind (arith, nat_tests)
 
 -- what is accepted where neither test refuses it
 accepted_of : (b c : Bool) (given shape : Normalized) → (if b then Err Bad else (if c then Err VeryBad else Ok given)) ≡ Ok shape → (b ≡ false) × (c ≡ false) × (given ≡ shape)

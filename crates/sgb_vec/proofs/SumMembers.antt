@@ -1,10 +1,5 @@
 -- Which vectors a bounded sum has, and that they rise lexicographically.
-use Rattle.std.proofs.Common.{◌≡◌, ℕ, ◌+◌, ◌≤◌, ◌↔◌, Bool, true, eqb, List, [], ◌∷◌, length, map, filter, sum, arith}
-use Rattle.std.specs.List.{Contains, list_all, zip}
-use Rattle.std.specs.Prelude.{nat_le}
-use Rattle.std.proofs.lemmas.Bool.{eqb-true, eq-eqb, leb-true, le-leb}
-use Rattle.std.proofs.lemmas.List.Elements.{All-contains, All-contains_itself, All-filter, filter_passes, length_all_zip}
-use Rattle.std.proofs.lemmas.List.Kept.{AllPairs-filter}
+use Rattle.sgb_vec.proofs.Common.{◌≡◌, ℕ, ◌+◌, ◌≤◌, ◌↔◌, Bool, true, eqb, List, [], ◌∷◌, length, map, filter, sum, arith, Contains, list_all, zip, nat_le, eqb-true, eq-eqb, leb-true, le-leb, All-contains, All-contains_itself, All-filter, filter_passes, length_all_zip, AllPairs-filter}
 use Rattle.sgb_vec.proofs.Lists.{Contains-passing}
 use Rattle.sgb_vec.specs.Boxes.{box}
 use Rattle.sgb_vec.specs.Sums.{BoundedSum, bounded_sums}

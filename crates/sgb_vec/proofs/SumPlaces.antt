@@ -1,11 +1,5 @@
 -- The place of a vector among those of a bounded sum: at each entry the vectors that have a smaller one there come before.
-use Rattle.std.proofs.Common.{rules, ◌≡◌, ℕ, suc, zero, ◌+◌, ◌-◌, ◌<◌, ◌≤◌, Bool, eqb, min, List, [], ◌∷◌, ◌++◌, length, map, filter, take, drop, sum, set, get_or, Some, refl, sym, ap, subst, ◌∙◌, add-one, arith, length-append}
-use Rattle.std.specs.Bool.{OnTrue, OnFalse}
-use Rattle.std.specs.List.{Contains, flat_map, range_with_len, slice_get}
-use Rattle.std.proofs.lemmas.Bool.{cases_lt}
-use Rattle.std.proofs.lemmas.List.{append-nil, append_assoc, drop_more, drop_all, take_all, take_more, take_more_set}
-use Rattle.std.proofs.lemmas.List.Elements.{AllZip-get_or, filter-append}
-use Rattle.std.proofs.lemmas.Option.{get_or_from_slice_get, slice_get-get_or, slice_get-map, slice_get_within}
+use Rattle.sgb_vec.proofs.Common.{rules, ◌≡◌, ℕ, suc, zero, ◌+◌, ◌-◌, ◌<◌, ◌≤◌, Bool, eqb, min, List, [], ◌∷◌, ◌++◌, length, map, filter, take, drop, sum, set, get_or, Some, refl, sym, ap, subst, ◌∙◌, add-one, arith, length-append, OnTrue, OnFalse, Contains, flat_map, range_with_len, slice_get, cases_lt, append-nil, append_assoc, drop_more, drop_all, take_all, take_more, take_more_set, AllZip-get_or, filter-append, get_or_from_slice_get, slice_get-get_or, slice_get-map, slice_get_within}
 use Rattle.sgb_vec.specs.Boxes.{box}
 use Rattle.sgb_vec.specs.Lexicographic.{IsWithin}
 use Rattle.sgb_vec.specs.Order.{IsLast, IsNext}
@@ -92,10 +86,6 @@ pub record IsPutUpTo (n : ℕ) (bounds : List ℕ) (place : ℕ) (entries : List
   pub low : rest ≤ place
   pub within : rest < count_of_sum left (drop k bounds)
   pub small : left ≤ n
-
--- no entry yet
-pub put-none : (n : ℕ) (bounds : List ℕ) (place : ℕ) (entries : List ℕ) → place < count_of_sum n bounds → IsPutUpTo n bounds place entries 0 n place
-put-none n bounds place entries h = grind (arith)
 
 -- one entry more
 pub put-more : (n : ℕ) (bounds : List ℕ) (place : ℕ) (entries : List ℕ) (k left rest x before : ℕ) → k < length bounds → k < length entries → x ≤ get_or bounds k 0 → x ≤ left → before ≡ count_below left x (drop (k + 1) bounds) → before ≤ rest → rest < count_below left (x + 1) (drop (k + 1) bounds) → IsPutUpTo n bounds place entries k left rest → IsPutUpTo n bounds place (set entries k x) (k + 1) (left - x) (rest - before)

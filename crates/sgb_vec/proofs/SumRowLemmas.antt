@@ -1,10 +1,5 @@
 -- Rows of counts of a bounded sum: the row of no bounds, and what running sums and a difference make of a row.
-use Rattle.std.proofs.Common.{rules, ◌≡◌, ℕ, suc, zero, ◌+◌, ◌-◌, ◌*◌, ◌<◌, ◌≤◌, ◌^◌, List, [], ◌∷◌, ◌++◌, length, take, sum, get_or, min, replicate, set, refl, sym, ap, ◌∙◌, add-one, arith}
-use Rattle.std.specs.List.{All}
-use Rattle.std.proofs.lemmas.Bool.{cases_lt}
-use Rattle.std.proofs.lemmas.List.{get_or_append_left, get_or-append_right, get_or_past, take-append-le, take_all, take_more}
-use Rattle.std.proofs.lemmas.List.Elements.{All-nil, All-cons}
-use Rattle.std.proofs.lemmas.List.Sums.{sum_by-cons, sum_by_more, sum_by-le}
+use Rattle.sgb_vec.proofs.Common.{rules, ◌≡◌, ℕ, suc, zero, ◌+◌, ◌-◌, ◌*◌, ◌<◌, ◌≤◌, ◌^◌, List, [], ◌∷◌, ◌++◌, length, take, sum, get_or, min, replicate, set, refl, sym, ap, ◌∙◌, add-one, arith, All, cases_lt, get_or_append_left, get_or-append_right, get_or_past, take-append-le, take_all, take_more, All-nil, All-cons, sum_by-cons, sum_by_more, sum_by-le}
 use Rattle.sgb_vec.specs.Limits.{most_vertices}
 use Rattle.sgb_vec.specs.inner.SumRows.{CountsSums, count_of_sum}
 use Rattle.sgb_vec.proofs.Windows.{up_to, window_prefix, window_after}

@@ -1,11 +1,8 @@
 -- The vectors within bounds that add to the same: the least, the greatest, and the steps from one to the
 -- next and back.
-use Rattle.std.proofs.Common.{rules, ◌≡◌, ℕ, zero, suc, ◌+◌, ◌-◌, ◌<◌, ◌≤◌, ◌⊎◌, List, [], ◌∷◌, ◌++◌, length, get_or, drop, take, arith, sum}
+use Rattle.sgb_vec.proofs.Common.{rules, ◌≡◌, ℕ, zero, suc, ◌+◌, ◌-◌, ◌<◌, ◌≤◌, ◌⊎◌, List, [], ◌∷◌, ◌++◌, length, get_or, drop, take, arith, sum, cases_order, nat_list_cmp_total, sum_by-cons}
 use Rattle.std.specs.Cmp.{nat_cmp_is}
 use Rattle.std.specs.declared.cmp.Ordering.TheVariants.{Less, Equal}
-use Rattle.std.proofs.lemmas.Bool.{cases_order}
-use Rattle.std.proofs.lemmas.Cmp.{nat_list_cmp_total}
-use Rattle.std.proofs.lemmas.List.Sums.{sum_by-cons}
 use Rattle.sgb_vec.specs.Lexicographic.{IsBefore, IsWithin}
 use Rattle.sgb_vec.proofs.RisingLists.{IsAsymmetric}
 

@@ -1,9 +1,6 @@
 -- The vectors of a bounded sum built, and looked through: what holds of the entries from a place on, or before it.
 use borrow.Rule.Slice.PartMut.{put_mid}
-use Rattle.std.proofs.Common.{rules, ◌≡◌, ℕ, zero, suc, ◌+◌, ◌-◌, ◌<◌, ◌≤◌, ◌⊎◌, Bool, true, false, min, List, [], ◌∷◌, ◌++◌, length, get_or, set, drop, take, refl, sym, arith, sum, add-one}
-use Rattle.std.proofs.lemmas.List.{append-nil, append_assoc, drop_more, drop_all, drop-set, take_all, take_more_set, length-drop}
-use Rattle.std.proofs.lemmas.List.Elements.{AllZip-get_or}
-use Rattle.std.proofs.lemmas.List.Sums.{sum_by-take-drop, sum_by-drop_more}
+use Rattle.sgb_vec.proofs.Common.{rules, ◌≡◌, ℕ, zero, suc, ◌+◌, ◌-◌, ◌<◌, ◌≤◌, ◌⊎◌, Bool, true, false, min, List, [], ◌∷◌, ◌++◌, length, get_or, set, drop, take, refl, sym, arith, sum, add-one, append-nil, append_assoc, drop_more, drop_all, drop-set, take_all, take_more_set, length-drop, AllZip-get_or, sum_by-take-drop, sum_by-drop_more}
 use Rattle.sgb_vec.specs.Sums.{bounded_sums}
 use Rattle.sgb_vec.specs.Lexicographic.{IsWithin}
 use Rattle.sgb_vec.specs.Order.{IsFinal, IsFirst, IsNext, IsLast, IsPrevious}
@@ -34,10 +31,6 @@ filled-all bounds entries rest total room so = grind (arith, IsFirst-least)
 pub record IsFilledUpTo (bounds entries : List ℕ) (place rest total : ℕ) : Type 0 where
   pub room : rest ≤ sum (drop place bounds)
   pub greatest : (w : List ℕ) → IsGreatest (drop place bounds) w → sum w ≡ rest → IsGreatest bounds (take place entries ++ w) × (sum (take place entries ++ w) ≡ total)
-
--- no entry yet
-pub filled_up-none : (bounds entries : List ℕ) (total : ℕ) → total ≤ sum bounds → IsFilledUpTo bounds entries 0 total total
-filled_up-none bounds entries total room = record { room = room; greatest = λ w greatest adds. (greatest, adds) }
 
 -- one entry more
 pub filled_up-more : (bounds entries : List ℕ) (p rest total : ℕ) → p < length bounds → p < length entries → IsFilledUpTo bounds entries p rest total → IsFilledUpTo bounds (set entries p (min rest (get_or bounds p 0))) (p + 1) (rest - min rest (get_or bounds p 0)) total

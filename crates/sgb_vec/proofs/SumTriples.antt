@@ -1,7 +1,5 @@
 -- Triples of numbers that add to another, in closed form; and three bounds more than those that a row counts.
-use Rattle.std.proofs.Common.{rules, ◌≡◌, ℕ, suc, zero, ◌+◌, ◌-◌, ◌*◌, ◌≤◌, List, [], ◌∷◌, get_or, refl, sym, ap, ◌∙◌, inl, inr, add-one, arith}
-use Rattle.std.proofs.lemmas.Bool.{cases_lt}
-use Rattle.std.proofs.Math.Nat.{mul-add, mul-zero}
+use Rattle.sgb_vec.proofs.Common.{rules, ◌≡◌, ℕ, suc, zero, ◌+◌, ◌-◌, ◌*◌, ◌≤◌, List, [], ◌∷◌, get_or, refl, sym, ap, ◌∙◌, inl, inr, add-one, arith, cases_lt, mul-add, mul-zero}
 use Rattle.sgb_vec.specs.inner.SumRows.{CountsSums, count_of_sum}
 use Rattle.sgb_vec.proofs.Convolutions.{products_from, products_same, products_same_factors}
 use Rattle.sgb_vec.proofs.SumCounts.{count_of_sum-cons, count_of_sum-pairs, count_of_sum-two}

@@ -1,8 +1,5 @@
 -- The first vector of a bounded sum, the next, the previous and the last, by the order of its vectors.
-use Rattle.std.proofs.Common.{◌≡◌, ℕ, ◌<◌, ◌≤◌, List, [], length, get_or, arith, sum}
-use Rattle.std.specs.List.{Contains}
-use Rattle.std.proofs.lemmas.Option.{slice_get_within, get_or_from_slice_get}
-use Rattle.std.proofs.lemmas.List.Elements.{Contains-get_or}
+use Rattle.sgb_vec.proofs.Common.{◌≡◌, ℕ, ◌<◌, ◌≤◌, List, [], length, get_or, arith, sum, Contains, slice_get_within, get_or_from_slice_get, Contains-get_or}
 use Rattle.sgb_vec.specs.Sums.{bounded_sums}
 use Rattle.sgb_vec.specs.Lexicographic.{IsBefore, IsWithin}
 use Rattle.sgb_vec.specs.Order.{HasNoneBefore, IsFinal, IsFirst, IsNext, IsLast, IsPrevious}

@@ -1,12 +1,6 @@
 -- The name of a vector, one entry at a time, and that it is a text.
-use Rattle.std.proofs.Common.{rules, ◌≡◌, ◌/◌, ℕ, zero, suc, ◌+◌, ◌*◌, ◌%◌, ◌^◌, ◌<◌, ◌≤◌, List, [], ◌∷◌, ◌++◌, length, get_or, take, decimal, refl, ap, ◌∙◌, arith, append_assoc, length-append}
-use Rattle.std.specs.List.{All}
-use Rattle.std.proofs.lemmas.Bool.{cases_lt}
-use Rattle.std.proofs.lemmas.Bool.Decides.{nat_tests}
-use Rattle.std.proofs.lemmas.Fmt.{decimal_by_steps, length-decimal-le}
+use Rattle.sgb_vec.proofs.Common.{rules, ◌≡◌, ◌/◌, ℕ, zero, suc, ◌+◌, ◌*◌, ◌%◌, ◌^◌, ◌<◌, ◌≤◌, List, [], ◌∷◌, ◌++◌, length, get_or, take, decimal, refl, ap, ◌∙◌, arith, append_assoc, length-append, All, cases_lt, nat_tests, decimal_by_steps, length-decimal-le, take_more, length-take-le, All-nil, All-cons, All-tail, All-append, All-push}
 use Rattle.itoa.proofs.Decimal.{length_one, length_step_wide}
-use Rattle.std.proofs.lemmas.List.{take_more, length-take-le}
-use Rattle.std.proofs.lemmas.List.Elements.{All-nil, All-cons, All-tail, All-append, All-push}
 use Rattle.sgb_vec.specs.Names.{name_of_vector, IsTextByte, IsText}
 
 -- a digit may stand in a text

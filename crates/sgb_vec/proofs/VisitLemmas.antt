@@ -1,6 +1,5 @@
 -- How many entries differ between two vectors that agree before some place.
-use Rattle.std.proofs.Common.{◌≡◌, ℕ, zero, suc, ◌+◌, ◌-◌, ◌<◌, ◌≤◌, true, List, [], ◌∷◌, length, get_or, eqb, refl, ◌∙◌, arith}
-use Rattle.std.proofs.lemmas.Bool.{eq-eqb}
+use Rattle.std.proofs.Common.{◌≡◌, ℕ, zero, suc, ◌+◌, ◌-◌, ◌<◌, ◌≤◌, true, List, [], ◌∷◌, length, get_or, eqb, refl, ◌∙◌, arith, eq-eqb}
 use Rattle.sgb_vec.specs.Visits.{HasVisited, changed_entries}
 
 -- one entry more is at most one change more

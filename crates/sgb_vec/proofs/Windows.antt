@@ -1,7 +1,5 @@
 -- Sums of a sequence over a window: the terms at a place and at as many places before it as the window is wide.
-use Rattle.std.proofs.Common.{◌≡◌, ℕ, suc, zero, ◌+◌, ◌-◌, ◌*◌, ◌<◌, ◌≤◌, min, refl, ap, inl, inr, arith}
-use Rattle.std.proofs.lemmas.Bool.{cases_lt}
-use Rattle.std.proofs.Math.Nat.{mul-add, mul-zero}
+use Rattle.sgb_vec.proofs.Common.{◌≡◌, ℕ, suc, zero, ◌+◌, ◌-◌, ◌*◌, ◌<◌, ◌≤◌, min, refl, ap, inl, inr, arith, cases_lt, mul-add, mul-zero}
 
 -- the sequence one place later, with 0 in front
 abbrev pub shifted : (ℕ → ℕ) → ℕ → ℕ

@@ -1,6 +1,4 @@
-use Rattle.std.proofs.Common.{◌==◌, ◌+◌, ℕ, cond, refl, arith}
-use Rattle.std.proofs.lemmas.List.Sums.{sum_by_more}
-use Rattle.std.proofs.lemmas.Grind.{common_steps}
+use Rattle.sgb_vec.proofs.Common.{◌==◌, ◌+◌, ℕ, cond, refl, arith, sum_by_more, common_steps}
 use Rattle.sgb_expr.proofs.measure.is_deep.Goals as goal
 
 pub returns-then-saturating_sub-gt-MOST_DEPTH : goal.returns-then-saturating_sub-gt-MOST_DEPTH

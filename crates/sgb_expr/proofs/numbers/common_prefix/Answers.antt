@@ -1,5 +1,4 @@
-use Rattle.std.proofs.Common.{◌≡◌, length, min, drop, nat_eq, arith, length-drop}
-use Rattle.std.proofs.lemmas.List.Sums.{common_prefix_len-le}
+use Rattle.sgb_vec.proofs.Common.{◌≡◌, length, min, drop, nat_eq, arith, length-drop, common_prefix_len-le}
 use Rattle.std.proofs.lemmas.Slice.Zip.{zip_end}
 use Rattle.sgb_expr.proofs.numbers.common_prefix.Goals as goal
 

@@ -1,5 +1,4 @@
-use Rattle.std.proofs.Common.{◌≡◌, ◌+◌, ◌≤◌, length, drop, nat_eq}
-use Rattle.std.specs.List.{common_prefix_len}
+use Rattle.sgb_vec.proofs.Common.{◌≡◌, ◌+◌, ◌≤◌, length, drop, nat_eq, common_prefix_len}
 use Rattle.sgb_expr.proofs.numbers.common_prefix.Given as goal
 
 abbrev pub invariant-loop-a : goal.invariant-loop-a

@@ -1,5 +1,4 @@
-use Rattle.std.proofs.Common.{◌≡◌, ◌-◌, ℕ, List, length, drop, Ok, Err, sym, ◌∙◌, ap, arith, length-drop}
-use Rattle.std.proofs.lemmas.List.{take_all}
+use Rattle.std.proofs.Common.{◌≡◌, ◌-◌, ℕ, List, length, drop, Ok, Err, sym, ◌∙◌, ap, arith, length-drop, take_all}
 use Rattle.sgb_text.proofs.Words.{fixed_parts, fixed_reads}
 use Rattle.sgb_expr.proofs.numbers.fixed.Goals as goal
 

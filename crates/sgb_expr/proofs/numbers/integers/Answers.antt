@@ -1,5 +1,4 @@
-use Rattle.std.proofs.Common.{◌≡◌, arith, rules, length-set, to_z, of_z, w64, ◌∙◌, ◌^◌}
-use Rattle.std.proofs.lemmas.Result.{err_from_is_err_and}
+use Rattle.sgb_vec.proofs.Common.{◌≡◌, arith, rules, length-set, to_z, of_z, w64, ◌∙◌, ◌^◌, err_from_is_err_and}
 use Rattle.sgb_expr.specs.inner.Readings.{integer_at}
 use Rattle.sgb_text.proofs.Readers.{bind_of, bind_stops}
 use Rattle.sgb_expr.proofs.IntegerLists.{place_wrong, place_read, place_small, all_read, all_wrong}

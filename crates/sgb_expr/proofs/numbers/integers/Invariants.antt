@@ -1,5 +1,4 @@
-use Rattle.std.proofs.Common.{◌≡◌, ◌-◌, ◌<◌, ◌^◌, ℕ, pos, length, take, nat_abs}
-use Rattle.std.specs.List.{slice_index_or}
+use Rattle.std.proofs.Common.{◌≡◌, ◌-◌, ◌<◌, ◌^◌, ℕ, pos, length, take, nat_abs, slice_index_or}
 use Rattle.sgb_expr.specs.inner.Readings.{integers_at, separator_before}
 use Rattle.sgb_text.proofs.Readers.{with_first}
 use Rattle.sgb_expr.proofs.numbers.integers.Given as goal

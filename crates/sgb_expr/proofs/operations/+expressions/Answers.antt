@@ -1,7 +1,5 @@
-use Rattle.std.proofs.Common.{arith, rules, codes, length, length-append, List, ◌≡◌, ◌+◌, Ok, Some, None, sym, ◌∙◌, ap, subst}
+use Rattle.sgb_vec.proofs.Common.{arith, rules, codes, length, length-append, List, ◌≡◌, ◌+◌, Ok, Some, None, sym, ◌∙◌, ap, subst, Decides-eqb, err_from_is_err_and}
 use Rattle.std.proofs.lemmas.Slice.Eq.{strip_prefix_is}
-use Rattle.std.proofs.lemmas.Bool.Decides.{Decides-eqb}
-use Rattle.std.proofs.lemmas.Result.{err_from_is_err_and}
 use Rattle.sgb_expr.specs.Listed.{listed}
 use Rattle.sgb_expr.specs.Expression.{entry_of, expression_of}
 use Rattle.sgb_expr.specs.Expressions.{TakesMemory}

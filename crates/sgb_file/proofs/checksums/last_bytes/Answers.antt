@@ -1,6 +1,4 @@
-use Rattle.std.proofs.Common.{rules}
-use Rattle.std.proofs.lemmas.List.{length-drop, length-take, take-append-drop}
-use Rattle.std.proofs.lemmas.Nat.{mod_below}
+use Rattle.sgb_vec.proofs.Common.{rules, length-drop, length-take, take-append-drop, mod_below}
 use Rattle.sgb_file.specs.Checksum.{checksum_prime}
 use Rattle.sgb_file.specs.inner.Layouts.{checksum_from, value_from}
 use Rattle.sgb_file.proofs.ChecksumLemmas.{few_counted}

@@ -1,5 +1,4 @@
-use Rattle.std.proofs.Common.{rules}
-use Rattle.std.proofs.lemmas.List.Sums.{fold-append}
+use Rattle.sgb_vec.proofs.Common.{rules, fold-append}
 use Rattle.sgb_file.specs.inner.Layouts.{value_after, value_from}
 use Rattle.sgb_file.proofs.checksums.value_with_newline.Goals as goal
 

@@ -1,7 +1,4 @@
-use Rattle.std.proofs.Common.{ℕ, List, Bor, ◌∙◌}
-use Rattle.std.proofs.lemmas.List.{at_drop_more}
-use Rattle.std.proofs.lemmas.Result.{err_from_is_err_and}
-use Rattle.std.specs.List.{flat_map}
+use Rattle.sgb_vec.proofs.Common.{ℕ, List, Bor, ◌∙◌, at_drop_more, err_from_is_err_and, flat_map}
 use Rattle.sgb_file.proofs.SoFar.{so_far-more, so_far-prefix}
 use Rattle.sgb_file.proofs.saving.put_texts.Goals as goal
 

@@ -1,5 +1,4 @@
-use Rattle.std.proofs.Common.{◌≡◌, drop}
-use Rattle.std.specs.List.{flat_map}
+use Rattle.std.proofs.Common.{◌≡◌, drop, flat_map}
 use Rattle.sgb_file.proofs.SoFar.{SoFar}
 use Rattle.sgb_file.proofs.saving.put_texts.Given as goal
 

@@ -1,5 +1,4 @@
-use Rattle.std.proofs.Common.{rules, refl, ap, map, arith, ◌≡◌}
-use Rattle.std.proofs.lemmas.Result.{err_from_is_err_and}
+use Rattle.sgb_vec.proofs.Common.{rules, refl, ap, map, arith, ◌≡◌, err_from_is_err_and}
 use Rattle.sgb_graph.specs.Kinds.{letter_of}
 use Rattle.sgb_file.specs.Checksum.{checksum_of_lines}
 use Rattle.sgb_file.specs.Saving.{middle_lines}

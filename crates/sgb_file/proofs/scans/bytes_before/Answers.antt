@@ -1,5 +1,4 @@
-use Rattle.std.proofs.Common.{rules, ◌==◌, arith, unwrap_or}
-use Rattle.std.proofs.lemmas.List.{take_rest, length-drop}
+use Rattle.sgb_vec.proofs.Common.{rules, ◌==◌, arith, unwrap_or, take_rest, length-drop}
 use Rattle.sgb_file.proofs.FirstPlaces.{found_later}
 use Rattle.sgb_file.proofs.LinesLeftLemmas.{position-unwrapped}
 use Rattle.sgb_file.proofs.scans.bytes_before.Goals as goal

@@ -1,5 +1,4 @@
-use Rattle.std.proofs.Common.{◌≡◌, ◌+◌, ◌==◌, length}
-use Rattle.std.specs.List.{position_or_len}
+use Rattle.sgb_vec.proofs.Common.{◌≡◌, ◌+◌, ◌==◌, length, position_or_len}
 use Rattle.sgb_file.proofs.scans.bytes_before.Given as goal
 
 -- the first one is looked for among the bytes that are left

@@ -1,5 +1,4 @@
-use Rattle.std.proofs.Common.{eqb, take, arith, w8}
-use Rattle.std.proofs.lemmas.List.{length-take}
+use Rattle.std.proofs.Common.{eqb, take, arith, w8, length-take}
 use Rattle.std.proofs.lemmas.Simd.{bitmask_splat, first_set_mask_l}
 use Rattle.sgb_file.proofs.scans.lanes_before.Goals as goal
 

@@ -1,5 +1,5 @@
 use Rattle.std.proofs.Common.{rules}
-use Rattle.sgb_graph.proofs.FirstCycle.{filling_none, filling_at, filling_all}
+use Rattle.sgb_graph.proofs.FirstCycle.{filling_none, filling_at}
 use Rattle.sgb_graph.proofs.flips.first_cycle.Goals as goal
 
 pub loop-k-init : goal.loop-k-init
@@ -7,6 +7,3 @@ loop-k-init c = filling_none c.args.seed c.requires
 
 pub loop-k-preserved : goal.loop-k-preserved
 loop-k-preserved c = search (rules, filling_at)
-
-pub returns : goal.returns
-returns c = search (rules, filling_all)

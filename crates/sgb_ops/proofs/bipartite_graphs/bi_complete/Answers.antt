@@ -1,6 +1,4 @@
-use Rattle.std.proofs.Common.{rules, ◌≡◌, ◌∙◌, ℤ, SFits, w64, to_z, of_z, ap}
-use Rattle.std.proofs.lemmas.Int.{to_z-of_z}
-use Rattle.std.proofs.lemmas.Result.{err_from_is_err_and}
+use Rattle.sgb_vec.proofs.Common.{rules, ◌≡◌, ◌∙◌, ℤ, SFits, w64, to_z, of_z, ap, to_z-of_z, err_from_is_err_and}
 use Rattle.sgb_graph.specs.Descriptions.{IsAnswerOf}
 use Rattle.sgb_ops.specs.BiComplete.{accepted_parts, bi_complete_of}
 use Rattle.sgb_ops.proofs.Refusals.{not_refused, same_refusal}

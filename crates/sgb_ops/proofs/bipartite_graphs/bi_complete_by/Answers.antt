@@ -1,6 +1,4 @@
-use Rattle.std.proofs.Common.{◌∙◌, Ok, Err, false, w64, to_z, of_z, ap}
-use Rattle.std.proofs.lemmas.Int.{to_z-of_z}
-use Rattle.std.proofs.lemmas.Result.{err_from_is_err_and}
+use Rattle.sgb_vec.proofs.Common.{◌∙◌, Ok, Err, false, w64, to_z, of_z, ap, to_z-of_z, err_from_is_err_and}
 use Rattle.sgb_vec.specs.Results.{and_then}
 use Rattle.sgb_graph.specs.Growth.{with_id, with_uu}
 use Rattle.sgb_gen.specs.Boards.{board}

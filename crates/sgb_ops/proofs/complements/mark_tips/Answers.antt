@@ -1,7 +1,4 @@
-use Rattle.std.proofs.Common.{◌<◌, ◌∙◌, sym, ap, subst, length, arith}
-use Rattle.std.specs.List.{All}
-use Rattle.std.proofs.lemmas.List.{length-set}
-use Rattle.std.proofs.lemmas.List.Elements.{All-head, All-tail}
+use Rattle.sgb_vec.proofs.Common.{◌<◌, ◌∙◌, sym, ap, subst, length, arith, All, length-set, All-head, All-tail}
 use Rattle.sgb_graph.specs.declared.fields.Link.{Link}
 use Rattle.sgb_ops.proofs.Marks.{mark_at, mark_at-next}
 use Rattle.sgb_vec.proofs.Lists.{steps_to}

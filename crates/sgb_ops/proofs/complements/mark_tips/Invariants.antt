@@ -1,5 +1,4 @@
-use Rattle.std.proofs.Common.{◌≡◌, ℕ, ◌<◌, length}
-use Rattle.std.specs.List.{All}
+use Rattle.std.proofs.Common.{◌≡◌, ℕ, ◌<◌, length, All}
 use Rattle.sgb_graph.specs.Graphs.{chain_of}
 use Rattle.sgb_ops.proofs.Marks.{mark_at}
 use Rattle.sgb_ops.proofs.complements.mark_tips.Given as goal

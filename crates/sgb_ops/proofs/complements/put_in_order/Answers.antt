@@ -1,8 +1,6 @@
-use Rattle.std.proofs.Common.{◌∙◌, ◌==◌, refl, sym, arith}
-use Rattle.std.proofs.lemmas.Bool.Decides.{nat_tests}
+use Rattle.sgb_vec.proofs.Common.{◌∙◌, ◌==◌, refl, sym, arith, nat_tests, IsStrictlySortedBy-dedup}
 use Rattle.std.proofs.lemmas.Cmp.{nat_cmp_total}
 use Rattle.std.proofs.lemmas.List.Filters.{dedup_is}
-use Rattle.std.proofs.lemmas.List.Kept.{IsStrictlySortedBy-dedup}
 use Rattle.std.proofs.lemmas.List.Sorted.{list_any-IsPermutation}
 use Rattle.sgb_ops.proofs.CopiedArcs.{among_deduped, rises}
 use Rattle.sgb_ops.proofs.complements.put_in_order.Goals as goal

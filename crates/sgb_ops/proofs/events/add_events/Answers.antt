@@ -1,6 +1,4 @@
-use Rattle.std.proofs.Common.{◌≡◌, ℤ, w64, rules, ◌∙◌, ◌∷◌, [], ◌+◌, drop, sym, ap, subst, arith}
-use Rattle.std.proofs.lemmas.Int.{to_z-of_z}
-use Rattle.std.proofs.lemmas.List.{drop_more}
+use Rattle.sgb_vec.proofs.Common.{◌≡◌, ℤ, w64, rules, ◌∙◌, ◌∷◌, [], ◌+◌, drop, sym, ap, subst, arith, to_z-of_z, drop_more}
 use Rattle.sgb_graph.specs.Growth.{AddsEvents}
 use Rattle.sgb_graph.proofs.AddedEvents.{up_to-more}
 use Rattle.sgb_ops.proofs.events.add_events.Goals as goal

@@ -1,5 +1,4 @@
-use Rattle.std.proofs.Common.{rules, refl}
-use Rattle.std.proofs.lemmas.List.{length-map}
+use Rattle.sgb_vec.proofs.Common.{rules, refl, length-map}
 use Rattle.sgb_graph.specs.Graphs.{GraphData}
 use Rattle.sgb_graph.specs.Growth.{new_vertex}
 use Rattle.sgb_ops.specs.inner.Ends.{AllWithin}

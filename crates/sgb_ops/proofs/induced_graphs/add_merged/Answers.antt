@@ -1,5 +1,4 @@
-use Rattle.std.proofs.Common.{◌∙◌, ◌++◌, sym, ap, subst}
-use Rattle.std.proofs.lemmas.List.Elements.{All-append, All-filter}
+use Rattle.sgb_vec.proofs.Common.{◌∙◌, ◌++◌, sym, ap, subst, All-append, All-filter}
 use Rattle.sgb_graph.specs.Events.{HasEndsBelow}
 use Rattle.sgb_ops.specs.inner.Entries.{total_of}
 use Rattle.sgb_ops.specs.Induced.{events_between}

@@ -1,5 +1,4 @@
-use Rattle.std.proofs.Common.{◌≡◌, ◌∙◌, ℕ, List, length, sym, ap, rules}
-use Rattle.std.proofs.lemmas.List.{length-map}
+use Rattle.sgb_vec.proofs.Common.{◌≡◌, ◌∙◌, ℕ, List, length, sym, ap, rules, length-map}
 use Rattle.sgb_graph.specs.Graphs.{GraphData}
 use Rattle.sgb_graph.specs.Growth.{new_vertex}
 use Rattle.sgb_ops.specs.declared.induced_graphs.entries.Entry.{Entry}

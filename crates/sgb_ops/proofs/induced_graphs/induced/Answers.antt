@@ -1,5 +1,4 @@
-use Rattle.std.proofs.Common.{rules}
-use Rattle.std.proofs.lemmas.Result.{err_from_is_err_and}
+use Rattle.sgb_vec.proofs.Common.{rules, err_from_is_err_and}
 use Rattle.sgb_ops.specs.Entries.{accepted_entries}
 use Rattle.sgb_graph.specs.Vertices.{order_of}
 use Rattle.sgb_ops.proofs.BegunGraphs.{begun_count, begun_numbered, begun_own, begun_size, begun_within, finished_answer}

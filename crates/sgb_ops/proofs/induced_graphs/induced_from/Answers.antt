@@ -1,6 +1,4 @@
-use Rattle.std.proofs.Common.{rules}
-use Rattle.std.specs.List.{list_any}
-use Rattle.std.proofs.lemmas.Result.{err_from_is_err_and}
+use Rattle.sgb_vec.proofs.Common.{rules, list_any, err_from_is_err_and}
 use Rattle.sgb_ops.specs.Entries.{accepted_entries, is_unnumbered}
 use Rattle.sgb_graph.specs.Vertices.{order_of}
 use Rattle.sgb_ops.specs.inner.Begun.{IsBegun}

@@ -1,5 +1,4 @@
-use Rattle.std.proofs.Common.{rules}
-use Rattle.std.proofs.lemmas.List.{length-map}
+use Rattle.sgb_vec.proofs.Common.{rules, length-map}
 use Rattle.sgb_ops.specs.inner.Ends.{AllWithin}
 use Rattle.sgb_ops.proofs.intersections.intersection.Goals as goal
 

@@ -1,6 +1,4 @@
-use Rattle.std.proofs.Common.{◌≡◌, ◌==◌, ◌+◌, ◌∙◌, ◌++◌, ◌∷◌, [], take, drop, get_or, sym, ap, refl, if◌then◌else◌, w64, to_z, of_z, rules, arith}
-use Rattle.std.proofs.lemmas.Int.{to_z-of_z}
-use Rattle.std.proofs.lemmas.List.{take_more, drop_more, take-append-drop}
+use Rattle.sgb_vec.proofs.Common.{◌≡◌, ◌==◌, ◌+◌, ◌∙◌, ◌++◌, ◌∷◌, [], take, drop, get_or, sym, ap, refl, if◌then◌else◌, w64, to_z, of_z, rules, arith, to_z-of_z, take_more, drop_more, take-append-drop}
 use Rattle.sgb_ops.specs.inner.Tallies.{tally_at, tally_to, event_left, second_length, without_one}
 use Rattle.sgb_ops.specs.inner.Intersection.{common_event}
 use Rattle.sgb_ops.proofs.CommonEvents.{commons_after, commons_at_places, left_after, left_at_first, left_more, event_there}

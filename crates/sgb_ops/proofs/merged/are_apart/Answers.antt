@@ -1,6 +1,4 @@
-use Rattle.std.proofs.Common.{◌≡◌, ◌≢◌, ◌∙◌, ◌+◌, ◌/◌, ◌%◌, ◌++◌, ◌∷◌, [], get_or, take, sym, ap, arith}
-use Rattle.std.specs.Int.{bit_at}
-use Rattle.std.proofs.lemmas.List.{take_more}
+use Rattle.sgb_vec.proofs.Common.{◌≡◌, ◌≢◌, ◌∙◌, ◌+◌, ◌/◌, ◌%◌, ◌++◌, ◌∷◌, [], get_or, take, sym, ap, arith, bit_at, take_more}
 use Rattle.std.proofs.lemmas.Nat.Bits.{shr_and_one}
 use Rattle.sgb_ops.specs.inner.Ends.{bit_place}
 use Rattle.sgb_ops.proofs.Apart.{so_far_more}

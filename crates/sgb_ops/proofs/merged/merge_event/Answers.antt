@@ -1,8 +1,4 @@
-use Rattle.std.proofs.Common.{◌≡◌, ◌∙◌, ◌++◌, ◌∷◌, [], ℕ, List, true, sym, ap, rules}
-use Rattle.std.specs.List.{list_any, position_or_len}
-use Rattle.std.proofs.lemmas.Bool.{not-true, not-false}
-use Rattle.std.proofs.lemmas.List.{map_push}
-use Rattle.std.specs.Prelude.{map, if◌then◌else◌, set}
+use Rattle.sgb_vec.proofs.Common.{◌≡◌, ◌∙◌, ◌++◌, ◌∷◌, [], ℕ, List, true, sym, ap, rules, list_any, position_or_len, not-true, not-false, map_push, map, if◌then◌else◌, set}
 use Rattle.sgb_ops.specs.inner.Ends.{ends_key}
 use Rattle.sgb_ops.proofs.Ends.{has_same_pair}
 use Rattle.sgb_ops.proofs.MergeSteps.{has_key, put_last, put_there, keys_stay}

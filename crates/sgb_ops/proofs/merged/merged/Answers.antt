@@ -1,5 +1,4 @@
-use Rattle.std.proofs.Common.{rules, ◌≡◌, ◌+◌, ◌∙◌, ◌++◌, ◌∷◌, [], sym, ap, take, arith}
-use Rattle.std.proofs.lemmas.List.{take_more}
+use Rattle.sgb_vec.proofs.Common.{rules, ◌≡◌, ◌+◌, ◌∙◌, ◌++◌, ◌∷◌, [], sym, ap, take, arith, take_more}
 use Rattle.sgb_ops.specs.inner.Ends.{ends_key}
 use Rattle.sgb_ops.specs.Merged.{merged}
 use Rattle.sgb_ops.proofs.MergeSteps.{merged_more}

@@ -1,5 +1,4 @@
-use Rattle.std.proofs.Common.{rules}
-use Rattle.std.proofs.lemmas.Bool.{OnTrue_at}
+use Rattle.sgb_vec.proofs.Common.{rules, OnTrue_at}
 use Rattle.sgb_ops.specs.inner.Merged.{HaveDifferentEnds}
 use Rattle.sgb_ops.proofs.Apart.{merged_unless_same}
 use Rattle.sgb_ops.proofs.merged.merged_unless.Goals as goal

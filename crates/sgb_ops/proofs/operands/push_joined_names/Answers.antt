@@ -1,5 +1,4 @@
-use Rattle.std.proofs.Common.{arith, length, take, ap}
-use Rattle.std.proofs.lemmas.List.{length-append, length-take}
+use Rattle.std.proofs.Common.{arith, length, take, ap, length-append, length-take}
 use Rattle.sgb_ops.proofs.operands.push_joined_names.Goals as goal
 
 pub push_begun_names-requires : goal.push_begun_names-requires

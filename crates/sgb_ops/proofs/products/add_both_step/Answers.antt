@@ -1,7 +1,5 @@
-use Rattle.std.proofs.Common.{◌∙◌, ap, map, refl, w64, to_z, of_z, rules}
-use Rattle.std.proofs.lemmas.Int.{to_z-of_z}
+use Rattle.sgb_vec.proofs.Common.{◌∙◌, ap, map, refl, w64, to_z, of_z, rules, to_z-of_z, int_min}
 use Rattle.sgb_graph.specs.Graphs.{chain_of}
-use Rattle.std.specs.Int.{int_min}
 use Rattle.sgb_graph.specs.Vertices.{order_of}
 use Rattle.sgb_ops.specs.inner.Steps.{both_step}
 use Rattle.sgb_ops.proofs.Places.{arcs_first, arc_added, same_event}

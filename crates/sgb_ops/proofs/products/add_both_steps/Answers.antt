@@ -1,5 +1,4 @@
-use Rattle.std.proofs.Common.{arith, refl}
-use Rattle.std.specs.List.{flat_map}
+use Rattle.std.proofs.Common.{arith, refl, flat_map}
 use Rattle.sgb_graph.specs.Vertices.{order_of}
 use Rattle.sgb_ops.specs.inner.Steps.{both_steps_of_row}
 use Rattle.sgb_ops.proofs.Places.{place_added, places_added}

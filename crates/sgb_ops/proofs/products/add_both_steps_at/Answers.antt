@@ -1,5 +1,4 @@
-use Rattle.std.proofs.Common.{rules, map, refl}
-use Rattle.std.specs.List.{flat_map}
+use Rattle.std.proofs.Common.{rules, map, refl, flat_map}
 use Rattle.sgb_graph.specs.Graphs.{chain_of}
 use Rattle.sgb_graph.specs.Vertices.{order_of}
 use Rattle.sgb_ops.specs.inner.Steps.{both_step}

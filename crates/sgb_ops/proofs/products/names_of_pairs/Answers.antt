@@ -1,5 +1,4 @@
-use Rattle.std.proofs.Common.{◌+◌, ℕ, List, ap, drop, map}
-use Rattle.std.specs.List.{flat_map}
+use Rattle.std.proofs.Common.{◌+◌, ℕ, List, ap, drop, map, flat_map}
 use Rattle.sgb_gen.proofs.FamilyWalks.{drop_at_vector}
 use Rattle.sgb_graph.specs.Vertices.{names_of}
 use Rattle.sgb_ops.specs.inner.Compounds.{pair_name}

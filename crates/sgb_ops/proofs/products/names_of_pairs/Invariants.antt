@@ -1,5 +1,4 @@
-use Rattle.std.proofs.Common.{◌≡◌, ◌++◌, map, drop}
-use Rattle.std.specs.List.{flat_map}
+use Rattle.std.proofs.Common.{◌≡◌, ◌++◌, map, drop, flat_map}
 use Rattle.sgb_graph.specs.Vertices.{names_of}
 use Rattle.sgb_ops.specs.inner.Pairs.{names_of_pairs}
 use Rattle.sgb_ops.specs.inner.Compounds.{pair_name}

@@ -1,6 +1,4 @@
-use Rattle.std.proofs.Common.{◌≡◌, ◌*◌, ◌∙◌, ℕ, ap, rules}
-use Rattle.std.proofs.lemmas.Bool.{le-ltb, lt-ltb}
-use Rattle.std.proofs.lemmas.Int.{to_z-of_z}
+use Rattle.sgb_vec.proofs.Common.{◌≡◌, ◌*◌, ◌∙◌, ℕ, ap, rules, le-ltb, lt-ltb, to_z-of_z}
 use Rattle.sgb_vec.specs.Limits.{most_vertices}
 use Rattle.sgb_graph.specs.Descriptions.{IsAnswerOf}
 use Rattle.sgb_graph.specs.Vertices.{order_of}

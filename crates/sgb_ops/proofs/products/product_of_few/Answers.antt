@@ -1,5 +1,4 @@
-use Rattle.std.proofs.Common.{◌∙◌, ap, rules}
-use Rattle.std.proofs.lemmas.List.{length-map}
+use Rattle.sgb_vec.proofs.Common.{◌∙◌, ap, rules, length-map}
 use Rattle.sgb_graph.specs.Growth.{new_vertex}
 use Rattle.sgb_graph.specs.Sound.{arc_kinds}
 use Rattle.sgb_ops.specs.Product.{product_events}

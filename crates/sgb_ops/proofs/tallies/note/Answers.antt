@@ -1,6 +1,4 @@
-use Rattle.std.proofs.Common.{rules}
-use Rattle.std.specs.Option.{option_map_or}
-use Rattle.std.proofs.lemmas.List.{length-take-le}
+use Rattle.sgb_vec.proofs.Common.{rules, option_map_or, length-take-le}
 use Rattle.sgb_ops.specs.inner.Tallies.{tally_at, tally_to}
 use Rattle.sgb_ops.proofs.TallyLemmas.{no_arc, few_to}
 use Rattle.sgb_ops.proofs.tallies.note.Goals as goal

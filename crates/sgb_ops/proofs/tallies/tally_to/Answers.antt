@@ -1,6 +1,4 @@
-use Rattle.std.proofs.Common.{rules}
-use Rattle.std.specs.Option.{option_map_or}
-use Rattle.std.proofs.lemmas.List.{length-take-le}
+use Rattle.sgb_vec.proofs.Common.{rules, option_map_or, length-take-le}
 use Rattle.sgb_ops.proofs.TallyLemmas.{few_to, no_arc}
 use Rattle.sgb_ops.proofs.tallies.tally_to.Goals as goal
 

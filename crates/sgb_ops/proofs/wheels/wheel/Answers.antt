@@ -1,6 +1,4 @@
-use Rattle.std.proofs.Common.{rules, ◌≡◌, ◌∙◌, ℤ, Bool, Result, Ok, Err, SFits, w64, to_z, of_z, refl, sym, ap}
-use Rattle.std.proofs.lemmas.Int.{to_z-of_z}
-use Rattle.std.proofs.lemmas.Result.{err_from_is_err_and}
+use Rattle.sgb_vec.proofs.Common.{rules, ◌≡◌, ◌∙◌, ℤ, Bool, Result, Ok, Err, SFits, w64, to_z, of_z, refl, sym, ap, to_z-of_z, err_from_is_err_and}
 use Rattle.sgb_vec.specs.Results.{and_then}
 use Rattle.sgb_vec.specs.declared.panics.Panic.{Panic}
 use Rattle.sgb_graph.specs.Descriptions.{IsAnswerOf}

@@ -1,6 +1,4 @@
-use Rattle.std.specs.Prelude.{Option, Ok, Err}
-use Rattle.std.proofs.Common.{refl, subst}
-use Rattle.std.proofs.lemmas.Result.{err_from_is_err_and}
+use Rattle.sgb_vec.proofs.Common.{refl, subst, Option, Ok, Err, err_from_is_err_and}
 use Rattle.clap.specs.Words.{Text}
 use Rattle.sgb_expr.specs.Expressions.{IsExpressionRead}
 use Rattle.sgb_requests.specs.Reading.{IsReadAs}

@@ -1,6 +1,5 @@
-use Rattle.std.proofs.Common.{List, Result, Err, map, codes, subst, inl, inr}
+use Rattle.std.proofs.Common.{List, Result, Err, map, codes, subst, inl, inr, string_bytes}
 use Rattle.std.proofs.lemmas.Result.{err_from_is_err_and}
-use Rattle.std.specs.String.{string_bytes}
 use Rattle.clap.specs.Words.{Text}
 use Rattle.sgb_requests.specs.inner.CommandLine.{AsksBy, EntersSubcommand, bytes_of}
 use Rattle.sgb_expr.specs.declared.expressions.Expr.{Expr}

@@ -1,7 +1,4 @@
-use Rattle.std.proofs.Common.{◌≡◌, ◌||◌, ◌∙◌, ◌++◌, ℤ, List, [], ◌∷◌, map, Result, Ok, Err, refl, ap, ap₂, sym, subst, w64, rules, arith, inr, ℕ, Bool, true, false, IfOk, IfErr}
-use Rattle.std.proofs.lemmas.Result.{err_from_is_err_and}
-use Rattle.std.proofs.lemmas.Int.{to_z-of_z}
-use Rattle.std.proofs.lemmas.List.{map-append}
+use Rattle.sgb_vec.proofs.Common.{◌≡◌, ◌||◌, ◌∙◌, ◌++◌, ℤ, List, [], ◌∷◌, map, Result, Ok, Err, refl, ap, ap₂, sym, subst, w64, rules, arith, inr, ℕ, Bool, true, false, IfOk, IfErr, err_from_is_err_and, to_z-of_z, map-append}
 use Rattle.sgb_vec.specs.declared.panics.Panic.{Panic}
 use Rattle.sgb_graph.specs.Descriptions.{Description, IsAnswerOf}
 use Rattle.sgb_graph.specs.Graphs.{GraphData}

@@ -1,5 +1,4 @@
-use Rattle.std.proofs.Common.{rules}
-use Rattle.std.proofs.lemmas.List.{places}
+use Rattle.sgb_vec.proofs.Common.{rules, places}
 use Rattle.sgb_vec.proofs.BoxPlaces.{IsBelow-from_Contains, IsBelow-length}
 use Rattle.sgb_vec.proofs.BoxSuccessors.{GrownAt-put_mid, IsNext-grown, IsLast-top}
 use Rattle.sgb_vec.proofs.VisitLemmas.{HasVisited-from, HasVisited-all}

@@ -1,5 +1,4 @@
-use Rattle.std.proofs.Common.{rules, ◌<◌, ◌-◌, length, arith}
-use Rattle.std.proofs.lemmas.Bool.{cases_eq}
+use Rattle.sgb_vec.proofs.Common.{rules, ◌<◌, ◌-◌, length, arith, cases_eq}
 use Rattle.sgb_vec.proofs.BoxPlaces.{IsBelow-at, IsBelow-length}
 use Rattle.sgb_vec.proofs.boxes.last_below_top.Goals as goal
 

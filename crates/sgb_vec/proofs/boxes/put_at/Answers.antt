@@ -1,10 +1,6 @@
-use Rattle.std.proofs.Common.{rules, ◌≡◌, ◌+◌, ◌-◌, arith}
-use Rattle.std.proofs.lemmas.List.{length-set}
-use Rattle.sgb_vec.proofs.BoxDigits.{size-pos, digits-none, digits-more, digits-all}
+use Rattle.std.proofs.Common.{rules, ◌≡◌, ◌+◌, ◌-◌, arith, length-set}
+use Rattle.sgb_vec.proofs.BoxDigits.{size-pos, digits-more, digits-all}
 use Rattle.sgb_vec.proofs.boxes.put_at.Goals as goal
-
-pub loop-k-init : goal.loop-k-init
-loop-k-init c = search (rules, digits-none)
 
 pub nonzero_rem-entries : goal.nonzero_rem-entries
 nonzero_rem-entries c = search (rules, size-pos)

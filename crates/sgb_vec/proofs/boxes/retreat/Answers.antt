@@ -1,6 +1,4 @@
-use Rattle.std.proofs.Common.{◌<◌, ◌+◌, ◌-◌, map, ◌∙◌, ap, rules}
-use Rattle.std.proofs.lemmas.List.{places, take_rest}
-use Rattle.std.proofs.lemmas.List.Elements.{All-drop, All-take}
+use Rattle.sgb_vec.proofs.Common.{◌<◌, ◌+◌, ◌-◌, map, ◌∙◌, ap, rules, places, take_rest, All-drop, All-take}
 use Rattle.sgb_vec.proofs.BoxPlaces.{IsBelow-from_Contains, IsBelow-length}
 use Rattle.sgb_vec.proofs.BoxPredecessors.{FallenAt-put_mid, IsPrevious-fallen, HasNoneBefore-zeros, sizes_some-below}
 use Rattle.sgb_vec.proofs.VisitLemmas.{HasVisited-from, HasVisited-all}

@@ -1,5 +1,4 @@
-use Rattle.std.proofs.Common.{rules, arith}
-use Rattle.std.proofs.lemmas.Grind.{common_steps}
+use Rattle.sgb_vec.proofs.Common.{rules, arith, common_steps}
 use Rattle.sgb_vec.proofs.Numerals.{next_digit}
 use Rattle.sgb_vec.proofs.digits.digits_value.Goals as goal
 

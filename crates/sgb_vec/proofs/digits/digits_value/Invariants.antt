@@ -1,5 +1,4 @@
-use Rattle.std.proofs.Common.{◌≡◌, take}
-use Rattle.std.specs.Str.Parse.{digits_value}
+use Rattle.sgb_vec.proofs.Common.{◌≡◌, take, digits_value}
 use Rattle.sgb_vec.proofs.digits.digits_value.Given as goal
 
 abbrev pub invariant-loop-byte : goal.invariant-loop-byte

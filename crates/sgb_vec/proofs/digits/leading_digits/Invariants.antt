@@ -1,6 +1,4 @@
-use Rattle.std.proofs.Common.{◌≡◌, ◌+◌, drop}
-use Rattle.std.specs.Char.{is_digit}
-use Rattle.std.specs.List.{prefix_len}
+use Rattle.sgb_vec.proofs.Common.{◌≡◌, ◌+◌, drop, is_digit, prefix_len}
 use Rattle.sgb_vec.proofs.digits.leading_digits.Given as goal
 
 abbrev pub invariant-loop-count : goal.invariant-loop-count

@@ -1,6 +1,4 @@
-use Rattle.std.proofs.Common.{◌≡◌, ◌≢◌, length, decimal, sym, ap, ◌∙◌, eqb-true, arith, rules, tests}
-use Rattle.std.proofs.lemmas.Bool.{eqb-false}
-use Rattle.std.proofs.lemmas.List.{length-map, nil_from_length}
+use Rattle.sgb_vec.proofs.Common.{◌≡◌, ◌≢◌, length, decimal, sym, ap, ◌∙◌, eqb-true, arith, rules, tests, eqb-false, length-map, nil_from_length}
 use Rattle.std.proofs.lemmas.Iterator.Consumers.{YieldsList-at, YieldsList-turn, YieldsList-end}
 use Rattle.std.proofs.lemmas.Iterator.Splits.{YieldsList-from_slice_split}
 use Rattle.sgb_vec.proofs.NameReading.{is_dot, name_of_parts, part_is_decimal, few_parts}

@@ -1,5 +1,4 @@
-use Rattle.std.proofs.Common.{rules, ◌≡◌, ◌-◌, ◌<◌, ◌≤◌, ◌⊎◌, true, false, get_or, sym, ◌∙◌, inl, inr, arith}
-use Rattle.std.proofs.lemmas.Bool.Decides.{nat_tests}
+use Rattle.sgb_vec.proofs.Common.{rules, ◌≡◌, ◌-◌, ◌<◌, ◌≤◌, ◌⊎◌, true, false, get_or, sym, ◌∙◌, inl, inr, arith, nat_tests}
 use Rattle.sgb_vec.proofs.SumMembers.{IsWithin-length}
 use Rattle.sgb_vec.proofs.SumTails.{least-none, least-more, least-all, after-more_le}
 use Rattle.sgb_vec.proofs.SumWalks.{IsFirst-least}
@@ -8,9 +7,6 @@ use Rattle.sgb_vec.proofs.sums.last_falling.Goals.{else-has_room-via-then-has_ro
 
 pub loop-place-init : goal.loop-place-init
 loop-place-init c = (least-none c.args.bounds.now c.args.entries.now c.requires.within, omega arith)
-
-pub returns-then-entries-place-gt0-clause-after : goal.returns-then-entries-place-gt0-clause-after
-returns-then-entries-place-gt0-clause-after c = search rules
 
 pub returns-then-entries-place-gt0-clause-first_after : goal.returns-then-entries-place-gt0-clause-first_after
 returns-then-entries-place-gt0-clause-first_after c = search (rules, IsFirst-least)

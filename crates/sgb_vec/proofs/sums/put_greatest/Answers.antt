@@ -1,9 +1,6 @@
 use Rattle.std.proofs.Common.{arith}
-use Rattle.sgb_vec.proofs.SumTails.{filled_up-none, filled_up-more, filled_up-all}
+use Rattle.sgb_vec.proofs.SumTails.{filled_up-more, filled_up-all}
 use Rattle.sgb_vec.proofs.sums.put_greatest.Goals as goal
-
-pub loop-place-init : goal.loop-place-init
-loop-place-init c = (filled_up-none c.args.bounds.now c.args.entries.now c.args.total c.requires.room, omega arith)
 
 pub loop-place-preserved : goal.loop-place-preserved
 loop-place-preserved c = (

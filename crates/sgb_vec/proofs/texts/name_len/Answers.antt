@@ -1,5 +1,4 @@
-use Rattle.std.proofs.Common.{◌≡◌, ◌<◌, ◌≤◌, inl, inr, refl, arith}
-use Rattle.std.proofs.lemmas.Bool.{cases_lt, lt-ltb, le-ltb}
+use Rattle.sgb_vec.proofs.Common.{◌≡◌, ◌<◌, ◌≤◌, inl, inr, refl, arith, cases_lt, lt-ltb, le-ltb}
 use Rattle.sgb_vec.proofs.VectorNames.{name_of_none, length-name_of_vector-next}
 use Rattle.sgb_vec.proofs.texts.name_len.Goals as goal
 

@@ -1,7 +1,4 @@
-use Rattle.std.proofs.Common.{rules, ◌<◌, ◌^◌, arith}
-use Rattle.std.specs.List.{All}
-use Rattle.std.proofs.lemmas.Grind.{common_steps}
-use Rattle.std.proofs.lemmas.List.Elements.{All-from_get_or}
+use Rattle.sgb_vec.proofs.Common.{rules, ◌<◌, ◌^◌, arith, All, common_steps, All-from_get_or}
 use Rattle.sgb_vec.proofs.VectorNames.{name_of_none, IsText-name_of_vector, name_of_vector-first, name_of_vector-more}
 use Rattle.sgb_vec.proofs.texts.name_of.Goals as goal
 use Rattle.sgb_vec.proofs.texts.name_of.Goals.{then-place-gt0+in_ok-push, else-place-gt0}

@@ -1,7 +1,4 @@
-use Rattle.std.proofs.Common.{◌<◌, ◌^◌, rules, arith}
-use Rattle.std.specs.List.{All}
-use Rattle.std.proofs.lemmas.List.Elements.{All-from_get_or}
-use Rattle.std.proofs.lemmas.Grind.{common_steps}
+use Rattle.sgb_vec.proofs.Common.{◌<◌, ◌^◌, rules, arith, All, All-from_get_or, common_steps}
 use Rattle.sgb_vec.proofs.VectorNames.{IsText-name_of_vector, name_of_none, name_of_vector-first, name_of_vector-more}
 use Rattle.sgb_vec.proofs.texts.put_name.Goals as goal
 

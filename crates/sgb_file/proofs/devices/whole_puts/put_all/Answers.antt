@@ -1,6 +1,4 @@
-use Rattle.std.proofs.Common.{rules, ◌++◌, take, ◌∙◌, ◌≡◌, ◌≢◌, ℕ, ◌-◌, ◌≤◌, ◌<◌, Bool, true, false, List, length, drop, arith, append_assoc, take-append-drop, length-append, length-take-le}
-use Rattle.std.proofs.KnownBytes.{Appends-trans}
-use Rattle.std.proofs.lemmas.List.{take_rest}
+use Rattle.sgb_vec.proofs.Common.{rules, ◌++◌, take, ◌∙◌, ◌≡◌, ◌≢◌, ℕ, ◌-◌, ◌≤◌, ◌<◌, Bool, true, false, List, length, drop, arith, append_assoc, take-append-drop, length-append, length-take-le, Appends-trans, take_rest}
 use Rattle.sgb_file.proofs.devices.whole_puts.put_all.Goals as goal
 
 -- a prefix of what is left moves after what is done

@@ -1,6 +1,5 @@
 -- What is gone from `rest` was taken, by a sink that has not failed; where nothing is gone, the sink is as it was.
-use Rattle.std.proofs.Common.{◌≡◌, ℕ, ◌<◌, List, ◌++◌, length, false}
-use Rattle.std.specs.Io.KnownBytes.{Appends}
+use Rattle.sgb_vec.proofs.Common.{◌≡◌, ℕ, ◌<◌, List, ◌++◌, length, false, Appends}
 use Rattle.sgb_file.proofs.devices.whole_puts.put_all.Given as goal
 
 abbrev pub invariant-loop-rest : goal.invariant-loop-rest

@@ -1,5 +1,4 @@
-use Rattle.std.proofs.Common.{arith}
-use Rattle.std.proofs.lemmas.List.Elements.{All-map}
+use Rattle.sgb_vec.proofs.Common.{arith, All-map}
 use Rattle.sgb_graph.specs.Columns.{util_seen}
 use Rattle.sgb_graph.specs.declared.fields.UtilRef.{UtilRef}
 use Rattle.sgb_file.specs.Saved.{ValueCanBeSaved}

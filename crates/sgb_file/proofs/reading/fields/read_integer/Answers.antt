@@ -1,5 +1,4 @@
-use Rattle.std.proofs.Common.{w64, sym, rules}
-use Rattle.std.proofs.lemmas.Int.{to_z-of_z}
+use Rattle.sgb_vec.proofs.Common.{w64, sym, rules, to_z-of_z}
 use Rattle.sgb_file.specs.inner.FieldValues.{integer_of}
 use Rattle.sgb_file.proofs.CountedFields.{field_found, field_missing}
 use Rattle.sgb_file.proofs.reading.fields.read_integer.Goals as goal

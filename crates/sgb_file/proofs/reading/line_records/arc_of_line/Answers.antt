@@ -1,5 +1,4 @@
-use Rattle.std.proofs.Common.{rules, arith, w64}
-use Rattle.std.proofs.lemmas.Int.{to_z-of_z}
+use Rattle.sgb_vec.proofs.Common.{rules, arith, w64, to_z-of_z}
 use Rattle.sgb_file.proofs.LineRecords.{arc_counted, arc_line, integer_field, last_read, no_fields_used, record_field, rest_of_line, then_read}
 use Rattle.sgb_file.proofs.reading.line_records.arc_of_line.Goals as goal
 

@@ -1,5 +1,4 @@
-use Rattle.std.proofs.Common.{rules, arith, w64}
-use Rattle.std.proofs.lemmas.Int.{to_z-of_z}
+use Rattle.sgb_vec.proofs.Common.{rules, arith, w64, to_z-of_z}
 use Rattle.sgb_file.proofs.CountedFields.{line_counted}
 use Rattle.sgb_file.proofs.LineRecords.{integer_field, last_read, no_fields, record_field, then_read, unused_read}
 use Rattle.sgb_file.proofs.reading.line_records.fields_of_line.Goals as goal

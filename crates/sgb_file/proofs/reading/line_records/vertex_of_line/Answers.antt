@@ -1,6 +1,4 @@
-use Rattle.std.proofs.Common.{rules, w64}
-use Rattle.std.proofs.lemmas.Int.{to_z-of_z}
-use Rattle.std.proofs.lemmas.List.{length-take}
+use Rattle.sgb_vec.proofs.Common.{rules, w64, to_z-of_z, length-take}
 use Rattle.sgb_file.proofs.LineRecords.{named_parts, rest_is_line, vertex_counted, vertex_line}
 use Rattle.sgb_file.proofs.reading.line_records.vertex_of_line.Goals as goal
 

@@ -1,5 +1,4 @@
-use Rattle.std.proofs.Common.{rules, ◌∙◌, sym, slice_index}
-use Rattle.std.proofs.lemmas.Bool.Decides.{nat_tests}
+use Rattle.sgb_vec.proofs.Common.{rules, ◌∙◌, sym, slice_index, nat_tests}
 use Rattle.sgb_file.proofs.LineLemmas.{no_bytes, stays_clean}
 use Rattle.sgb_file.proofs.LinesLeftLemmas.{clean-last, ends_well-at, clean_nothing, some_bytes}
 use Rattle.sgb_file.proofs.reading.lines.without_end_spaces.Goals as goal

@@ -1,5 +1,4 @@
-use Rattle.std.proofs.Common.{refl, ◌≡◌, ◌-◌, drop, length, rules, arith, length-set, length-drop}
-use Rattle.std.proofs.lemmas.List.{take_all}
+use Rattle.std.proofs.Common.{refl, ◌≡◌, ◌-◌, drop, length, rules, arith, length-set, length-drop, take_all}
 use Rattle.sgb_file.proofs.Endings.{short_kinds, kinds_missed, kinds_more, kinds_read}
 use Rattle.sgb_file.proofs.reading.openings.kinds_at.Goals as goal
 

@@ -1,5 +1,4 @@
-use Rattle.std.proofs.Common.{rules, w64}
-use Rattle.std.proofs.lemmas.Int.{to_z-of_z}
+use Rattle.sgb_vec.proofs.Common.{rules, w64, to_z-of_z}
 use Rattle.sgb_file.proofs.CountedFields.{minus_counted}
 use Rattle.sgb_file.proofs.reading.plain.counted_integer.Goals as goal
 

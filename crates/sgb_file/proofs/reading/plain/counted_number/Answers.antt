@@ -1,5 +1,4 @@
-use Rattle.std.proofs.Common.{rules, arith, ap, sym, ◌∙◌, ℕ, Some, drop}
-use Rattle.std.proofs.lemmas.List.{take_min, take_rest}
+use Rattle.sgb_vec.proofs.Common.{rules, arith, ap, sym, ◌∙◌, ℕ, Some, drop, take_min, take_rest}
 use Rattle.sgb_file.specs.inner.FieldValues.{is_decimal_digit}
 use Rattle.sgb_file.specs.inner.Found.{is_at_end}
 use Rattle.sgb_file.proofs.NumberReading.{number_is_small}

@@ -1,7 +1,5 @@
-use Rattle.std.proofs.Common.{rules, refl}
+use Rattle.sgb_vec.proofs.Common.{rules, refl, common_steps, length-take, take_all}
 use Rattle.sgb_file.specs.inner.FieldValues.{is_decimal_digit}
-use Rattle.std.proofs.lemmas.Grind.{common_steps}
-use Rattle.std.proofs.lemmas.List.{length-take, take_all}
 use Rattle.sgb_file.specs.inner.Layouts.{value_from}
 use Rattle.sgb_file.proofs.CountedFields.{digit_valued, digits_all, digits_until, no_digit_counts}
 use Rattle.sgb_file.proofs.NumberReading.{counts_on}

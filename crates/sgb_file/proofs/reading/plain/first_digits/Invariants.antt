@@ -1,6 +1,4 @@
-use Rattle.std.proofs.Common.{◌≡◌, true, take}
-use Rattle.std.specs.List.{list_all}
-use Rattle.std.specs.Str.Parse.{digits_value}
+use Rattle.sgb_vec.proofs.Common.{◌≡◌, true, take, list_all, digits_value}
 use Rattle.sgb_file.specs.inner.FieldValues.{is_decimal_digit}
 use Rattle.sgb_file.specs.inner.Layouts.{value_from}
 use Rattle.sgb_file.proofs.reading.plain.first_digits.Given as goal

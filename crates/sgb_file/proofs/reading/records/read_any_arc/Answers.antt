@@ -1,5 +1,4 @@
-use Rattle.std.proofs.Common.{Option, Err, subst, sym, rules}
-use Rattle.std.proofs.lemmas.Result.{err_from_is_err_and}
+use Rattle.sgb_vec.proofs.Common.{Option, Err, subst, sym, rules, err_from_is_err_and}
 use Rattle.sgb_text.proofs.Findings.{Found}
 use Rattle.sgb_graph.specs.declared.fields.Kind.TheVariants.{Z}
 use Rattle.sgb_graph.specs.declared.fields.ArcRec.{ArcRec}

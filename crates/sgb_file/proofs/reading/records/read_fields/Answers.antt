@@ -1,6 +1,4 @@
-use Rattle.std.proofs.Common.{refl, ◌∙◌, length-set, rules, w64}
-use Rattle.std.proofs.lemmas.Int.{to_z-of_z}
-use Rattle.std.proofs.lemmas.Result.{err_from_is_err_and}
+use Rattle.sgb_vec.proofs.Common.{refl, ◌∙◌, length-set, rules, w64, to_z-of_z, err_from_is_err_and}
 use Rattle.sgb_file.specs.inner.LinesLeft.{text_left}
 use Rattle.sgb_file.proofs.FoundSteps.{end_read, end_stops, int_read, int_stops, none_read, one_read, one_stops, one_unused, used_at}
 use Rattle.sgb_file.proofs.reading.records.read_fields.Goals as goal

@@ -1,5 +1,4 @@
-use Rattle.std.proofs.Common.{rules}
-use Rattle.std.proofs.lemmas.List.{take_rest}
+use Rattle.sgb_vec.proofs.Common.{rules, take_rest}
 use Rattle.sgb_file.proofs.reading.records.read_graph_fields.Goals as goal
 
 pub returns-clause-found : goal.returns-clause-found

@@ -1,5 +1,4 @@
-use Rattle.std.proofs.Common.{rules, w64}
-use Rattle.std.proofs.lemmas.Int.{to_z-of_z}
+use Rattle.sgb_vec.proofs.Common.{rules, w64, to_z-of_z}
 use Rattle.sgb_file.specs.inner.Layouts.{checksum_from, counted_bytes}
 use Rattle.sgb_file.proofs.LineRecords.{plain_arc_read}
 use Rattle.sgb_file.proofs.reading.records.read_plain_arc.Goals as goal

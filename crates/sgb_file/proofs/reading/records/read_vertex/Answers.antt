@@ -1,7 +1,5 @@
-use Rattle.std.proofs.Common.{rules, w64, to_z, of_z, ap, ◌∙◌}
-use Rattle.std.proofs.lemmas.Int.{to_z-of_z}
+use Rattle.sgb_vec.proofs.Common.{rules, w64, to_z, of_z, ap, ◌∙◌, to_z-of_z, on_ok_weaker}
 use Rattle.sgb_graph.specs.Parts.{vertex_with_ints, with_vertex}
-use Rattle.std.proofs.lemmas.Result.{on_ok_weaker}
 use Rattle.sgb_file.proofs.LineRecords.{plain_vertex_read}
 use Rattle.sgb_file.proofs.reading.records.read_vertex.Goals as goal
 

@@ -1,5 +1,4 @@
-use Rattle.std.proofs.Common.{rules, ap, ◌∙◌, arith}
-use Rattle.std.proofs.lemmas.Result.{err_from_is_err_and}
+use Rattle.sgb_vec.proofs.Common.{rules, ap, ◌∙◌, arith, err_from_is_err_and}
 use Rattle.sgb_file.proofs.Sections.{next_arc, next_stops, arcs_read}
 use Rattle.sgb_file.proofs.reading.sections.read_arcs.Goals as goal
 

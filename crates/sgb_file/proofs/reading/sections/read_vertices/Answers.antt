@@ -1,5 +1,4 @@
-use Rattle.std.proofs.Common.{rules, sym, ap, subst, ◌∙◌, Option, Err, arith}
-use Rattle.std.proofs.lemmas.Result.{err_from_is_err_and}
+use Rattle.sgb_vec.proofs.Common.{rules, sym, ap, subst, ◌∙◌, Option, Err, arith, err_from_is_err_and}
 use Rattle.sgb_text.proofs.Findings.{Found}
 use Rattle.sgb_graph.specs.declared.fields.Vertex.{Vertex}
 use Rattle.sgb_file.specs.inner.Found.{IsFoundBy}

@@ -1,5 +1,4 @@
-use Rattle.std.proofs.Common.{rules, [], ◌∙◌}
-use Rattle.std.proofs.lemmas.Result.{err_from_is_err_and, IfErr-weaker, IfOk-weaker}
+use Rattle.sgb_vec.proofs.Common.{rules, [], ◌∙◌, err_from_is_err_and, IfErr-weaker, IfOk-weaker}
 use Rattle.sgb_file.specs.inner.LinesLeft.{text_left}
 use Rattle.sgb_file.proofs.FoundSteps.{passing_stopped}
 use Rattle.sgb_file.proofs.StringReading.{opened, not_opened}

@@ -1,5 +1,4 @@
-use Rattle.std.proofs.Common.{arith, ap, ◌+◌}
-use Rattle.std.proofs.lemmas.List.{take_rest}
+use Rattle.sgb_vec.proofs.Common.{arith, ap, ◌+◌, take_rest}
 use Rattle.sgb_file.specs.inner.Layouts.{has_any}
 use Rattle.sgb_file.proofs.FieldTexts.{texts_of, fields-next, fields-end}
 use Rattle.sgb_file.proofs.LaidLines.{lines-none, stopped-on}

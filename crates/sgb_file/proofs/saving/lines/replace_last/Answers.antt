@@ -1,5 +1,4 @@
-use Rattle.std.proofs.Common.{◌≡◌, ◌∙◌, length, ap, arith}
-use Rattle.std.proofs.lemmas.List.{drop_all, drop_more, length-take-le}
+use Rattle.sgb_vec.proofs.Common.{◌≡◌, ◌∙◌, length, ap, arith, drop_all, drop_more, length-take-le}
 use Rattle.sgb_file.proofs.saving.lines.replace_last.Goals as goal
 
 pub push_byte-requires : goal.push_byte-requires

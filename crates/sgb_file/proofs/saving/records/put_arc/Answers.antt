@@ -1,5 +1,4 @@
-use Rattle.std.proofs.Common.{refl, true, rules}
-use Rattle.std.proofs.lemmas.Int.{to_z-of_z}
+use Rattle.sgb_vec.proofs.Common.{refl, true, rules, to_z-of_z}
 use Rattle.sgb_file.proofs.FieldTexts.{record-cut, record-then, record-stopped}
 use Rattle.sgb_file.proofs.LaidLines.{stopped-on}
 use Rattle.sgb_file.proofs.saving.records.put_arc.Goals as goal

@@ -1,5 +1,4 @@
-use Rattle.std.proofs.Common.{arith}
-use Rattle.std.proofs.lemmas.Result.{err_from_is_err_and}
+use Rattle.sgb_vec.proofs.Common.{arith, err_from_is_err_and}
 use Rattle.sgb_file.proofs.RecordLines.{together-cut}
 use Rattle.sgb_file.proofs.saving.sections.put_next.Goals as goal
 

@@ -1,6 +1,4 @@
-use Rattle.std.proofs.Common.{rules, refl, sym}
-use Rattle.std.specs.List.{list_all}
-use Rattle.std.proofs.lemmas.List.Folds.{list_all-map}
+use Rattle.sgb_vec.proofs.Common.{rules, refl, sym, list_all, list_all-map}
 use Rattle.sgb_graph.specs.Sound.{chain_fits, ref_fits, util_fits}
 use Rattle.sgb_graph.specs.declared.fields.Kind.TheVariants.{I, S}
 use Rattle.sgb_graph.specs.declared.fields.Util.TheVariants.{Int, Str}

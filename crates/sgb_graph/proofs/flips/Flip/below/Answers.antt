@@ -1,12 +1,7 @@
-use Rattle.std.proofs.Common.{rules}
-use Rattle.sgb_graph.specs.Draws.{IsAtDraw, bound_below}
-use Rattle.sgb_graph.specs.Flips.{FlipData}
-use Rattle.sgb_graph.proofs.Standing.{thrown_none, thrown_more, uniform_taken}
+use Rattle.sgb_graph.specs.Draws.{bound_below}
+use Rattle.sgb_graph.proofs.Standing.{thrown_more, uniform_taken}
 use Rattle.sgb_graph.proofs.Waiting.{bound_above, waiting_falls}
 use Rattle.sgb_graph.proofs.flips.Flip.below.Goals as goal
-
-pub loop-self-init : goal.loop-self-init
-loop-self-init c = search (rules, thrown_none, FlipData, IsAtDraw)
 
 pub loop-self-preserved : goal.loop-self-preserved
 loop-self-preserved c = record {

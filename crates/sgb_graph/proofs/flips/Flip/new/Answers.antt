@@ -1,7 +1,4 @@
-use Rattle.std.proofs.Common.{◌≡◌, arith}
-use Rattle.std.proofs.lemmas.Int.{to_z-of_z}
-use mir.Syntax.{w64}
-use mir.Val.{SFits}
+use Rattle.sgb_vec.proofs.Common.{◌≡◌, arith, to_z-of_z, w64, SFits}
 use Rattle.sgb_graph.proofs.Standing.{cycle_from_first, cycle_from_next, starts}
 use Rattle.sgb_graph.proofs.flips.Flip.new.Goals as goal
 

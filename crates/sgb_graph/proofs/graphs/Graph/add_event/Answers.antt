@@ -1,8 +1,4 @@
-use Rattle.std.proofs.Common.{rules, ◌≡◌, ◌<◌, ℕ, ℤ, Bool, [], ◌∷◌, length}
-use Rattle.std.proofs.lemmas.Int.{to_z-of_z}
-use Rattle.std.proofs.lemmas.Result.{on_ok_weaker}
-use mir.Syntax.{w64}
-use mir.Val.{SFits}
+use Rattle.sgb_vec.proofs.Common.{rules, ◌≡◌, ◌<◌, ℕ, ℤ, Bool, [], ◌∷◌, length, to_z-of_z, on_ok_weaker, w64, SFits}
 use Rattle.sgb_graph.specs.Graphs.{GraphData}
 use Rattle.sgb_graph.specs.Events.{Event}
 use Rattle.sgb_graph.specs.Growth.{AddsEvents, with_event}

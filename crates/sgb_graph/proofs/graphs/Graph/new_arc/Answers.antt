@@ -1,10 +1,7 @@
 use Rattle.sgb_graph.proofs.AddingArcs.{arc_keeps, arc_kept}
 use Rattle.sgb_graph.proofs.Growing.{lists_end, parts_of}
-use Rattle.sgb_graph.proofs.KeptGraphs.{arc_made, plain_kinds}
+use Rattle.sgb_graph.proofs.KeptGraphs.{arc_made}
 use Rattle.sgb_graph.proofs.graphs.Graph.new_arc.Goals as goal
-
-pub put_arc-requires-clause-plain : goal.put_arc-requires-clause-plain
-put_arc-requires-clause-plain c = plain_kinds _ _ (rw (← c.self.view_is) at c.requires.plain)
 
 pub invariant_of-self-2 : goal.invariant_of-self-2
 invariant_of-self-2 c =

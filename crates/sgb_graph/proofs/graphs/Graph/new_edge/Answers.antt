@@ -1,10 +1,7 @@
 use Rattle.sgb_graph.proofs.AddingEdges.{edge_keeps, edge_kept}
 use Rattle.sgb_graph.proofs.Growing.{lists_end, parts_of}
-use Rattle.sgb_graph.proofs.KeptGraphs.{edge_made, plain_kinds}
+use Rattle.sgb_graph.proofs.KeptGraphs.{edge_made}
 use Rattle.sgb_graph.proofs.graphs.Graph.new_edge.Goals as goal
-
-pub put_edge-requires-clause-plain : goal.put_edge-requires-clause-plain
-put_edge-requires-clause-plain c = plain_kinds _ _ (rw (← c.self.view_is) at c.requires.plain)
 
 pub invariant_of-self-2 : goal.invariant_of-self-2
 invariant_of-self-2 c =

@@ -1,7 +1,4 @@
-use Rattle.std.proofs.Common.{rules}
-use Rattle.std.proofs.lemmas.Int.{to_z-of_z}
-use mir.Syntax.{w64}
-use mir.Val.{SFits}
+use Rattle.sgb_vec.proofs.Common.{rules, to_z-of_z, w64, SFits}
 use Rattle.sgb_graph.specs.Graphs.{GraphData}
 use Rattle.sgb_graph.proofs.Numbers.{ints_kept, ints_chains, ints_names, ints_fields}
 use Rattle.sgb_graph.proofs.graphs.Graph.set_vertex_ints.Goals as goal
@@ -13,9 +10,6 @@ invariant_of-self c =
     let z_fits : SFits w64 c.args.z = c.ranges.z in
     let put = simp to_z-of_z at c.put_numbers.ensures in
     rw put (ints_kept _ c.args.v c.args.x c.args.y c.args.z c.self.invariant)
-
-pub returns-clause-data : goal.returns-clause-data
-returns-clause-data c = search (rules, SFits, w64, to_z-of_z)
 
 pub returns-clause-chains : goal.returns-clause-chains
 returns-clause-chains c = search (rules, GraphData, ints_chains)

@@ -1,5 +1,4 @@
-use Rattle.std.proofs.Common.{rules}
-use Rattle.std.proofs.lemmas.Option.{slice_get_within}
+use Rattle.sgb_vec.proofs.Common.{rules, slice_get_within}
 use Rattle.sgb_graph.proofs.Chains.{step_of}
 use Rattle.sgb_graph.proofs.KeptGraphs.{step_to}
 use Rattle.sgb_graph.proofs.graphs.arcs.link_and_next.Goals as goal

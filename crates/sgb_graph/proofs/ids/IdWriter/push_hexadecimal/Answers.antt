@@ -1,5 +1,4 @@
-use Rattle.std.proofs.Common.{rules}
-use Rattle.std.proofs.lemmas.List.{take_all, length-drop}
+use Rattle.std.proofs.Common.{rules, take_all, length-drop}
 use Rattle.sgb_graph.specs.IdTexts.{is_id_text}
 use Rattle.sgb_graph.proofs.HexadecimalDigits.{id_text-digits}
 use Rattle.sgb_graph.proofs.ids.IdWriter.push_hexadecimal.Goals as goal

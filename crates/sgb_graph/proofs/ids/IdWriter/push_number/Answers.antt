@@ -1,7 +1,4 @@
-use Rattle.std.proofs.Common.{rules}
-use Rattle.std.specs.Fmt.{signed_decimal}
-use Rattle.std.proofs.lemmas.Grind.{common_steps}
-use Rattle.std.proofs.lemmas.Int.{to_z-of_z}
+use Rattle.sgb_vec.proofs.Common.{rules, signed_decimal, common_steps, to_z-of_z}
 use Rattle.sgb_graph.specs.Ids.{IsId}
 use Rattle.sgb_graph.proofs.IdLemmas.{IsId-push_number, length-number}
 use Rattle.sgb_graph.proofs.ids.IdWriter.push_number.Goals as goal

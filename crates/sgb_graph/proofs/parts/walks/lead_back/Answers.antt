@@ -1,5 +1,4 @@
-use Rattle.std.proofs.Common.{◌&&◌, false, length, ap, sym, ◌∙◌, arith}
-use Rattle.std.specs.Option.{option_map_or}
+use Rattle.sgb_vec.proofs.Common.{◌&&◌, false, length, ap, sym, ◌∙◌, arith, option_map_or}
 use Rattle.sgb_graph.specs.Sound.{chain_fits, is_vertex}
 use Rattle.sgb_graph.specs.inner.Walks.{leads_back}
 use Rattle.sgb_graph.specs.declared.fields.ArcRec.{ArcRec}

@@ -1,9 +1,8 @@
-use Rattle.std.proofs.Common.{◌≡◌, ◌⊎◌, ◌<◌, length, Some, None, true, refl, inr, rules, arith}
-use Rattle.std.specs.Prelude.{IsTrue}
+use Rattle.std.proofs.Common.{◌≡◌, ◌⊎◌, ◌<◌, length, Some, true, inr, rules, arith, IsTrue}
 use Rattle.sgb_graph.specs.Columns.{arc_seen}
 use Rattle.sgb_graph.specs.Graphs.{ends_of}
 use Rattle.sgb_graph.specs.inner.Walks.{leads_of, is_marked}
-use Rattle.sgb_graph.proofs.MarkedWays.{way_inside, way_shorter, way_goes_on, leads_goes_on, one_more_marked, reached_more, reach_more, reached_all, reach_all}
+use Rattle.sgb_graph.proofs.MarkedWays.{way_inside, way_shorter, way_goes_on, leads_goes_on, one_more_marked, reached_more, reach_more}
 use Rattle.sgb_graph.proofs.parts.walks.mark_way.Goals as goal
 
 pub bounds-marks-k : goal.bounds-marks-k
@@ -39,18 +38,3 @@ loop-next-preserved c =
       first = inr (reached_more c.loop-next.marks k c.args.first within first);
       reach = λ before. reach_more records c.loop-next.marks k (arc_seen c.get-next.result) within c.get-next.ensures (rw c.in-Some.is at (kept.reach before));
     }
-
-pub loop-next-init : goal.loop-next-init
-loop-next-init c = search rules
-
-pub returns-then-marks-k-clause-first : goal.returns-then-marks-k-clause-first
-returns-then-marks-k-clause-first c = search (rules, reached_all)
-
-pub returns-then-marks-k-clause-on : goal.returns-then-marks-k-clause-on
-returns-then-marks-k-clause-on c = search (rules, reach_all)
-
-pub returns-clause-first : goal.returns-clause-first
-returns-clause-first c = reached_all c.loop-next.marks None c.args.first refl (rw c.in_default.is at c.loop-next.invariant.first)
-
-pub returns-clause-on : goal.returns-clause-on
-returns-clause-on c = search (rules, reach_all)

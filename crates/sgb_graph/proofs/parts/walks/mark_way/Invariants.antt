@@ -1,5 +1,4 @@
-use Rattle.std.proofs.Common.{◌≡◌, ◌⊎◌, length, true}
-use Rattle.std.specs.Prelude.{IsTrue}
+use Rattle.std.proofs.Common.{◌≡◌, ◌⊎◌, length, true, IsTrue}
 use Rattle.sgb_graph.specs.Graphs.{ends_of, numbers_of}
 use Rattle.sgb_graph.specs.inner.Walks.{leads_of, is_marked, MarksEnd, MarksGoOn, MarksLead}
 use Rattle.sgb_graph.proofs.MarkedWays.{MarksReach}

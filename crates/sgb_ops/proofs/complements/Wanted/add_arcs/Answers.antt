@@ -1,5 +1,4 @@
-use Rattle.std.proofs.Common.{◌≡◌, ◌+◌, ◌<◌, ◌≤◌, ℕ, length, slice_index, sym, ap, subst, refl, ◌∙◌, arith}
-use Rattle.std.specs.List.{flat_map}
+use Rattle.std.proofs.Common.{◌≡◌, ◌+◌, ◌<◌, ◌≤◌, ℕ, length, slice_index, sym, ap, subst, refl, ◌∙◌, arith, flat_map}
 use Rattle.sgb_graph.specs.Graphs.{chain_of}
 use Rattle.sgb_ops.specs.inner.Complement.{complement_events_from}
 use Rattle.sgb_ops.proofs.Marks.{mark_at-le, lent_back}

@@ -1,5 +1,4 @@
-use Rattle.std.proofs.Common.{◌≡◌, ℕ, ◌<◌, ◌≤◌, length, slice_index}
-use Rattle.std.specs.List.{flat_map}
+use Rattle.std.proofs.Common.{◌≡◌, ℕ, ◌<◌, ◌≤◌, length, slice_index, flat_map}
 use Rattle.sgb_ops.specs.inner.Complement.{complement_events_from}
 use Rattle.sgb_ops.proofs.Places.{PlacesLeft}
 use Rattle.sgb_ops.proofs.complements.Wanted.add_arcs.Given as goal

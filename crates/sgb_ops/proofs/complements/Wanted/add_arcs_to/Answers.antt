@@ -1,5 +1,4 @@
-use Rattle.std.proofs.Common.{◌≡◌, ◌∙◌, ◌∷◌, ◌+◌, drop, slice_index, ap, arith}
-use Rattle.std.proofs.lemmas.List.{drop_more}
+use Rattle.sgb_vec.proofs.Common.{◌≡◌, ◌∙◌, ◌∷◌, ◌+◌, drop, slice_index, ap, arith, drop_more}
 use Rattle.sgb_graph.proofs.AddedEvents.{up_to-more}
 use Rattle.sgb_ops.specs.inner.Complement.{events_to}
 use Rattle.sgb_ops.proofs.CopiedArcs.{first_to}

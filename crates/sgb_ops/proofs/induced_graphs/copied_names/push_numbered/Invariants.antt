@@ -1,5 +1,4 @@
-use Rattle.std.proofs.Common.{◌≡◌, ◌++◌, map}
-use Rattle.std.specs.List.{range_with_len}
+use Rattle.sgb_vec.proofs.Common.{◌≡◌, ◌++◌, map, range_with_len}
 use Rattle.sgb_ops.specs.inner.Compounds.{numbered_name}
 use Rattle.sgb_ops.proofs.induced_graphs.copied_names.push_numbered.Given as goal
 

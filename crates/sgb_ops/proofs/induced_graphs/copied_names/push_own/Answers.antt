@@ -1,5 +1,4 @@
-use Rattle.std.proofs.Common.{rules}
-use Rattle.std.proofs.lemmas.List.{drop_more}
+use Rattle.sgb_vec.proofs.Common.{rules, drop_more}
 use Rattle.sgb_gen.proofs.FamilyWalks.{drop_at_vector}
 use Rattle.sgb_ops.specs.Entries.{names_of_copies}
 use Rattle.sgb_ops.specs.inner.Entries.{own_names}

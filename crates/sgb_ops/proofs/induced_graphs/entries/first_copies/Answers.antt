@@ -1,5 +1,4 @@
-use Rattle.std.proofs.Common.{◌≡◌, length, sym, arith}
-use Rattle.std.proofs.lemmas.List.FromFn.{map-range_with_len_more}
+use Rattle.sgb_vec.proofs.Common.{◌≡◌, length, sym, arith, map-range_with_len_more}
 use Rattle.sgb_ops.specs.Entries.{first_copy}
 use Rattle.sgb_ops.proofs.EntryTotals.{total_more}
 use Rattle.sgb_ops.proofs.induced_graphs.entries.first_copies.Goals as goal

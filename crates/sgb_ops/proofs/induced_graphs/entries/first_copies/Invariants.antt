@@ -1,5 +1,4 @@
-use Rattle.std.proofs.Common.{◌≡◌, map}
-use Rattle.std.specs.List.{range_with_len}
+use Rattle.sgb_vec.proofs.Common.{◌≡◌, map, range_with_len}
 use Rattle.sgb_ops.specs.Entries.{first_copy}
 use Rattle.sgb_ops.proofs.induced_graphs.entries.first_copies.Given as goal
 

@@ -1,6 +1,4 @@
-use Rattle.std.proofs.Common.{rules, arith}
-use Rattle.std.specs.List.{list_any}
-use Rattle.std.proofs.lemmas.List.{drop_all}
+use Rattle.sgb_vec.proofs.Common.{rules, arith, list_any, drop_all}
 use Rattle.sgb_ops.specs.Entries.{is_unnumbered}
 use Rattle.sgb_ops.proofs.EntryTotals.{unnumbered_left}
 use Rattle.sgb_ops.proofs.induced_graphs.entries.has_unnumbered.Goals as goal

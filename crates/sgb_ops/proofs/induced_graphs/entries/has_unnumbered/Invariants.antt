@@ -1,5 +1,4 @@
-use Rattle.std.proofs.Common.{◌≡◌, drop}
-use Rattle.std.specs.List.{list_any}
+use Rattle.sgb_vec.proofs.Common.{◌≡◌, drop, list_any}
 use Rattle.sgb_ops.specs.Entries.{is_unnumbered}
 use Rattle.sgb_ops.proofs.induced_graphs.entries.has_unnumbered.Given as goal
 

@@ -1,5 +1,4 @@
-use Rattle.std.proofs.Common.{ap, arith}
-use Rattle.std.proofs.lemmas.List.{drop_all}
+use Rattle.sgb_vec.proofs.Common.{ap, arith, drop_all}
 use Rattle.sgb_ops.specs.Entries.{merged_count}
 use Rattle.sgb_ops.proofs.EntryTotals.{merged_left}
 use Rattle.sgb_ops.proofs.induced_graphs.entries.merged_count.Goals as goal

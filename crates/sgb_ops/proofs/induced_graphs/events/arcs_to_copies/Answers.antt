@@ -1,6 +1,4 @@
-use Rattle.std.proofs.Common.{rules, ◌≡◌, ◌∷◌, [], ◌∙◌, filter, length, sym, ap, subst}
-use Rattle.std.specs.List.{All}
-use Rattle.std.proofs.lemmas.List.Elements.{All-tail, All-filter, filter-append}
+use Rattle.sgb_vec.proofs.Common.{rules, ◌≡◌, ◌∷◌, [], ◌∙◌, filter, length, sym, ap, subst, All, All-tail, All-filter, filter-append}
 use Rattle.sgb_ops.specs.inner.Copies.{leads_to_copies}
 use Rattle.sgb_ops.specs.Taken.{taken}
 use Rattle.sgb_ops.proofs.EventsWithin.{TipBelow}

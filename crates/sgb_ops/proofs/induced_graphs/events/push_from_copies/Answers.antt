@@ -1,5 +1,4 @@
-use Rattle.std.proofs.Common.{rules, ◌++◌, ◌+◌, ◌∙◌, ap, arith}
-use Rattle.std.specs.List.{flat_map}
+use Rattle.std.proofs.Common.{rules, ◌++◌, ◌+◌, ◌∙◌, ap, arith, flat_map}
 use Rattle.sgb_ops.specs.inner.Copies.{copies_end}
 use Rattle.sgb_ops.specs.inner.Induced.{events_of_arc, events_of_copies, events_of_copy, wanted}
 use Rattle.sgb_ops.specs.Taken.{taken}

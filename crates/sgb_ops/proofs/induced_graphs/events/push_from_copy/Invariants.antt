@@ -1,5 +1,4 @@
-use Rattle.std.proofs.Common.{◌≡◌, ◌++◌, drop}
-use Rattle.std.specs.List.{flat_map}
+use Rattle.std.proofs.Common.{◌≡◌, ◌++◌, drop, flat_map}
 use Rattle.sgb_ops.specs.inner.Induced.{events_of_arc, wanted}
 use Rattle.sgb_ops.proofs.induced_graphs.events.push_from_copy.Given as goal
 

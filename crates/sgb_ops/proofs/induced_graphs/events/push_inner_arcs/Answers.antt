@@ -1,7 +1,4 @@
-use Rattle.std.proofs.Common.{ℤ, w64, rules, ◌++◌, ◌∷◌, [], ◌∙◌, ◌+◌, map, length, ap, subst}
-use Rattle.std.specs.List.{All}
-use Rattle.std.proofs.lemmas.Int.{to_z-of_z}
-use Rattle.std.proofs.lemmas.List.Elements.{All-tail}
+use Rattle.sgb_vec.proofs.Common.{ℤ, w64, rules, ◌++◌, ◌∷◌, [], ◌∙◌, ◌+◌, map, length, ap, subst, All, to_z-of_z, All-tail}
 use Rattle.sgb_ops.specs.inner.Entries.{inner_event, inner_events_from}
 use Rattle.sgb_ops.specs.inner.Induced.{wanted}
 use Rattle.sgb_ops.proofs.EventsWithin.{TipBelow}

@@ -1,5 +1,4 @@
-use Rattle.std.proofs.Common.{rules, ◌≡◌, ◌<◌, length, subst, refl, arith}
-use Rattle.std.specs.List.{flat_map}
+use Rattle.std.proofs.Common.{rules, ◌≡◌, ◌<◌, length, subst, refl, arith, flat_map}
 use Rattle.sgb_graph.specs.Growth.{AddsEvents}
 use Rattle.sgb_ops.specs.Entries.{inner_events}
 use Rattle.sgb_ops.proofs.EntryTotals.{entry_there, place_fits}

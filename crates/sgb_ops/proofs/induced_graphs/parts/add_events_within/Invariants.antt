@@ -1,5 +1,4 @@
-use Rattle.std.proofs.Common.{length}
-use Rattle.std.specs.List.{flat_map}
+use Rattle.std.proofs.Common.{length, flat_map}
 use Rattle.sgb_ops.proofs.InducedParts.{inside_part}
 use Rattle.sgb_ops.proofs.Places.{PlacesLeft}
 use Rattle.sgb_ops.proofs.induced_graphs.parts.add_events_within.Given as goal

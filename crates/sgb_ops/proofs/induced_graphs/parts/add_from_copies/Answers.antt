@@ -1,5 +1,4 @@
-use Rattle.std.proofs.Common.{rules, ap, subst, arith}
-use Rattle.std.specs.List.{flat_map}
+use Rattle.std.proofs.Common.{rules, ap, subst, arith, flat_map}
 use Rattle.sgb_graph.specs.Growth.{AddsEvents}
 use Rattle.sgb_graph.proofs.AddedEvents.{AddsUpTo, up_to-all, up_to-more, up_to-none}
 use Rattle.sgb_ops.specs.Entries.{copies_of}

@@ -1,5 +1,4 @@
-use Rattle.std.proofs.Common.{rules, ap, subst, refl, arith}
-use Rattle.std.specs.List.{flat_map}
+use Rattle.std.proofs.Common.{rules, ap, subst, refl, arith, flat_map}
 use Rattle.sgb_graph.specs.Growth.{AddsEvents}
 use Rattle.sgb_ops.specs.Merged.{merged_unless}
 use Rattle.sgb_graph.specs.Vertices.{order_of}

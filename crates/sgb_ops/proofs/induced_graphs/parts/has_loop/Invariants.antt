@@ -1,5 +1,4 @@
-use Rattle.std.proofs.Common.{◌≡◌, ◌==◌}
-use Rattle.std.specs.List.{list_any}
+use Rattle.sgb_vec.proofs.Common.{◌≡◌, ◌==◌, list_any}
 use Rattle.sgb_ops.specs.Taken.{taken}
 use Rattle.sgb_ops.proofs.induced_graphs.parts.has_loop.Given as goal
 

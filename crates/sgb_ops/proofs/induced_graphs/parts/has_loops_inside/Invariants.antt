@@ -1,5 +1,4 @@
-use Rattle.std.proofs.Common.{◌≡◌, drop}
-use Rattle.std.specs.List.{list_any, enumerate_from}
+use Rattle.sgb_vec.proofs.Common.{◌≡◌, drop, list_any, enumerate_from}
 use Rattle.sgb_ops.specs.inner.Parts.{has_loop_inside, has_loops_inside}
 use Rattle.sgb_ops.proofs.induced_graphs.parts.has_loops_inside.Given as goal
 

@@ -1,5 +1,4 @@
-use Rattle.std.proofs.Common.{rules, ◌<◌, get_or, arith}
-use Rattle.std.proofs.lemmas.List.{drop_more}
+use Rattle.sgb_vec.proofs.Common.{rules, ◌<◌, get_or, arith, drop_more}
 use Rattle.sgb_graph.specs.Growth.{AddsEvents}
 use Rattle.sgb_graph.specs.Graphs.{GraphData}
 use Rattle.sgb_graph.proofs.AddedEvents.{AddsUpTo, up_to-more, up_to-none}

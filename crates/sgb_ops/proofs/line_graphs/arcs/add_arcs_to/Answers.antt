@@ -1,5 +1,4 @@
-use Rattle.std.proofs.Common.{◌≡◌, ◌+◌, ◌-◌, ℕ, suc, true, ap, arith}
-use Rattle.std.specs.List.{range_with_len}
+use Rattle.sgb_vec.proofs.Common.{◌≡◌, ◌+◌, ◌-◌, ℕ, suc, true, ap, arith, range_with_len}
 use Rattle.sgb_graph.proofs.AddedEvents.{up_to-more}
 use Rattle.sgb_ops.specs.inner.Lines.{events_to_numbers}
 use Rattle.sgb_ops.proofs.line_graphs.arcs.add_arcs_to.Goals as goal

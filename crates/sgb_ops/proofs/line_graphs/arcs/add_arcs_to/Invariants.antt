@@ -1,7 +1,6 @@
 use Rattle.sgb_ops.specs.inner.Lines.{events_to_numbers}
 use Rattle.sgb_graph.proofs.AddedEvents.{AddsUpTo}
-use Rattle.std.proofs.Common.{true, ◌-◌}
-use Rattle.std.specs.List.{range_with_len}
+use Rattle.sgb_vec.proofs.Common.{true, ◌-◌, range_with_len}
 use Rattle.sgb_ops.proofs.line_graphs.arcs.add_arcs_to.Given as goal
 
 -- the events to the numbers from j on are still to come

@@ -1,5 +1,4 @@
-use Rattle.std.proofs.Common.{rules}
-use Rattle.std.proofs.lemmas.List.{get_or_default, length-take-le}
+use Rattle.sgb_vec.proofs.Common.{rules, get_or_default, length-take-le}
 use Rattle.sgb_ops.specs.inner.Lines.{no_line}
 use Rattle.sgb_ops.proofs.LineRuns.{few_at}
 use Rattle.sgb_ops.proofs.line_graphs.arcs.counts_of_beginnings.Goals as goal

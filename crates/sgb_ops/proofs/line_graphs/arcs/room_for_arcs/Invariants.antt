@@ -1,5 +1,4 @@
-use Rattle.std.proofs.Common.{◌≡◌, ◌+◌, ◌-◌, ◌^◌, min, slice_index, take}
-use Rattle.std.specs.List.{sum_by}
+use Rattle.std.proofs.Common.{◌≡◌, ◌+◌, ◌-◌, ◌^◌, min, slice_index, take, sum_by}
 use Rattle.sgb_ops.proofs.line_graphs.arcs.room_for_arcs.Given as goal
 
 -- the records of the lines before this one are counted

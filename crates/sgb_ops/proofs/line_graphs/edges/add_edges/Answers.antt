@@ -1,5 +1,4 @@
-use Rattle.std.proofs.Common.{◌≡◌, ◌+◌, ◌++◌, ◌∷◌, ◌∙◌, [], ℕ, List, false, drop, take, get_or, refl, sym, ap, arith, if◌then◌else◌}
-use Rattle.std.proofs.lemmas.List.{drop_more}
+use Rattle.sgb_vec.proofs.Common.{◌≡◌, ◌+◌, ◌++◌, ◌∷◌, ◌∙◌, [], ℕ, List, false, drop, take, get_or, refl, sym, ap, arith, if◌then◌else◌, drop_more}
 use Rattle.sgb_graph.proofs.AddedEvents.{up_to-more}
 use Rattle.sgb_ops.specs.Lines.{line_events}
 use Rattle.sgb_ops.specs.inner.Lines.{no_line, events_to}

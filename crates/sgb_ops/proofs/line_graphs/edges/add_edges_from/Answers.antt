@@ -1,5 +1,4 @@
-use Rattle.std.proofs.Common.{rules, ◌∙◌, ℕ, List, true, false, filter, length, subst}
-use Rattle.std.proofs.lemmas.Result.{on_ok_weaker}
+use Rattle.sgb_vec.proofs.Common.{rules, ◌∙◌, ℕ, List, true, false, filter, length, subst, on_ok_weaker}
 use Rattle.sgb_graph.specs.Growth.{AddsEvents}
 use Rattle.sgb_graph.proofs.AddedEvents.{adds-then}
 use Rattle.sgb_ops.specs.inner.LineLists.{counts}

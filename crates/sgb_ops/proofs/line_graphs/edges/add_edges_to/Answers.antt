@@ -1,5 +1,4 @@
-use Rattle.std.proofs.Common.{◌≡◌, ◌+◌, ◌∷◌, ◌∙◌, ℕ, List, false, drop, filter, get_or, ap, arith, if◌then◌else◌, [], subst}
-use Rattle.std.proofs.lemmas.List.{drop_more}
+use Rattle.sgb_vec.proofs.Common.{◌≡◌, ◌+◌, ◌∷◌, ◌∙◌, ℕ, List, false, drop, filter, get_or, ap, arith, if◌then◌else◌, [], subst, drop_more}
 use Rattle.sgb_graph.specs.Growth.{AddsEvents}
 use Rattle.sgb_graph.proofs.AddedEvents.{up_to-more}
 use Rattle.sgb_ops.specs.inner.LineLists.{counts}

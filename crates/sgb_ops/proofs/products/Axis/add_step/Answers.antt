@@ -1,5 +1,4 @@
-use Rattle.std.proofs.Common.{map, refl, w64, rules, arith}
-use Rattle.std.proofs.lemmas.Int.{to_z-of_z}
+use Rattle.sgb_vec.proofs.Common.{map, refl, w64, rules, arith, to_z-of_z}
 use Rattle.sgb_graph.specs.Vertices.{order_of}
 use Rattle.sgb_ops.specs.inner.Steps.{step_along}
 use Rattle.sgb_ops.proofs.Places.{place_added, places_added, same_event}

@@ -1,5 +1,4 @@
-use Rattle.std.proofs.Common.{rules, map, refl}
-use Rattle.std.specs.List.{flat_map}
+use Rattle.std.proofs.Common.{rules, map, refl, flat_map}
 use Rattle.sgb_graph.specs.Vertices.{order_of, places_of}
 use Rattle.sgb_ops.specs.inner.Steps.{step_along}
 use Rattle.sgb_ops.specs.Taken.{taken}

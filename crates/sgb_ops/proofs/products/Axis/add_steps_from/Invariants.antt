@@ -1,5 +1,4 @@
-use Rattle.std.proofs.Common.{map}
-use Rattle.std.specs.List.{flat_map}
+use Rattle.std.proofs.Common.{map, flat_map}
 use Rattle.sgb_graph.specs.Vertices.{order_of, places_of}
 use Rattle.sgb_ops.specs.inner.Steps.{step_along, steps_from}
 use Rattle.sgb_ops.proofs.Places.{ArcsLeft}

@@ -1,5 +1,4 @@
-use Rattle.std.proofs.Common.{refl}
-use Rattle.std.specs.Fmt.{digits}
+use Rattle.sgb_vec.proofs.Common.{refl, digits}
 use Rattle.sgb_ops.proofs.products.ProductType.digit.Goals as goal
 
 pub returns-in-Cartesian : goal.returns-in-Cartesian

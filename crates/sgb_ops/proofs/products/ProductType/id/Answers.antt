@@ -1,6 +1,4 @@
-use Rattle.std.proofs.Common.{◌≡◌, ◌∙◌, Bool, true, false, decimal, refl, ap}
-use Rattle.std.specs.Fmt.{digits}
-use Rattle.std.proofs.lemmas.Bool.{and_parts, and_from}
+use Rattle.sgb_vec.proofs.Common.{◌≡◌, ◌∙◌, Bool, true, false, decimal, refl, ap, digits, and_parts, and_from}
 use Rattle.sgb_graph.specs.IdTexts.{is_id_text, flag_text}
 use Rattle.sgb_ops.specs.declared.products.ProductType.{ProductType}
 use Rattle.sgb_ops.specs.declared.products.ProductType.TheVariants.{Cartesian, Direct, Strong}

@@ -1,5 +1,4 @@
-use Rattle.std.proofs.Common.{◌≡◌, ◌∙◌, ◌++◌, List, [], length, map, ap, sym, append_assoc, append-nil, arith}
-use Rattle.std.proofs.lemmas.List.{nil_from_length}
+use Rattle.sgb_vec.proofs.Common.{◌≡◌, ◌∙◌, ◌++◌, List, [], length, map, ap, sym, append_assoc, append-nil, arith, nil_from_length}
 use Rattle.std.specs.Vec.Iter.{into_iter_items}
 use Rattle.sgb_values.specs.inner.EntryValues.{handed_entry}
 use Rattle.sgb_values.specs.declared.evaluation.entries.EntryValue.{EntryValue}

@@ -1,5 +1,4 @@
-use Rattle.std.proofs.Common.{rules}
-use Rattle.std.proofs.lemmas.List.{length-drop, length-take-le}
+use Rattle.std.proofs.Common.{rules, length-drop, length-take-le}
 use Rattle.sgb_vec.proofs.MovedWords.{word_front, word_put}
 use Rattle.sgb_vec.proofs.filled.Filled.push_word.Goals as goal
 

@@ -1,5 +1,4 @@
-use Rattle.std.proofs.Common.{rules, arith}
-use Rattle.std.proofs.lemmas.Grind.{common_steps}
+use Rattle.sgb_vec.proofs.Common.{rules, arith, common_steps}
 use Rattle.sgb_vec.proofs.BoardSizes.{repeated-none, repeated-more, has_great_size-repeated, has_great_size-push}
 use Rattle.sgb_vec.proofs.shapes.boards.repeated.Goals as goal
 

@@ -1,6 +1,4 @@
-use Rattle.std.proofs.Common.{ℤ, pos, map, arith}
-use Rattle.std.proofs.lemmas.Grind.{common_steps}
-use Rattle.std.proofs.lemmas.List.{at_drop_more}
+use Rattle.sgb_vec.proofs.Common.{ℤ, pos, map, arith, common_steps, at_drop_more}
 use Rattle.sgb_vec.proofs.shapes.entries.zero_after_stop.Goals as goal
 
 pub loop-entry-preserved-then-stopped : goal.loop-entry-preserved-then-stopped

@@ -1,5 +1,4 @@
-use Rattle.std.proofs.Common.{arith}
-use Rattle.std.proofs.lemmas.Grind.{common_steps}
+use Rattle.sgb_vec.proofs.Common.{arith, common_steps}
 use Rattle.sgb_vec.proofs.SimplexBounds.{clamped-none, clamped-more}
 use Rattle.sgb_vec.proofs.shapes.simplexes.clamped_bounds.Goals as goal
 

@@ -1,5 +1,4 @@
-use Rattle.std.proofs.Common.{◌≡◌, ◌-◌, ◌<◌, ◌∙◌, length, rules, ap, arith}
-use Rattle.std.proofs.lemmas.List.{take_rest, length-drop, length-set, places}
+use Rattle.sgb_vec.proofs.Common.{◌≡◌, ◌-◌, ◌<◌, ◌∙◌, length, rules, ap, arith, take_rest, length-drop, length-set, places}
 use Rattle.sgb_vec.specs.Sums.{BoundedSum}
 use Rattle.sgb_vec.proofs.SumSuccessors.{sum-within}
 use Rattle.sgb_vec.proofs.SumTails.{IsWithin-drop, put_mid-tail, IsNext-step}

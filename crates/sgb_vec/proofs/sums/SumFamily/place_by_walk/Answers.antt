@@ -1,6 +1,4 @@
-use Rattle.std.proofs.Common.{◌≡◌, ◌+◌, Some, length, sym, ap, ◌∙◌}
-use Rattle.std.specs.Cmp.Lexicographic.{bytes_decides}
-use Rattle.std.specs.List.{slice_get}
+use Rattle.sgb_vec.proofs.Common.{◌≡◌, ◌+◌, Some, length, sym, ap, ◌∙◌, bytes_decides, slice_get}
 use Rattle.sgb_vec.specs.Sums.{BoundedSum, bounded_sums}
 use Rattle.sgb_vec.proofs.BoxPredecessors.{refill-long}
 use Rattle.sgb_vec.proofs.SumPlaces.{walk-step, walk-other, walk-end}

@@ -1,6 +1,4 @@
-use Rattle.std.proofs.Common.{◌≡◌, ◌+◌, ◌<◌, ◌∙◌, length, rules, ap, arith}
-use Rattle.std.proofs.lemmas.List.{take_rest, length-drop, length-set, places}
-use Rattle.std.proofs.lemmas.List.Sums.{sum_by-take-drop}
+use Rattle.sgb_vec.proofs.Common.{◌≡◌, ◌+◌, ◌<◌, ◌∙◌, length, rules, ap, arith, take_rest, length-drop, length-set, places, sum_by-take-drop}
 use Rattle.sgb_vec.specs.Sums.{BoundedSum}
 use Rattle.sgb_vec.proofs.SumWalks.{HasNoneBefore-first}
 use Rattle.sgb_vec.proofs.SumTails.{put_mid-tail, IsPrevious-step}
@@ -49,9 +47,6 @@ pub overflow_add-after : goal.overflow_add-after
 overflow_add-after c =
     let total : c.self.inside.total ≡ c.args.self.now.total = ap (λ (s : BoundedSum). s.total) c.self.view_is in
     omega (arith, total, (members_mean c.args.self.now _ _ (c.as_slice-bounds.ensures.value ∙ ap (λ (s : BoundedSum). s.bounds) c.self.view_is) c.requires.member).1, c.self.invariant.2, c.in-Some.ensures.after.0, sum_by-take-drop (λ x. x) c.args.entries.now (c.in-Some.place + 1))
-
-pub put_greatest-requires-clause-room : goal.put_greatest-requires-clause-room
-put_greatest-requires-clause-room c = rw take_rest (omega (arith, c.in-Some.ensures.after.1))
 
 pub returns-clause-found : goal.returns-clause-found
 returns-clause-found c =

@@ -1,5 +1,4 @@
-use Rattle.std.proofs.Common.{rules, ◌≡◌, ℕ, ◌∷◌, sym, ◌∙◌, inl, inr, arith}
-use Rattle.std.proofs.lemmas.Result.{IfOk-weaker, IfErr-weaker}
+use Rattle.sgb_vec.proofs.Common.{rules, ◌≡◌, ℕ, ◌∷◌, sym, ◌∙◌, inl, inr, arith, IfOk-weaker, IfErr-weaker}
 use Rattle.sgb_vec.specs.inner.SumRows.{count_of_sum}
 use Rattle.sgb_vec.proofs.GreatCounts.{has_great_count-few, has_great_count-none, has_great_count-from_sum, HasGreatSum-same}
 use Rattle.sgb_vec.proofs.SumCounts.{count_of_sum-taken}

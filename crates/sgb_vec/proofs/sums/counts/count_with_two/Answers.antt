@@ -1,5 +1,4 @@
-use Rattle.std.proofs.Common.{rules}
-use Rattle.std.proofs.lemmas.Result.{err_from_is_err_and}
+use Rattle.sgb_vec.proofs.Common.{rules, err_from_is_err_and}
 use Rattle.sgb_vec.proofs.GreatCounts.{HasGreatSum-three, HasGreatSum-two}
 use Rattle.sgb_vec.proofs.sums.counts.count_with_two.Goals as goal
 

@@ -1,7 +1,4 @@
-use Rattle.std.proofs.Common.{rules, ◌≡◌, ◌+◌, true, length, take, refl, sym, ap, ◌∙◌, inl, arith}
-use Rattle.std.specs.List.{list_any}
-use Rattle.std.specs.Prelude.{nat_lt}
-use Rattle.std.proofs.lemmas.List.Elements.{All-nil, All-cons}
+use Rattle.sgb_vec.proofs.Common.{rules, ◌≡◌, ◌+◌, true, length, take, refl, sym, ap, ◌∙◌, inl, arith, list_any, nat_lt, All-nil, All-cons}
 use Rattle.sgb_vec.specs.Limits.{most_vertices}
 use Rattle.sgb_vec.specs.inner.SumRows.{CountsSums}
 use Rattle.sgb_vec.proofs.GreatCounts.{All-from_none, HasGreatSum-from_row}

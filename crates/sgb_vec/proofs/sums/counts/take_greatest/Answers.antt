@@ -1,5 +1,4 @@
-use Rattle.std.proofs.Common.{rules}
-use Rattle.std.proofs.lemmas.List.{get_or_default}
+use Rattle.sgb_vec.proofs.Common.{rules, get_or_default}
 use Rattle.sgb_vec.proofs.SumCounts.{count_of_sum-remove}
 use Rattle.sgb_vec.proofs.sums.counts.take_greatest.Goals as goal
 

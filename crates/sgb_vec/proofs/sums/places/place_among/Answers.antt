@@ -1,5 +1,4 @@
-use Rattle.std.proofs.Common.{◌<◌, length, arith}
-use Rattle.std.proofs.lemmas.List.{take_rest}
+use Rattle.sgb_vec.proofs.Common.{◌<◌, length, arith, take_rest}
 use Rattle.sgb_vec.proofs.SumMembers.{Contains-bounded_sums, IsWithin-length}
 use Rattle.sgb_vec.proofs.SumPlaces.{place-none, place-more, place-below, place-all}
 use Rattle.sgb_vec.proofs.sums.places.place_among.Goals as goal

@@ -1,10 +1,6 @@
-use Rattle.std.proofs.Common.{rules, arith}
-use Rattle.std.proofs.lemmas.List.{length-set, take_rest}
-use Rattle.sgb_vec.proofs.SumPlaces.{put-none, put-more, put-all}
+use Rattle.sgb_vec.proofs.Common.{rules, arith, length-set, take_rest}
+use Rattle.sgb_vec.proofs.SumPlaces.{put-more, put-all}
 use Rattle.sgb_vec.proofs.sums.places.put_at.Goals as goal
-
-pub loop-k-init : goal.loop-k-init
-loop-k-init c = (put-none c.args.total c.args.bounds.now c.args.place c.args.entries.now c.requires.within, c.requires.same_length)
 
 pub loop-k-preserved : goal.loop-k-preserved
 loop-k-preserved c =

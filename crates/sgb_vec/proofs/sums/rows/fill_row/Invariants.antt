@@ -1,5 +1,4 @@
-use Rattle.std.proofs.Common.{◌≤◌, take}
-use Rattle.std.specs.List.{All}
+use Rattle.std.proofs.Common.{◌≤◌, take, All}
 use Rattle.sgb_vec.specs.Limits.{most_vertices}
 use Rattle.sgb_vec.specs.inner.SumRows.{CountsSums}
 use Rattle.sgb_vec.proofs.sums.rows.fill_row.Given as goal

@@ -1,5 +1,4 @@
-use Rattle.std.proofs.Common.{◌≡◌}
-use Rattle.std.specs.List.{Contains}
+use Rattle.std.proofs.Common.{◌≡◌, Contains}
 use Rattle.sgb_vec.proofs.RangeSteps.{after_it}
 use Rattle.sgb_vec.proofs.vectors.Vectors.after.Goals as goal
 

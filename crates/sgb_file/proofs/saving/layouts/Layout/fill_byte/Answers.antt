@@ -1,5 +1,4 @@
-use Rattle.std.proofs.Common.{◌≡◌, ◌∙◌, [], ◌∷◌, ap, arith, length, refl, take, length-append}
-use Rattle.std.proofs.lemmas.List.{length-take-le}
+use Rattle.std.proofs.Common.{◌≡◌, ◌∙◌, [], ◌∷◌, ap, arith, length, refl, take, length-append, length-take-le}
 use Rattle.sgb_file.proofs.PlacedPieces.{filled-short, filled-once, stopped-once}
 use Rattle.sgb_file.proofs.LaidLines.{stopped-on}
 use Rattle.sgb_file.proofs.saving.layouts.Layout.fill_byte.Goals as goal

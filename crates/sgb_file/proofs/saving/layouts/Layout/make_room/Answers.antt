@@ -1,6 +1,5 @@
-use Rattle.std.proofs.Common.{◌≡◌, [], refl, arith}
+use Rattle.sgb_vec.proofs.Common.{◌≡◌, [], refl, arith, nil_from_length}
 use Rattle.sgb_file.proofs.LaidLines.{laid-none}
-use Rattle.std.proofs.lemmas.List.{nil_from_length}
 use Rattle.sgb_file.proofs.saving.layouts.Layout.make_room.Goals as goal
 
 pub returns-then-len-eq0 : goal.returns-then-len-eq0

@@ -1,5 +1,4 @@
-use Rattle.std.proofs.Common.{ap, sym, ◌∙◌}
-use Rattle.std.proofs.lemmas.Fmt.{decimal_digit}
+use Rattle.sgb_vec.proofs.Common.{ap, sym, ◌∙◌, decimal_digit}
 use Rattle.sgb_file.specs.inner.ShortLines.{put_after}
 use Rattle.sgb_file.proofs.ChecksumLemmas.{digit_place}
 use Rattle.sgb_file.proofs.saving.short_lines.ShortLines.push_digit.Goals as goal

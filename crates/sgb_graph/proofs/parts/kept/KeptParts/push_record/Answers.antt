@@ -8,6 +8,3 @@ pub push-requires-clause-kinds : goal.push-requires-clause-kinds
 push-requires-clause-kinds c =
     pair_kinds _ _ _ _ (arc_kinds c.self.inside.kinds)
     ((record_kept c.args.self.now.kinds c.args.arc c.requires).kinds ∙ ap (λ (g : GraphData). arc_kinds g.kinds) (sym c.self.view_is)) c.self.invariant.2
-
-pub push-requires-clause-next : goal.push-requires-clause-next
-push-requires-clause-next c = (record_kept c.args.self.now.kinds c.args.arc c.requires).next

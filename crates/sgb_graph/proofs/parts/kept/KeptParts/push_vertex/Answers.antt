@@ -8,6 +8,3 @@ pub push-requires-clause-kinds : goal.push-requires-clause-kinds
 push-requires-clause-kinds c =
     (vertex_kept c.args.self.now.kinds c.args.vertex c.requires).kinds
     ∙ (ap (λ (g : GraphData). vertex_kinds g.kinds) (sym c.self.view_is) ∙ sym c.self.invariant.1)
-
-pub push-requires-clause-arcs : goal.push-requires-clause-arcs
-push-requires-clause-arcs c = (vertex_kept c.args.self.now.kinds c.args.vertex c.requires).arcs
