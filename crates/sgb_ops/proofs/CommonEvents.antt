@@ -2,7 +2,6 @@
 use Rattle.sgb_vec.proofs.Common.{rules, ◌≡◌, ◌<◌, ◌+◌, ◌-◌, ◌==◌, ℕ, min, ℤ, Bool, true, false, List, [], ◌∷◌, ◌++◌, map, take, length, Option, Some, None, refl, sym, ◌∙◌, append_assoc, arith, All, flat_map, nat_lt, if◌then◌else◌, enumerate_from, cases_Bool, cond_both, ltb-true, nat_tests, length-append, take_at, All-nil, All-cons, All-append, length-filter, int_max}
 use Rattle.sgb_graph.specs.Graphs.{GraphData}
 use Rattle.sgb_graph.specs.Events.{Event, HasEndsBelow}
-use Rattle.sgb_graph.specs.Growth.{IsKept}
 use Rattle.sgb_graph.specs.declared.fields.Link.{Link}
 use Rattle.sgb_ops.specs.inner.Ends.{AllWithin}
 use Rattle.sgb_ops.specs.Intersection.{count_to, least_to, common_count, common_length, common_events, intersection_events}
@@ -12,7 +11,9 @@ use Rattle.sgb_ops.specs.Taken.{taken}
 use Rattle.sgb_ops.specs.inner.Tallies.{tally_left, tally_of, tally_to, without_one, second_length, event_left}
 use Rattle.sgb_ops.specs.declared.tallies.Tally.{Tally}
 use Rattle.sgb_ops.specs.inner.Intersection.{common_event}
-use Rattle.sgb_ops.proofs.EventsWithin.{TipBelow, taken_tips, events_after_within}
+use Rattle.sgb_ops.specs.inner.Sources.{HasTips}
+use Rattle.sgb_ops.proofs.EventsWithin.{TipBelow, events_after_within}
+use Rattle.sgb_ops.proofs.ListedEvents.{listed_tips}
 use Rattle.sgb_ops.proofs.PlainLists.{places_from}
 use Rattle.sgb_ops.proofs.TallyLemmas.{arcs_to, count_more, count_at, tip_counted}
 
@@ -92,8 +93,8 @@ commons_within n multi v gs hs before (l ∷ links) below all =
     (commons_within n multi v gs hs (before ++ l ∷ []) links below all)
 
 -- and so are those of all vertices
-pub intersection_within : (g h : GraphData) (multi directed : Bool) → IsKept g → AllWithin (order_of g) (intersection_events g h multi directed)
-intersection_within g h multi directed kept =
+pub intersection_within : (g h : GraphData) (multi directed : Bool) → HasTips g → AllWithin (order_of g) (intersection_events g h multi directed)
+intersection_within g h multi directed tips =
     events_after_within (order_of g) (commons_of g h multi directed) 0 (min (order_of g) (order_of h))
     (λ v low high. rw (commons_at_places multi v (taken directed g v) (taken directed h v) [] (taken directed h v) 0 refl refl)
-    (commons_within (order_of g) multi v (taken directed g v) (taken directed h v) [] (taken directed h v) (omega (arith, high)) (taken_tips directed g v kept (omega (arith, high)))))
+    (commons_within (order_of g) multi v (taken directed g v) (taken directed h v) [] (taken directed h v) (omega (arith, high)) (listed_tips directed g v tips (omega (arith, high)))))

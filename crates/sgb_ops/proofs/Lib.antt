@@ -29,6 +29,8 @@ pub mod UnionEvents
 pub mod TallyLemmas
 -- the events of an intersection
 pub mod CommonEvents
+-- arcs as far as their tips and lengths go
+pub mod BareArcs
 -- the arcs of a copy
 pub mod CopiedArcs
 -- marks at the tips of arcs

@@ -5,8 +5,9 @@ ghost use Rattle.sgb_graph.specs.Descriptions.{IsGraphOf};
 ghost use Rattle.sgb_graph.specs.Growth.{AddsEvents, HasPlainArcs};
 ghost use Rattle.sgb_graph.specs.Made.{plain};
 ghost use Rattle.sgb_ops.specs.inner.Ends.{AllWithin, bit_place, ends_key, shortened};
+ghost use Rattle.sgb_ops.specs.inner.Sources.{link_of};
 
-use sgb_graph::{Graph, Id, Names};
+use sgb_graph::{Graph, Id, Link, Names};
 use sgb_vec::Panic;
 use std::alloc::Global;
 use std::marker::Model;
@@ -62,6 +63,17 @@ impl Event {
         ensures { result ≡ bit_place self }
     {
         (self.from as usize + self.to as usize) % 16384
+    }
+
+    /// The arc of its first end, as far as tip and length go.
+    pub(crate) fn link(self) -> Link
+        ensures { result ≡ link_of self }
+    {
+        Link {
+            number: 0,
+            tip: self.to,
+            len: self.len,
+        }
     }
 
     /// Whether it joins a vertex to itself.

@@ -3,18 +3,16 @@ ghost use Rattle.std.specs.Prelude.{◌≡◌, ◌<◌, ◌++◌, ℕ, All, None
 ghost use Rattle.sgb_graph.specs.Descriptions.{IsAnswerOf};
 ghost use Rattle.sgb_ops.specs.inner.Ends.{AllWithin};
 ghost use Rattle.sgb_ops.specs.Intersection.{common_events, intersection_events, intersection_of};
-ghost use Rattle.sgb_ops.specs.Taken.{taken};
 ghost use Rattle.sgb_ops.specs.inner.Tallies.{event_left, one_less, second_length, tally_at, tally_left, without_one};
 ghost use Rattle.sgb_ops.specs.inner.Intersection.{HasNoTallies};
 ghost use Rattle.sgb_ops.specs.inner.Compounds.{intersection_id};
 
 use crate::compounds::flag_byte;
 use crate::events::{Event, graph_of};
-use crate::operands::names_of;
-use crate::taken::taken;
+use crate::sources::Source;
 use crate::tallies::{Tally, count_to, make_room, note, take_out, tally_to};
 use sgb_graph::{Graph, Id, Link, double_compound_id};
-use sgb_vec::Panic;
+use sgb_vec::{Panic, Vector};
 use std::alloc::Global;
 
 // Of so many arcs at most those to one tip are searched for one by one: with more, a table is quicker.
@@ -36,8 +34,29 @@ pub fn intersection(
 ) -> Result<Graph, Panic>
     ensures { IsAnswerOf (intersection_of first.now second.now multi directed) result }
 {
+    intersection_of(
+        alloc,
+        &Source::built(first),
+        &Source::built(second),
+        multi,
+        directed,
+    )
+}
+
+/// The same of graphs that need not be built.
+///
+/// `NoRoom` when out of memory, and nothing else.
+pub fn intersection_of(
+    alloc: Global,
+    first: &Source<'_>,
+    second: &Source<'_>,
+    multi: bool,
+    directed: bool,
+) -> Result<Graph, Panic>
+    ensures { IsAnswerOf (intersection_of first.now second.now multi directed) result }
+{
     let events = common_arcs(alloc, first, second, multi, directed)?;
-    let names = names_of(alloc, first)?;
+    let names = first.names(alloc)?;
     let id = intersection_id(first.id(), second.id(), multi, directed);
     graph_of(alloc, directed, &events, names, id)
 }
@@ -53,8 +72,8 @@ fn intersection_id(id1: &Id, id2: &Id, multi: bool, directed: bool) -> Id
 // The events of all vertices that both graphs have.
 fn common_arcs(
     alloc: Global,
-    first: &Graph,
-    second: &Graph,
+    first: &Source<'_>,
+    second: &Source<'_>,
     multi: bool,
     directed: bool,
 ) -> Result<Vec<Event>, Panic>
@@ -67,29 +86,17 @@ fn common_arcs(
     // The arcs of each vertex take the memory of those of the vertex before.
     let mut ours = Vec::new(alloc);
     let mut theirs = Vec::new(alloc);
+    let mut room = Vec::new(alloc);
+    let mut x = Vector::new();
     let mut tables = Tables::new(alloc, first.n().max(second.n()));
     for v in 0..first.n().min(second.n()) {
         first.read_ahead(v);
         second.read_ahead(v);
-        take_arcs(&mut ours, first, directed, v)?;
-        take_arcs(&mut theirs, second, directed, v)?;
+        first.take_arcs(&mut ours, directed, v, &mut room, &mut x)?;
+        second.take_arcs(&mut theirs, directed, v, &mut room, &mut x)?;
         push_common(&mut events, &mut tables, multi, v, &ours, &theirs)?;
     }
     Ok(events)
-}
-
-// Makes `arcs` those that are taken of vertex `v`.
-fn take_arcs(arcs: &mut Vec<Link>, graph: &Graph, directed: bool, v: u32) -> Result<(), Panic>
-    requires { v < length graph.now.vertices }
-    ensures ok { OnOk result (arcs.new.items ≡ taken directed graph.now v) }
-    ensures tips { OnOk result (All (λ l. l.tip < length graph.now.vertices) arcs.new.items) }
-    ensures memory { IsOkUnless result Panic.NoRoom }
-{
-    arcs.clear();
-    for link in taken(graph, directed, v) {
-        arcs.push(link)?;
-    }
-    Ok(())
 }
 
 // For each vertex what is left of the arcs of the first graph to it, and what the second one has: nothing but while the

@@ -40,7 +40,7 @@ pub use bipartite_graphs::bi_complete;
 pub use complements::complement;
 pub use gunions::{gunion, gunion_of};
 pub use induced_graphs::{Entry, induced, induced_from};
-pub use intersections::intersection;
+pub use intersections::{intersection, intersection_of};
 pub use laws::{
     compound_ids_law, copies_law, lines_law, merged_are_apart, merging_law, taken_lead_up,
     taking_law,

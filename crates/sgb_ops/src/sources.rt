@@ -1,7 +1,7 @@
 //! The graphs that an operation reads, list by list.
 //!
 //! That of a board with no side that wraps around need not be built: each of its lists is had by strides when it is read.
-ghost use Rattle.std.specs.Prelude.{◌≡◌, ◌<◌, ◌≤◌, ◌+◌, ◌*◌, ◌++◌, ℕ, length, map, filter, nat_lt, pos, reverse, [], ◌∷◌, if◌then◌else◌, OnOk, IfOk, IsOkUnless};
+ghost use Rattle.std.specs.Prelude.{◌≡◌, ◌<◌, ◌≤◌, ◌+◌, ◌*◌, ◌++◌, ℕ, length, map, filter, nat_lt, pos, reverse, [], ◌∷◌, if◌then◌else◌, All, OnOk, IfOk, IsOkUnless};
 ghost use Rattle.sgb_vec.specs.Limits.{most_vertices};
 ghost use Rattle.sgb_graph.specs.Made.{graph_described};
 ghost use Rattle.sgb_graph.specs.Vertices.{names_of};
@@ -10,7 +10,7 @@ ghost use Rattle.sgb_gen.specs.Strides.{lengths_to, tips_ahead, tips_back};
 ghost use Rattle.sgb_gen.specs.VectorGraphs.{described_by};
 ghost use Rattle.sgb_ops.specs.Taken.{taken};
 ghost use Rattle.sgb_ops.specs.inner.Ends.{event_of};
-ghost use Rattle.sgb_ops.specs.inner.Sources.{HasTips, event_to, events_to};
+ghost use Rattle.sgb_ops.specs.inner.Sources.{HasTips, bare, event_to, events_to, link_of};
 
 use crate::events::Event;
 use crate::operands::names_of;
@@ -129,6 +129,59 @@ impl<'a> Source<'a> {
             SourceKind::Flat(lists) => push_listed(events, lists, directed, v, n, x),
         }
     }
+
+    /// Makes `arcs` those that are taken of vertex `v`, as far as their tips and lengths go. `events` and `x` are what they are
+    /// found with: what these hold is open.
+    ///
+    /// `NoRoom` when out of memory, and nothing else.
+    pub(crate) fn take_arcs(
+        &self,
+        arcs: &mut Vec<Link>,
+        directed: bool,
+        v: u32,
+        events: &mut Vec<Event>,
+        x: &mut Vector,
+    ) -> Result<(), Panic>
+        requires vertex { v < length self.now.vertices }
+        ensures ok { OnOk result (map bare arcs.new.items ≡ map bare (taken directed self.now v)) }
+        ensures tips { OnOk result (All (λ l. l.tip < length self.now.vertices) arcs.new.items) }
+        ensures memory { IsOkUnless result Panic.NoRoom }
+    {
+        arcs.clear();
+        match &self.kept {
+            SourceKind::Built(graph) => push_links(arcs, graph, directed, v),
+            SourceKind::Flat(lists) => {
+                events.clear();
+                push_listed(events, lists, directed, v, lists.size(), x)?;
+                push_links_of(arcs, events)?;
+                Ok(())
+            }
+        }
+    }
+}
+
+// Appends the arcs taken of `v` in `graph`.
+fn push_links(arcs: &mut Vec<Link>, graph: &Graph, directed: bool, v: u32) -> Result<(), Panic>
+    requires { v < length graph.now.vertices }
+    ensures ok { OnOk result (arcs.new.items ≡ arcs.old.items ++ taken directed graph.now v) }
+    ensures tips { All (λ l. l.tip < length graph.now.vertices) (taken directed graph.now v) }
+    ensures memory { IsOkUnless result Panic.NoRoom }
+{
+    for link in taken(graph, directed, v) {
+        arcs.push(link)?;
+    }
+    Ok(())
+}
+
+// Appends the arcs of these events, as far as tips and lengths go.
+fn push_links_of(arcs: &mut Vec<Link>, events: &[Event]) -> Result<(), Panic>
+    ensures ok { OnOk result (arcs.new.items ≡ arcs.old.items ++ map link_of events.now) }
+    ensures memory { IsOkUnless result Panic.NoRoom }
+{
+    for event in events {
+        arcs.push(event.link())?;
+    }
+    Ok(())
 }
 
 // Appends the events of the arcs taken of `v` in `graph` whose tip is below `n`.

@@ -5,14 +5,13 @@ use Rattle.sgb_vec.specs.declared.panics.Panic.{Panic}
 use Rattle.sgb_graph.specs.Descriptions.{Description, IsAnswerOf}
 use Rattle.sgb_graph.proofs.Described.{described_only}
 use Rattle.sgb_graph.specs.Graphs.{GraphData}
-use Rattle.sgb_expr.specs.Expression.{Expression, Generated, OfNumbers, OfGraph, OfGraphs, Induced, Stdin, Gunion, Entry, Number, Graph, Entries, NoEntries, EntryThen, expression_of, entries_of}
+use Rattle.sgb_expr.specs.Expression.{Expression, Generated, OfNumbers, OfGraph, OfGraphs, Induced, Stdin, OnGraphs, Entry, Number, Graph, Entries, NoEntries, EntryThen, expression_of, entries_of}
 use Rattle.sgb_expr.specs.declared.expressions.Expr.{Expr}
 use Rattle.sgb_gen.specs.Generators.{made}
-use Rattle.sgb_values.specs.Values.{both, value_of, values_of}
-use Rattle.sgb_ops.specs.Gunion.{gunion_of}
+use Rattle.sgb_values.specs.Values.{both, of_graphs, value_of, values_of}
 use Rattle.sgb_ops.specs.Induced.{induced_of}
 use Rattle.sgb_values.specs.inner.Operands.{graph_held}
-use Rattle.sgb_values.specs.declared.evaluation.unions.Operand.{Operand}
+use Rattle.sgb_values.specs.declared.evaluation.list_operations.Operand.{Operand}
 use Rattle.sgb_expr.proofs.CodeExpressions.{induced_is}
 use Rattle.sgb_expr.specs.CodeEntries.{items_of}
 use Rattle.sgb_expr.specs.Listed.{listed}
@@ -57,25 +56,25 @@ value_two make stdin e f e' f' operands r same alike is answer = rw (← same, �
 pub then_refused : {T U : Type 0} (v : Result T Panic) (make : T → Result U Panic) (p : Panic) → IsValue v (Err p) → IsValue (and_then v make) (Err p)
 then_refused v make p h = grind (arith)
 
--- the value of a union, where the second operand may be refused
-pub union_answered : (stdin : Result GraphData Panic) (e f : Expression) (g : GraphData) (second : Result Operand Panic) (result : Result GraphData Panic) (multi directed : Bool)
+-- the value of an operation, where the second operand may be refused
+pub lists_answered : (stdin : Result GraphData Panic) (e f : Expression) (g : GraphData) (second : Result Operand Panic) (result : Result GraphData Panic) (operation : OnGraphs)
     → value_of stdin e ≡ Ok g → IfOk second (λ o. value_of stdin f ≡ Ok (graph_held o)) → IfErr second (λ p. IsValue (value_of stdin f) (Err p))
-    → IfOk second (λ o. IsAnswerOf (gunion_of g (graph_held o) multi directed) result) → IfErr second (λ p. result ≡ Err p)
-    → IsValue (value_of stdin (OfGraphs (Gunion multi directed) e f)) result
-union_answered stdin e f g (Ok o) result multi directed first is refused answer err = rw (first, is) (value_made (gunion_of g (graph_held o) multi directed) result answer)
-union_answered stdin e f g (Err p) result multi directed first is refused answer err = rw err (then_refused _ _ p (both_refused _ _ g p first refused))
+    → IfOk second (λ o. IsAnswerOf (of_graphs operation g (graph_held o)) result) → IfErr second (λ p. result ≡ Err p)
+    → IsValue (value_of stdin (OfGraphs operation e f)) result
+lists_answered stdin e f g (Ok o) result operation first is refused answer err = rw (first, is) (value_made (of_graphs operation g (graph_held o)) result answer)
+lists_answered stdin e f g (Err p) result operation first is refused answer err = rw err (then_refused _ _ p (both_refused _ _ g p first refused))
 
 -- what it leaves, where it is made
-pub union_leaves : {T : Type 0} (second : Result Operand Panic) (result : Result T Panic) (P : Type 0) → IfErr second (λ p. result ≡ Err p) → IfOk second (λ _. P) → IfOk result (λ _. P)
-union_leaves (Ok o) (Ok x) P err left = left
-union_leaves (Ok o) (Err p) P err left = tt
-union_leaves (Err q) result P err left = rw err tt
+pub lists_leave : {T : Type 0} (second : Result Operand Panic) (result : Result T Panic) (P : Type 0) → IfErr second (λ p. result ≡ Err p) → IfOk second (λ _. P) → IfOk result (λ _. P)
+lists_leave (Ok o) (Ok x) P err left = left
+lists_leave (Ok o) (Err p) P err left = tt
+lists_leave (Err q) result P err left = rw err tt
 
 -- the same of operands that stand in boxes
-pub union_same : (multi directed : Bool) (stdin : Result GraphData Panic) (e f e' f' : Expr) (r : Result GraphData Panic) → e ≡ e' → f ≡ f'
-    → IsValue (value_of stdin (OfGraphs (Gunion multi directed) (expression_of e) (expression_of f))) r
-    → IsValue (value_of stdin (OfGraphs (Gunion multi directed) (expression_of e') (expression_of f'))) r
-union_same multi directed stdin e f e' f' r same alike is = rw (← same, ← alike) is
+pub lists_same : (operation : OnGraphs) (stdin : Result GraphData Panic) (e f e' f' : Expr) (r : Result GraphData Panic) → e ≡ e' → f ≡ f'
+    → IsValue (value_of stdin (OfGraphs operation (expression_of e) (expression_of f))) r
+    → IsValue (value_of stdin (OfGraphs operation (expression_of e') (expression_of f'))) r
+lists_same operation stdin e f e' f' r same alike is = rw (← same, ← alike) is
 
 abbrev mutual
   -- how large an expression is: larger than its operands together

@@ -3,29 +3,29 @@ ghost use Rattle.std.specs.Prelude.{◌≡◌, ◌||◌, ℕ, List, Result, Err,
 ghost use Rattle.sgb_vec.specs.declared.panics.Panic.{Panic};
 ghost use Rattle.sgb_graph.specs.Graphs.{GraphData};
 ghost use Rattle.sgb_expr.specs.Listed.{listed};
-ghost use Rattle.sgb_expr.specs.Expression.{Gunion, OfGraphs, entries_of, entry_of, expression_of};
+ghost use Rattle.sgb_expr.specs.Expression.{OfGraphs, entries_of, entry_of, expression_of};
 ghost use Rattle.sgb_expr.specs.StdinUses.{entries_have_stdin, entry_has_stdin, has_stdin};
 ghost use Rattle.sgb_values.specs.FirstRefusals.{IsRefusedFirst};
 ghost use Rattle.sgb_vec.specs.Results.{IsValue};
 ghost use Rattle.sgb_values.specs.Values.{IsValueOn, both, entry_value, value_of, values_of};
 ghost use Rattle.sgb_values.specs.inner.EntryValues.{handed_entry};
 ghost use Rattle.sgb_values.specs.inner.Inputs.{left_after};
-ghost use Rattle.sgb_values.specs.inner.Operands.{graph_held};
+ghost use Rattle.sgb_values.specs.inner.Operands.{graph_held, on_lists};
 ghost use Rattle.sgb_values.specs.inner.StdinValues.{GivesStdin};
 
 mod entries;
-mod unions;
+mod list_operations;
 
 use crate::kept::Kept;
 use crate::stdin::read_kept;
 pub use entries::numbered_entry;
 use entries::{EntryValue, graph_value, handed_entries};
+use list_operations::{ListOperation, Operand, answer_of, generated};
 use sgb_expr::{EntryExpr, Expr, have_stdin};
 use sgb_graph::Graph;
-use sgb_ops::{bi_complete, complement, induced_from, intersection, lines, product, wheel};
+use sgb_ops::{bi_complete, complement, induced_from, lines, product, wheel};
 use sgb_vec::Panic;
 use std::alloc::Global;
-use unions::{Operand, generated, union_of};
 
 /// The graph of an expression, where `input` is what was kept of standard input. Operands come before their operation,
 /// from left to right; each is dropped when the operation is made.
@@ -88,16 +88,31 @@ fn evaluate(
             second,
             multi,
             directed,
-        } => union(alloc, first, second, input, more, *multi, *directed),
+        } => by_lists(
+            alloc,
+            ListOperation::Union,
+            first,
+            second,
+            input,
+            more,
+            *multi,
+            *directed,
+        ),
         Expr::Intersection {
             first,
             second,
             multi,
             directed,
-        } => {
-            let (left, right) = operands(alloc, first, second, input, more)?;
-            intersection(alloc, &left, &right, *multi, *directed)
-        }
+        } => by_lists(
+            alloc,
+            ListOperation::Intersection,
+            first,
+            second,
+            input,
+            more,
+            *multi,
+            *directed,
+        ),
         Expr::Lines { graph, directed } => {
             let operand = evaluate(alloc, graph, input, more)?;
             lines(alloc, &operand, *directed)
@@ -130,10 +145,11 @@ fn evaluate(
     }
 }
 
-// The union of the graphs of two expressions; the first one's refusal before the second's.
+// The graph of an operation that reads the lists of the graphs of two expressions; the first one's refusal before the second's.
 #[cycle(graphs)]
-fn union(
+fn by_lists(
     alloc: Global,
+    operation: ListOperation,
     first: &Expr,
     second: &Expr,
     input: &mut Kept<'_>,
@@ -142,7 +158,7 @@ fn union(
     directed: bool,
 ) -> Result<Graph, Panic>
     ensures value { (stdin : List ℕ → Result GraphData Panic) → GivesStdin stdin
-        → IsValue (value_of (stdin input.old) (OfGraphs (Gunion multi directed)
+        → IsValue (value_of (stdin input.old) (OfGraphs (on_lists operation multi directed)
         (expression_of first.now) (expression_of second.now))) result }
     ensures left { IfOk result (λ _. input.new ≡ left_after more
         (has_stdin (expression_of first.now) || has_stdin (expression_of second.now)) input.old) }
@@ -151,7 +167,7 @@ fn union(
 {
     let left = operand(alloc, first, input, more_with(more, second))?;
     let right = operand(alloc, second, input, more);
-    union_of(alloc, left, right, multi, directed)
+    answer_of(alloc, operation, left, right, multi, directed)
 }
 
 // The graph of an expression, which need not be built where a generator names it.

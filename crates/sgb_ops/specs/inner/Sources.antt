@@ -3,6 +3,7 @@ use Rattle.std.specs.Prelude.{ℕ, ℤ, ◌<◌, Bool, ◌&&◌, ◌||◌, List,
 use Rattle.sgb_graph.specs.Events.{Event}
 use Rattle.sgb_graph.specs.Graphs.{GraphData, chain_of}
 use Rattle.sgb_graph.specs.Made.{graph_described}
+use Rattle.sgb_graph.specs.declared.fields.Link.{Link}
 use Rattle.sgb_gen.specs.Boards.{board_vector_graph}
 use Rattle.sgb_gen.specs.VectorGraphs.{described_by}
 use Rattle.sgb_ops.specs.declared.sources.SourceKind.{SourceKind}
@@ -16,6 +17,14 @@ graph_kept (Flat b) = graph_described (described_by (board_vector_graph b.now))
 -- the arcs of each vertex lead to vertices
 abbrev pub HasTips : GraphData → Type 0
 HasTips g = (v : ℕ) → v < length g.vertices → All (λ l. l.tip < length g.vertices) (chain_of g v)
+
+-- an arc as far as its tip and its length go
+abbrev pub bare : Link → Link
+bare l = record { number = 0; tip = l.tip; len = l.len }
+
+-- the arc of an event, so
+abbrev pub link_of : Event → Link
+link_of e = record { number = 0; tip = e.to; len = e.len }
 
 -- the event of an arc of v, if its tip is below n and it is taken: for an undirected result none to an earlier vertex is
 abbrev pub event_to : Bool → ℕ → ℕ → ℕ → ℤ → List Event

@@ -3,14 +3,13 @@ use Rattle.sgb_vec.specs.declared.panics.Panic.{Panic}
 use Rattle.sgb_graph.specs.Descriptions.{Description, IsAnswerOf}
 use Rattle.sgb_graph.specs.Graphs.{GraphData}
 use Rattle.sgb_expr.specs.Listed.{listed}
-use Rattle.sgb_expr.specs.Expression.{entries_of, expression_of, Expression, Entries}
+use Rattle.sgb_expr.specs.Expression.{entries_of, expression_of, Expression, Entries, Gunion, Intersection}
 use Rattle.sgb_expr.specs.StdinUses.{entries_have_stdin, has_stdin}
 use Rattle.sgb_expr.specs.declared.expressions.Expr.{Expr}
 use Rattle.sgb_expr.specs.declared.entries.EntryExpr.{EntryExpr}
 use Rattle.sgb_ops.specs.Induced.{induced_of}
 use Rattle.sgb_ops.specs.declared.induced_graphs.entries.Entry.{Entry}
 use Rattle.sgb_ops.specs.Complement.{complement_of}
-use Rattle.sgb_ops.specs.Intersection.{intersection_of}
 use Rattle.sgb_ops.specs.Lines.{line_graph_of}
 use Rattle.sgb_ops.specs.Product.{product_graph_of}
 use Rattle.sgb_ops.specs.BiComplete.{accepted_parts, bi_complete_of}
@@ -20,8 +19,8 @@ use Rattle.sgb_gen.specs.Generators.{made}
 use Rattle.sgb_values.specs.Values.{value_of, values_of}
 use Rattle.sgb_values.specs.inner.EntryValues.{handed_entry}
 use Rattle.sgb_values.specs.inner.Inputs.{left_after}
-use Rattle.sgb_values.specs.inner.Operands.{graph_held}
-use Rattle.sgb_values.proofs.Values.{and_values, both_refused, first_refused, induced_reads, induced_size, induced_value, one_more, size_of_entries, then_refused, union_answered, union_leaves, union_same, value_both, value_made, value_one, value_two}
+use Rattle.sgb_values.specs.inner.Operands.{graph_held, on_lists}
+use Rattle.sgb_values.proofs.Values.{and_values, both_refused, first_refused, induced_reads, induced_size, induced_value, one_more, size_of_entries, then_refused, lists_answered, lists_leave, lists_same, value_both, value_made, value_one, value_two}
 use Rattle.sgb_values.proofs.FirstRefusals.{exit_first, made_first, made_operands, numbers_refused}
 use Rattle.sgb_values.proofs.evaluation.+graphs.Goals as goal
 use Rattle.sgb_values.proofs.StdinValues.{value_same, values_same}
@@ -71,25 +70,32 @@ evaluate-returns-in_ok-operand-in-Complement-clause-value t c =
 pub evaluate-returns-in-Gunion-clause-value : goal.evaluate-returns-in-Gunion-clause-value
 evaluate-returns-in-Gunion-clause-value t c =
     let a = c.in-Gunion in
-    rw a.is (λ stdin gives. union_same a.multi a.directed (stdin c.args.input.now) c.deref-in-Gunion.result.now c.deref-in-Gunion-2.result.now a.first.value a.second.value _ c.deref-in-Gunion.ensures c.deref-in-Gunion-2.ensures (c.union.ensures.value stdin gives))
+    rw a.is (λ stdin gives. lists_same (Gunion a.multi a.directed) (stdin c.args.input.now) c.deref-in-Gunion.result.now c.deref-in-Gunion-2.result.now a.first.value a.second.value _ c.deref-in-Gunion.ensures c.deref-in-Gunion-2.ensures (c.by_lists.ensures.value stdin gives))
 
 pub evaluate-returns-in-Gunion-clause-left : goal.evaluate-returns-in-Gunion-clause-left
 evaluate-returns-in-Gunion-clause-left t c =
-    rw c.in-Gunion.is (rw (c.deref-in-Gunion.ensures, c.deref-in-Gunion-2.ensures) at c.union.ensures.left)
+    rw c.in-Gunion.is (rw (c.deref-in-Gunion.ensures, c.deref-in-Gunion-2.ensures) at c.by_lists.ensures.left)
 
 pub evaluate-returns-in-Gunion-clause-refused : goal.evaluate-returns-in-Gunion-clause-refused
 evaluate-returns-in-Gunion-clause-refused t c =
-    rw c.in-Gunion.is (rw c.deref-in-Gunion.ensures at c.union.ensures.refused)
+    rw c.in-Gunion.is (rw c.deref-in-Gunion.ensures at c.by_lists.ensures.refused)
+
+pub evaluate-returns-in-Intersection-clause-value : goal.evaluate-returns-in-Intersection-clause-value
+evaluate-returns-in-Intersection-clause-value t c =
+    let a = c.in-Intersection in
+    rw a.is (λ stdin gives. lists_same (Intersection a.multi a.directed) (stdin c.args.input.now) c.deref-in-Intersection.result.now c.deref-in-Intersection-2.result.now a.first.value a.second.value _ c.deref-in-Intersection.ensures c.deref-in-Intersection-2.ensures (c.by_lists-in-Intersection.ensures.value stdin gives))
+
+pub evaluate-returns-in-Intersection-clause-left : goal.evaluate-returns-in-Intersection-clause-left
+evaluate-returns-in-Intersection-clause-left t c =
+    rw c.in-Intersection.is (rw (c.deref-in-Intersection.ensures, c.deref-in-Intersection-2.ensures) at c.by_lists-in-Intersection.ensures.left)
+
+pub evaluate-returns-in-Intersection-clause-refused : goal.evaluate-returns-in-Intersection-clause-refused
+evaluate-returns-in-Intersection-clause-refused t c =
+    rw c.in-Intersection.is (rw c.deref-in-Intersection.ensures at c.by_lists-in-Intersection.ensures.refused)
 
 pub evaluate-returns-in_ok-operand-in-Complement-clause-left : goal.evaluate-returns-in_ok-operand-in-Complement-clause-left
 evaluate-returns-in_ok-operand-in-Complement-clause-left t c =
     if_ok c.complement.result _ (c.in_ok-operand-in-Complement.ensures.left ∙ ap (left_by c.args.more c.args.input.now) c.deref.ensures ∙ ap (left_by c.args.more c.args.input.now) (sym c.in-Complement.is))
-
-pub evaluate-returns-in_ok-left-in-Intersection-clause-left : goal.evaluate-returns-in_ok-left-in-Intersection-clause-left
-evaluate-returns-in_ok-left-in-Intersection-clause-left t c =
-    if_ok c.intersection.result _ (c.in_ok-left-in-Intersection.ensures.left
-    ∙ ap₂ (λ (e f : Expr). left_after c.args.more (has_stdin (expression_of e) || has_stdin (expression_of f)) c.args.input.now) c.deref-in-Intersection.ensures c.deref-in-Intersection-2.ensures
-    ∙ ap (left_by c.args.more c.args.input.now) (sym c.in-Intersection.is))
 
 pub evaluate-returns-in_ok-operand-in-Lines-clause-left : goal.evaluate-returns-in_ok-operand-in-Lines-clause-left
 evaluate-returns-in_ok-operand-in-Lines-clause-left t c =
@@ -100,11 +106,6 @@ evaluate-returns-in_ok-left-in-Product-clause-left t c =
     if_ok c.product.result _ (c.in_ok-left-in-Product.ensures.left
     ∙ ap₂ (λ (e f : Expr). left_after c.args.more (has_stdin (expression_of e) || has_stdin (expression_of f)) c.args.input.now) c.deref-in-Product.ensures c.deref-in-Product-2.ensures
     ∙ ap (left_by c.args.more c.args.input.now) (sym c.in-Product.is))
-
-pub evaluate-returns-in_ok-left-in-Intersection-clause-value : goal.evaluate-returns-in_ok-left-in-Intersection-clause-value
-evaluate-returns-in_ok-left-in-Intersection-clause-value t c =
-    let a = c.in-Intersection in
-    rw a.is (λ stdin gives. value_two (λ g h. intersection_of g h a.multi a.directed) (stdin c.args.input.now) _ _ a.first.value a.second.value _ _ c.deref-in-Intersection.ensures c.deref-in-Intersection-2.ensures (c.in_ok-left-in-Intersection.ensures.value stdin gives) c.intersection.ensures)
 
 pub evaluate-returns-in_ok-operand-in-Lines-clause-value : goal.evaluate-returns-in_ok-operand-in-Lines-clause-value
 evaluate-returns-in_ok-operand-in-Lines-clause-value t c =
@@ -142,14 +143,6 @@ evaluate-returns-in_err-operand-in-Complement-clause-refused t c =
 pub evaluate-returns-in_ok-operand-in-Complement-clause-refused : goal.evaluate-returns-in_ok-operand-in-Complement-clause-refused
 evaluate-returns-in_ok-operand-in-Complement-clause-refused t c =
     rw c.in-Complement.is (made_first c.args.input.now c.deref.result.now c.in-Complement.graph.value _ _ c.deref.ensures c.in_ok-operand-in-Complement.ensures.refused)
-
-pub evaluate-returns-in_err-left-in-Intersection-clause-refused : goal.evaluate-returns-in_err-left-in-Intersection-clause-refused
-evaluate-returns-in_err-left-in-Intersection-clause-refused t c =
-    rw c.in-Intersection.is (exit_first c.args.input.now c.deref-in-Intersection.result.now c.in-Intersection.first.value _ _ c.from_residual-in_err-left-in-Intersection.ensures.1 c.deref-in-Intersection.ensures c.in_err-left-in-Intersection.ensures.refused)
-
-pub evaluate-returns-in_ok-left-in-Intersection-clause-refused : goal.evaluate-returns-in_ok-left-in-Intersection-clause-refused
-evaluate-returns-in_ok-left-in-Intersection-clause-refused t c =
-    rw c.in-Intersection.is (made_first c.args.input.now c.deref-in-Intersection.result.now c.in-Intersection.first.value _ _ c.deref-in-Intersection.ensures c.in_ok-left-in-Intersection.ensures.refused)
 
 pub evaluate-returns-in_err-operand-in-Lines-clause-refused : goal.evaluate-returns-in_err-operand-in-Lines-clause-refused
 evaluate-returns-in_err-operand-in-Lines-clause-refused t c =
@@ -229,32 +222,32 @@ evaluate-returns-in_ok-list-in-Induced-clause-left t c =
     let all = induced_reads c.args.expression.now _ _ a.graph a.entries a.self_loops a.multi a.directed a.is c.deref-in-Induced.ensures c.as_slice-entries.ensures in
     if_ok c.induced_from.result _ (left ∙ ap (λ reads. left_after c.args.more reads c.args.input.now) (sym all))
 
-pub union-returns-in_err-left-clause-value : goal.union-returns-in_err-left-clause-value
-union-returns-in_err-left-clause-value t c = λ stdin gives.
+pub by_lists-returns-in_err-left-clause-value : goal.by_lists-returns-in_err-left-clause-value
+by_lists-returns-in_err-left-clause-value t c = λ stdin gives.
     let p = err_from_is_err_and c.from_residual.result c.from_residual.ensures.1 in
     rw (p.1, p.2) (first_refused (value_of (stdin c.args.input.now) (expression_of c.args.first.now)) (value_of (stdin c.args.input.now) (expression_of c.args.second.now)) _ c.in_err-left.field-0.0 (c.in_err-left.ensures.err stdin gives))
 
-pub union-returns-clause-value : goal.union-returns-clause-value
-union-returns-clause-value t c = λ stdin gives.
+pub by_lists-returns-clause-value : goal.by_lists-returns-clause-value
+by_lists-returns-clause-value t c = λ stdin gives.
     let e = expression_of c.args.second.now in
     let same = value_on _ _ _ _ _ stdin e c.more_with.ensures c.in_ok-left.ensures.left in
     let v : Result GraphData Panic = value_of (stdin c.args.input.now) e in
-    union_answered (stdin c.args.input.now) (expression_of c.args.first.now) e (graph_held c.in_ok-left.left) c.operand-right.result c.union_of.result c.args.multi c.args.directed
+    lists_answered (stdin c.args.input.now) (expression_of c.args.first.now) e (graph_held c.in_ok-left.left) c.operand-right.result c.answer_of.result (on_lists c.args.operation c.args.multi c.args.directed)
     (c.in_ok-left.ensures.ok stdin gives)
     (subst (λ (w : Result GraphData Panic). IfOk c.operand-right.result (λ o. w ≡ Ok (graph_held o))) same (c.operand-right.ensures.ok stdin gives))
     (subst (λ (w : Result GraphData Panic). IfErr c.operand-right.result (λ p. IsValue w (Err p))) same (c.operand-right.ensures.err stdin gives))
-    c.union_of.ensures.ok c.union_of.ensures.refused
+    c.answer_of.ensures.ok c.answer_of.ensures.refused
 
-pub union-returns-clause-left : goal.union-returns-clause-left
-union-returns-clause-left t c =
-    union_leaves c.operand-right.result c.union_of.result _ c.union_of.ensures.refused
+pub by_lists-returns-clause-left : goal.by_lists-returns-clause-left
+by_lists-returns-clause-left t c =
+    lists_leave c.operand-right.result c.answer_of.result _ c.answer_of.ensures.refused
     (left_both c.args.more _ _ _ _ (has_stdin (expression_of c.args.second.now)) _ c.operand-right.result c.more_with.ensures c.in_ok-left.ensures.left c.operand-right.ensures.left)
 
-pub union-returns-in_err-left-clause-refused : goal.union-returns-in_err-left-clause-refused
-union-returns-in_err-left-clause-refused t c = exit_first c.args.input.now c.args.first.now c.args.first.now _ _ c.from_residual.ensures.1 refl c.in_err-left.ensures.refused
+pub by_lists-returns-in_err-left-clause-refused : goal.by_lists-returns-in_err-left-clause-refused
+by_lists-returns-in_err-left-clause-refused t c = exit_first c.args.input.now c.args.first.now c.args.first.now _ _ c.from_residual.ensures.1 refl c.in_err-left.ensures.refused
 
-pub union-returns-clause-refused : goal.union-returns-clause-refused
-union-returns-clause-refused t c = λ p is. made_operands _ _ (c.in_ok-left.ensures.refused p is)
+pub by_lists-returns-clause-refused : goal.by_lists-returns-clause-refused
+by_lists-returns-clause-refused t c = λ p is. made_operands _ _ (c.in_ok-left.ensures.refused p is)
 
 pub operand-returns-in-Generator-clause-ok : goal.operand-returns-in-Generator-clause-ok
 operand-returns-in-Generator-clause-ok t c = rw c.in-Generator.is (λ stdin gives. c.generated.ensures.ok)

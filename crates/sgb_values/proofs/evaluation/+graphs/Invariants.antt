@@ -15,8 +15,8 @@ use Rattle.sgb_values.proofs.evaluation.+graphs.Given as goal
 abbrev pub decreases-evaluate : goal.decreases-evaluate
 decreases-evaluate l = size_of (expression_of l.expression.now)
 
-abbrev pub decreases-union : goal.decreases-union
-decreases-union l = size_of (expression_of l.first.now) + size_of (expression_of l.second.now) + 2
+abbrev pub decreases-by_lists : goal.decreases-by_lists
+decreases-by_lists l = size_of (expression_of l.first.now) + size_of (expression_of l.second.now) + 2
 
 abbrev pub decreases-operand : goal.decreases-operand
 decreases-operand l = size_of (expression_of l.expression.now) + 1

@@ -1,4 +1,4 @@
-//! The union of operands, of which those that a generator names need not be built.
+//! The operations that read each list of their operands once, in order: operands that a generator names need not be built.
 ghost use Rattle.std.specs.Prelude.{◌≡◌, IfErr, IfOk, IfSome, Err, Ok};
 ghost use Rattle.sgb_vec.specs.Results.{IsValue};
 ghost use Rattle.sgb_vec.specs.declared.panics.Panic.{Panic};
@@ -6,14 +6,43 @@ ghost use Rattle.sgb_graph.specs.Descriptions.{IsAnswerOf};
 ghost use Rattle.sgb_gen.specs.Boards.{board_vector_graph};
 ghost use Rattle.sgb_gen.specs.Generators.{IsGeneratorRefused, described, generator_value, made};
 ghost use Rattle.sgb_gen.specs.VectorGraphs.{described_by};
-ghost use Rattle.sgb_ops.specs.Gunion.{gunion_of};
-ghost use Rattle.sgb_values.specs.inner.Operands.{graph_held};
+ghost use Rattle.sgb_values.specs.Values.{of_graphs};
+ghost use Rattle.sgb_values.specs.inner.Operands.{graph_held, on_lists};
 
 use sgb_gen::{FlatLists, Generator, Local, local_of};
 use sgb_graph::Graph;
-use sgb_ops::{Source, gunion_of};
+use sgb_ops::{Source, gunion_of, intersection_of};
 use sgb_vec::Panic;
 use std::alloc::Global;
+
+/// An operation that reads each list of its two operands once, in order.
+#[derive(Clone, Copy)]
+pub(crate) enum ListOperation {
+    /// The union.
+    Union,
+    /// The intersection.
+    Intersection,
+}
+
+impl ListOperation {
+    // Its answer on two graphs.
+    fn answer(
+        self,
+        alloc: Global,
+        first: &Source<'_>,
+        second: &Source<'_>,
+        multi: bool,
+        directed: bool,
+    ) -> Result<Graph, Panic>
+        ensures { IsAnswerOf (of_graphs (on_lists self multi directed) first.now second.now)
+            result }
+    {
+        match self {
+            ListOperation::Union => gunion_of(alloc, first, second, multi, directed),
+            ListOperation::Intersection => intersection_of(alloc, first, second, multi, directed),
+        }
+    }
+}
 
 /// The graph of an operand.
 #[derive(Drop)]
@@ -36,72 +65,97 @@ pub(crate) fn generated(alloc: Global, generator: &Generator) -> Result<Operand,
     Ok(Operand::Listed(local))
 }
 
-/// The union of two operands (GB_BASIC, gunion), which are then dropped. The lists of a board with no side that wraps around
-/// are read with no graph built.
+/// The answer of an operation on two operands (GB_BASIC, gunion and intersection), which are then dropped. The lists of a
+/// board with no side that wraps around are read with no graph built.
 ///
 /// The refusal of the second; or `NoRoom` when out of memory, and nothing else.
-pub(crate) fn union_of(
+pub(crate) fn answer_of(
     alloc: Global,
+    operation: ListOperation,
     first: Operand,
     second: Result<Operand, Panic>,
     multi: bool,
     directed: bool,
 ) -> Result<Graph, Panic>
     ensures ok { IfOk second (λ o. IsAnswerOf
-        (gunion_of (graph_held first) (graph_held o) multi directed) result) }
+        (of_graphs (on_lists operation multi directed) (graph_held first) (graph_held o)) result) }
     ensures refused { IfErr second (λ p. result ≡ Err p) }
 {
     let second = second?;
-    union_both(alloc, &first, &second, multi, directed)
+    answer_both(alloc, operation, &first, &second, multi, directed)
 }
 
-// The union of two operands.
-fn union_both(
+// The answer on two operands.
+fn answer_both(
     alloc: Global,
+    operation: ListOperation,
     first: &Operand,
     second: &Operand,
     multi: bool,
     directed: bool,
 ) -> Result<Graph, Panic>
-    ensures { IsAnswerOf (gunion_of (graph_held first.now) (graph_held second.now) multi directed)
-        result }
+    ensures { IsAnswerOf (of_graphs (on_lists operation multi directed) (graph_held first.now)
+        (graph_held second.now)) result }
 {
     let local = match first {
         Operand::Built(graph) => {
-            return union_with(alloc, &Source::built(graph), second, multi, directed);
+            return answer_with(
+                alloc,
+                operation,
+                &Source::built(graph),
+                second,
+                multi,
+                directed,
+            );
         }
         Operand::Listed(local) => local,
     };
     match flat_lists(alloc, local) {
-        Some(lists) => union_with(alloc, &Source::flat(&lists), second, multi, directed),
+        Some(lists) => answer_with(
+            alloc,
+            operation,
+            &Source::flat(&lists),
+            second,
+            multi,
+            directed,
+        ),
         None => {
             let graph = local.graph(alloc)?;
-            union_with(alloc, &Source::built(&graph), second, multi, directed)
+            answer_with(
+                alloc,
+                operation,
+                &Source::built(&graph),
+                second,
+                multi,
+                directed,
+            )
         }
     }
 }
 
-// The union of a graph that is read and an operand.
-fn union_with(
+// The answer on a graph that is read and an operand.
+fn answer_with(
     alloc: Global,
+    operation: ListOperation,
     first: &Source<'_>,
     second: &Operand,
     multi: bool,
     directed: bool,
 ) -> Result<Graph, Panic>
-    ensures { IsAnswerOf (gunion_of first.now (graph_held second.now) multi directed) result }
+    ensures { IsAnswerOf (of_graphs (on_lists operation multi directed) first.now
+        (graph_held second.now)) result }
 {
     let local = match second {
         Operand::Built(graph) => {
-            return gunion_of(alloc, first, &Source::built(graph), multi, directed);
+            return operation.answer(alloc, first, &Source::built(graph), multi, directed);
         }
         Operand::Listed(local) => local,
     };
     match flat_lists(alloc, local) {
-        Some(lists) => gunion_of(alloc, first, &Source::flat(&lists), multi, directed),
+        Some(lists) => operation.answer(alloc, first, &Source::flat(&lists), multi, directed),
         None => {
             let graph = local.graph(alloc)?;
-            gunion_of(alloc, first, &Source::built(&graph), multi, directed)
+            operation.answer(alloc, first, &Source::built(&graph), multi, directed)
         }
     }
 }
