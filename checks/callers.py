@@ -8,7 +8,8 @@ has, and a caller as a block of Rattle. It is whole and proved:
   no `//!` on: so its `use` lines are there, and nothing that stands beside it in the file is left out;
 - a crate of tests has that file as a module, so that the gate proves it and runs its test;
 - the line of crates.txt has each crate that the block names in a `use` line;
-- each file that a document names by its path from the top, or an example by `examples/NAME`, is there.
+- each file that a document names by its path from the top, or an example by `examples/NAME`, is there, and each page that it
+  names by its name alone (`PAGE.md`) is one of the project: at the top, in `docs`, or beside a crate.
 
 It prints what failed, and last how many checks passed and failed; the status is 1 where one failed.
 """
@@ -24,6 +25,8 @@ LINE = re.compile(r"`app: ([a-z_ ]+)`")
 # `use sgb_vec::{..}`, and `ghost use Rattle.sgb_vec.specs...`
 USED = re.compile(r"^\s*(?:pub )?use (\w+)::|^\s*ghost use Rattle\.(\w+)\.", re.M)
 PATH = re.compile(r"`((?:crates|bench|checks|docs|examples|man|\.ci)/[\w./-]+\.\w+)`")
+# a page by its name alone
+PAGE = re.compile(r"`(\w+\.md)`")
 
 passed, failed = 0, 0
 
@@ -93,6 +96,8 @@ def check_paths(document):
         # a name in capitals stands for any; documents have such names
         if path.startswith("docs/") or not re.search(r"/[A-Z]+(/|\.|$)", path):
             check(os.path.exists(path), f"{document}: no such file: {path}")
+    for page in sorted(set(PAGE.findall(read(document)))):
+        check(glob.glob(page) + glob.glob("docs/" + page) + glob.glob("crates/*/" + page), f"{document}: no such page: {page}")
 
 
 def main():
