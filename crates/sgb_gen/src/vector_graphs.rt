@@ -1,5 +1,5 @@
 //! Graphs whose vertices are the vectors of a family, with their names and their coordinates (GB_BASIC).
-ghost use Rattle.std.specs.Prelude.{◌≡◌, ◌+◌, ◌≤◌, pos, length, map, slice_index, IfOk, IsOkUnless};
+ghost use Rattle.std.specs.Prelude.{◌≡◌, ◌+◌, ◌≤◌, pos, length, map, slice_index, IfOk, IsOkUnless, OnOk};
 ghost use Rattle.sgb_vec.specs.Limits.{most_dimensions};
 ghost use Rattle.sgb_vec.specs.Names.{name_of_vector};
 ghost use Rattle.sgb_graph.specs.Made.{no_kinds, no_fields};
@@ -41,24 +41,32 @@ fn vector_name(alloc: Global, vector: &[u32], text: &mut NameText) -> Result<Tex
 
 /// Puts the first three entries of each vector into the utility fields x, y, z of its vertex, and 0 for those
 /// that it does not have (GB_BASIC, board).
-pub(crate) fn put_coordinates<F: Family>(graph: &mut Graph, family: &F)
+///
+/// `NoRoom` when out of memory, and nothing else.
+pub(crate) fn put_coordinates<F: Family>(
+    alloc: Global,
+    graph: &mut Graph,
+    family: &F,
+) -> Result<(), Panic>
     requires vertices { length graph.old.vertices ≡ length (F.members family.now) }
     requires kinds { graph.old.kinds ≡ no_kinds }
     requires fields { map (λ v. v.util) graph.old.vertices
         ≡ map (λ v. no_fields) (F.members family.now) }
-    ensures { HasCoordinates (F.members family.now) graph.old graph.new }
+    ensures ok { OnOk result (HasCoordinates (F.members family.now) graph.old graph.new) }
+    ensures memory { IsOkUnless result Panic.NoRoom }
 {
     let mut left = Vectors::all(family);
     for u in 0..family.size() {
         let Some(vector) = left.front() else {
-            return;
+            return Ok(());
         };
         let x = entry(vector, 0);
         let y = entry(vector, 1);
         let z = entry(vector, 2);
-        graph.set_vertex_ints(u, x, y, z);
+        graph.set_vertex_ints(alloc, u, x, y, z)?;
         let _some = left.advance();
     }
+    Ok(())
 }
 
 // Entry number k of a vector, or 0.

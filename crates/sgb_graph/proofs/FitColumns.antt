@@ -1,5 +1,5 @@
 -- Vertices and records fit where their columns do.
-use Rattle.sgb_vec.proofs.Common.{rules, ◌≡◌, ◌&&◌, ℕ, zero, suc, Bool, true, List, [], ◌∷◌, length, map, replicate, refl, ap, sym, ◌∙◌, arith, list_all, length-map, list_all-map}
+use Rattle.sgb_vec.proofs.Common.{rules, ◌≡◌, ◌&&◌, ℕ, zero, suc, Bool, true, List, [], ◌∷◌, length, replicate, refl, ap, sym, ◌∙◌, arith, list_all}
 use Rattle.sgb_graph.specs.Sound.{chain_fits, util_fits, utils_fit}
 use Rattle.sgb_graph.specs.inner.Columns.{HoldsMany, column_kind, values}
 use Rattle.sgb_graph.specs.inner.Fitting.{record_fits_by, vertex_fits_by}
@@ -13,9 +13,8 @@ use Rattle.sgb_graph.specs.declared.fields.Util.TheVariants.{Nothing}
 use Rattle.sgb_graph.specs.declared.fields.Vertex.{Vertex}
 use Rattle.sgb_graph.specs.declared.leads.PlainRecord.{PlainRecord}
 use Rattle.sgb_graph.specs.declared.vertices.fields.Fields.{Fields}
-use Rattle.sgb_graph.specs.declared.vertices.plain.PlainVertex.{PlainVertex}
 use Rattle.sgb_graph.proofs.KeptRecords.{length-kept_records}
-use Rattle.sgb_graph.proofs.KeptVertices.{length-kept}
+use Rattle.sgb_graph.proofs.KeptVertices.{length-firsts, same_length}
 use Rattle.sgb_graph.proofs.Tables.{length-rows}
 
 -- values of a field that is not used
@@ -45,22 +44,29 @@ rows_fit n m k [] [] whole e = empty_fits n m k
 rows_fit n m k (kind ∷ kinds) (column ∷ columns) whole e = grind (arith, list_all-combined, length-rows, rows_fit n m k kinds columns whole.1 (omega (arith, e)))
 rows_fit n m k _ _ whole e = absurd (omega (arith, e))
 
+-- the first records of the vertices fit
+firsts_fit : (m : ℕ) (names : List (List ℕ)) (firsts : List ℕ) → length firsts ≡ length names → list_all (λ (x : Vertex). chain_fits m x.arcs) (combined bare_vertex names firsts) ≡ list_all (λ k. chain_fits m (kept_number k)) firsts
+firsts_fit m [] [] e = refl
+firsts_fit m (name ∷ names) (k ∷ firsts) e = ap (λ b. chain_fits m (kept_number k) && b) (firsts_fit m names firsts (omega (arith, e)))
+firsts_fit m _ _ e = absurd (omega (arith, e))
+
 -- so do the vertices that are kept
-items_fit : (n m : ℕ) (ps : List PlainVertex) (f : Fields) → AreKept ps f
-    → list_all (vertex_fits_by n m (field_kinds f)) (kept_items ps f) ≡ (list_all (λ p. chain_fits m (kept_number p.arcs)) ps && columns_fit n m (field_kinds f) (field_columns ps f))
-items_fit n m ps f kept =
-    let table = rows (length ps) (field_columns ps f) in
-    let long = length-map ps bare_vertex ∙ sym (length-rows (length ps) (field_columns ps f) kept) in
-    rw (← list_all-map (λ (x : Vertex). chain_fits m x.arcs) bare_vertex ps, ← rows_fit n m (length ps) (field_kinds f) (field_columns ps f) kept refl)
-    (list_all-combined (λ (x : Vertex) fields. record x { util = fields }) (vertex_fits_by n m (field_kinds f)) (λ (x : Vertex). chain_fits m x.arcs) (utils_fit n m (field_kinds f)) (map bare_vertex ps) table (λ x row. refl) long)
+items_fit : (n m : ℕ) (names : List (List ℕ)) (firsts : List ℕ) (f : Fields) → AreKept names firsts f
+    → list_all (vertex_fits_by n m (field_kinds f)) (kept_items names firsts f) ≡ (list_all (λ k. chain_fits m (kept_number k)) firsts && columns_fit n m (field_kinds f) (field_columns (length names) f))
+items_fit n m names firsts f kept =
+    let k = length names in
+    rw (← firsts_fit m names firsts kept.count, ← rows_fit n m k (field_kinds f) (field_columns k f) kept.columns refl)
+    (list_all-combined (λ (x : Vertex) fields. record x { util = fields }) (vertex_fits_by n m (field_kinds f)) (λ (x : Vertex). chain_fits m x.arcs) (utils_fit n m (field_kinds f)) (combined bare_vertex names firsts) (rows k (field_columns k f))
+    (λ x row. refl) (same_length names firsts f kept))
 
 -- as they are seen
-pub vertices_fit_by : (m : ℕ) (ps : List PlainVertex) (f : Fields) (seen : KeptVertices) → AreKept ps f → kept_vertices ps f ≡ seen
-    → (list_all (λ p. chain_fits m (kept_number p.arcs)) ps && columns_fit (length ps) m (field_kinds f) (field_columns ps f)) ≡ list_all (vertex_fits_by (length seen.items) m (kinds_of_vertices seen)) seen.items
-vertices_fit_by m ps f seen kept view =
-    sym (items_fit (length ps) m ps f kept)
-    ∙ (ap (λ n. list_all (vertex_fits_by n m (field_kinds f)) (kept_items ps f)) (sym (length-kept ps f (kept_vertices ps f) kept refl))
-    ∙ ap (λ (g : KeptVertices). list_all (vertex_fits_by (length g.items) m (kinds_of_vertices g)) g.items) view)
+pub vertices_fit_by : (m : ℕ) (names : List (List ℕ)) (firsts : List ℕ) (f : Fields) (seen : KeptVertices) → AreKept names firsts f → kept_vertices names firsts f ≡ seen
+    → (list_all (λ k. chain_fits m (kept_number k)) firsts && columns_fit (length firsts) m (field_kinds f) (field_columns (length firsts) f)) ≡ list_all (vertex_fits_by (length seen.items) m (kinds_of_vertices seen)) seen.items
+vertices_fit_by m names firsts f seen kept view =
+    ap (λ k. list_all (λ j. chain_fits m (kept_number j)) firsts && columns_fit (length firsts) m (field_kinds f) (field_columns k f)) kept.count
+    ∙ (sym (items_fit (length firsts) m names firsts f kept)
+    ∙ (ap (λ n. list_all (vertex_fits_by n m (field_kinds f)) (kept_items names firsts f)) (sym (length-firsts names firsts f (kept_vertices names firsts f) kept refl))
+    ∙ ap (λ (g : KeptVertices). list_all (vertex_fits_by (length g.items) m (kinds_of_vertices g)) g.items) view))
 
 -- and the records
 records_fit : (n m : ℕ) (ps : List PlainRecord) (xs ys : List Util) (a b : Kind) → length xs ≡ length ps → length ys ≡ length ps

@@ -1,33 +1,23 @@
 -- What is kept of vertices, and what is seen of it.
-use Rattle.std.proofs.Common.{rules, ◌≡◌, ◌≢◌, ◌<◌, ◌+◌, ℕ, zero, suc, ℤ, Option, Some, List, [], ◌∷◌, ◌++◌, length, map, replicate, get_or, set, drop, take, refl, ap, sym, subst, ◌∙◌, arith}
+use Rattle.std.proofs.Common.{rules, ◌≡◌, ◌<◌, ◌+◌, ℕ, zero, suc, ℤ, Option, Some, None, List, [], ◌∷◌, ◌++◌, length, map, replicate, get_or, set, take, refl, ap, sym, subst, ◌∙◌, arith}
 use Rattle.std.specs.Prelude.{slice_get, option_map}
-use Rattle.std.proofs.Math.Seq.{map-set_same}
 use Rattle.std.proofs.Math.ListN.{get_or-map}
-use Rattle.std.proofs.lemmas.Int.{to_z-of_z}
-use mir.Syntax.{w64}
-use mir.Val.{SFits, to_z, of_z}
-use Rattle.std.proofs.lemmas.List.{length-map, length_push, length-replicate, length-set, map-append, map-set, get_or-set_other, take_all, take_more, take_more_set}
+use Rattle.std.proofs.lemmas.List.{length-map, length_push, length-replicate, length-set, map_push, take_more}
 use Rattle.std.proofs.lemmas.Option.{get_or_from_slice_get, slice_get-map, slice_get_within}
-use Rattle.sgb_graph.specs.inner.Columns.{HoldsMany, column_kind, values}
+use Rattle.sgb_graph.specs.inner.Columns.{column_kind, values}
 use Rattle.sgb_graph.specs.Growth.{at_place, first_arc, new_vertex, number_or_zero, put_numbers, some_numbers, with_first, with_numbers, with_some_numbers}
-use Rattle.sgb_graph.specs.Parts.{vertex_with_ints}
 use Rattle.sgb_graph.specs.inner.KeptRecords.{kept_number}
-use Rattle.sgb_graph.specs.inner.KeptVertices.{AreColumns, AreKept, KeptVertices, HasNumber, HaveValues, HoldNumbers, TakeNumbers, bare_named, bare_vertex, field_columns, field_kinds, ints_inside, kept_items, kept_vertices, number_at, numbers_kind, numbers_values, rows, with_fields, with_row}
+use Rattle.sgb_graph.specs.inner.KeptVertices.{AreColumns, AreIntegers, AreKept, HaveValues, HoldNumbers, KeptVertices, bare_vertex, combined, field_columns, field_kinds, kept_items, kept_vertices, number_columns, put_columns, rows, with_fields, with_row}
 use Rattle.sgb_graph.specs.Made.{no_fields}
 use Rattle.sgb_graph.specs.declared.columns.Column.{Column}
-use Rattle.sgb_graph.specs.declared.columns.Column.TheVariants.{Unused}
 use Rattle.sgb_graph.specs.declared.fields.Kind.{Kind}
 use Rattle.sgb_graph.specs.declared.fields.Kind.TheVariants.{Z, I}
 use Rattle.sgb_graph.specs.declared.fields.Util.{Util}
 use Rattle.sgb_graph.specs.declared.fields.Util.TheVariants.{Nothing, Int}
 use Rattle.sgb_graph.specs.declared.fields.Vertex.{Vertex}
 use Rattle.sgb_graph.specs.declared.vertices.fields.Fields.{Fields}
-use Rattle.sgb_graph.specs.declared.vertices.numbers.Numbers.{Numbers}
-use Rattle.sgb_graph.specs.declared.vertices.numbers.Numbers.TheVariants.{Inside, Beside}
-use Rattle.sgb_graph.specs.declared.vertices.plain.PlainVertex.{PlainVertex}
-use Rattle.sgb_vec.proofs.SumRowLemmas.{take_written}
-use Rattle.sgb_graph.proofs.ColumnValues.{HasPlace-below, unused, values-unused}
-use Rattle.sgb_graph.proofs.Lists.{at_place-is_set, length-at_place, map-map}
+use Rattle.sgb_graph.proofs.ColumnValues.{HasPlace-below, unused}
+use Rattle.sgb_graph.proofs.Lists.{length-at_place, map-map}
 use Rattle.sgb_graph.proofs.Tables.{at_place-at_place, at_place-same, at_place-set, combined-at_first, combined-at_second, combined-map_second, combined-push, combined_at, length-combined, length-rows, rows-at, rows-map, rows-push, rows-replicate}
 
 -- the vertex with these fields
@@ -35,20 +25,26 @@ abbrev put_fields : Vertex → List Util → Vertex
 put_fields x fields = record x { util = fields }
 
 -- as many rows as vertices
-same_length : (ps : List PlainVertex) (f : Fields) → AreKept ps f → length (map bare_vertex ps) ≡ length (rows (length ps) (field_columns ps f))
-same_length ps f kept = length-map ps bare_vertex ∙ sym (length-rows (length ps) (field_columns ps f) kept)
+pub same_length : (names : List (List ℕ)) (firsts : List ℕ) (f : Fields) → AreKept names firsts f → length (combined bare_vertex names firsts) ≡ length (rows (length names) (field_columns (length names) f))
+same_length names firsts f kept =
+    length-combined bare_vertex names firsts (sym kept.count) ∙ (kept.count ∙ sym (length-rows (length names) (field_columns (length names) f) kept.columns))
 
 -- the number of vertices that are seen
-pub length-kept : (ps : List PlainVertex) (f : Fields) (seen : KeptVertices) → AreKept ps f → kept_vertices ps f ≡ seen → length seen.items ≡ length ps
-length-kept ps f seen kept view =
+pub length-kept : (names : List (List ℕ)) (firsts : List ℕ) (f : Fields) (seen : KeptVertices) → AreKept names firsts f → kept_vertices names firsts f ≡ seen → length seen.items ≡ length names
+length-kept names firsts f seen kept view =
     ap (λ (g : KeptVertices). length g.items) (sym view)
-    ∙ length-combined put_fields (map bare_vertex ps) (rows (length ps) (field_columns ps f)) (same_length ps f kept)
-    ∙ length-rows (length ps) (field_columns ps f) kept
+    ∙ (length-combined put_fields (combined bare_vertex names firsts) (rows (length names) (field_columns (length names) f)) (same_length names firsts f kept)
+    ∙ length-rows (length names) (field_columns (length names) f) kept.columns)
+
+-- and of their first records
+pub length-firsts : (names : List (List ℕ)) (firsts : List ℕ) (f : Fields) (seen : KeptVertices) → AreKept names firsts f → kept_vertices names firsts f ≡ seen → length seen.items ≡ length firsts
+length-firsts names firsts f seen kept view = length-kept names firsts f seen kept view ∙ sym kept.count
 
 -- a vertex that is seen
-pub kept_at : (ps : List PlainVertex) (f : Fields) (k : ℕ) (p : PlainVertex) (r : List Util) → slice_get ps k ≡ Some p → slice_get (rows (length ps) (field_columns ps f)) k ≡ Some r → slice_get (kept_items ps f) k ≡ Some (record (bare_vertex p) { util = r })
-kept_at ps f k p r one other =
-    combined_at put_fields (map bare_vertex ps) (rows (length ps) (field_columns ps f)) k (bare_vertex p) r (slice_get-map bare_vertex ps k ∙ ap (option_map bare_vertex) one) other
+pub kept_at : (names : List (List ℕ)) (firsts : List ℕ) (f : Fields) (v : ℕ) (name : List ℕ) (k : ℕ) (r : List Util) → slice_get names v ≡ Some name → slice_get firsts v ≡ Some k
+    → slice_get (rows (length names) (field_columns (length names) f)) v ≡ Some r → slice_get (kept_items names firsts f) v ≡ Some (record (bare_vertex name k) { util = r })
+kept_at names firsts f v name k r one two other =
+    combined_at put_fields (combined bare_vertex names firsts) (rows (length names) (field_columns (length names) f)) v (bare_vertex name k) r (combined_at bare_vertex names firsts v name k one two) other
 
 -- what does not depend on the fields
 with_fields-other : {Y : Type 0} (h : Vertex → Y) (xs : List Vertex) (rs : List (List Util)) → ((x : Vertex) (r : List Util) → h (record x { util = r }) ≡ h x) → length xs ≡ length rs → map h (with_fields xs rs) ≡ map h xs
@@ -57,269 +53,99 @@ with_fields-other h (x ∷ xs) [] other e = absurd (omega (arith, e))
 with_fields-other h (x ∷ xs) (r ∷ rs) other e =
     ap (λ y. y ∷ map h (with_fields xs rs)) (other x r) ∙ ap (λ ys. h x ∷ ys) (with_fields-other h xs rs other (omega (arith, e)))
 
+-- bare vertices have these names and first records
+bare_names : (names : List (List ℕ)) (firsts : List ℕ) → length firsts ≡ length names → map (λ x. x.name) (combined bare_vertex names firsts) ≡ names
+bare_names [] firsts e = refl
+bare_names (name ∷ names) [] e = absurd (omega (arith, e))
+bare_names (name ∷ names) (k ∷ firsts) e = ap (λ xs. name ∷ xs) (bare_names names firsts (omega (arith, e)))
+
+bare_firsts : (names : List (List ℕ)) (firsts : List ℕ) → length firsts ≡ length names → map (λ x. x.arcs) (combined bare_vertex names firsts) ≡ map kept_number firsts
+bare_firsts [] [] e = refl
+bare_firsts (name ∷ names) (k ∷ firsts) e = ap (λ xs. kept_number k ∷ xs) (bare_firsts names firsts (omega (arith, e)))
+bare_firsts _ _ e = absurd (omega (arith, e))
+
 -- the names
-pub kept_names : (ps : List PlainVertex) (f : Fields) → AreKept ps f → map (λ x. x.name) (kept_items ps f) ≡ map (λ p. p.name) ps
-kept_names ps f kept = grind (arith, with_fields-other, same_length, map-map)
+pub kept_names : (names : List (List ℕ)) (firsts : List ℕ) (f : Fields) → AreKept names firsts f → map (λ x. x.name) (kept_items names firsts f) ≡ names
+kept_names names firsts f kept = search (rules, with_fields-other, same_length, bare_names)
 
 -- the first records
-kept_firsts : (ps : List PlainVertex) (f : Fields) → AreKept ps f → map (λ x. x.arcs) (kept_items ps f) ≡ map (λ p. kept_number p.arcs) ps
-kept_firsts ps f kept = search (rules, with_fields-other, same_length, map-map)
+kept_firsts : (names : List (List ℕ)) (firsts : List ℕ) (f : Fields) → AreKept names firsts f → map (λ x. x.arcs) (kept_items names firsts f) ≡ map kept_number firsts
+kept_firsts names firsts f kept = search (rules, with_fields-other, same_length, bare_firsts)
 
 -- the first record of a vertex, out of the list of all
 first_of : (vertices : List Vertex) (v : ℕ) (first : Option ℕ) → slice_get (map (λ x. x.arcs) vertices) v ≡ Some first → first_arc vertices v ≡ first
 first_of vertices v first is = grind (arith, slice_get-map)
 
 -- that of a vertex that is kept
-pub kept_first : (ps : List PlainVertex) (f : Fields) (v : ℕ) (p : PlainVertex) → AreKept ps f → slice_get ps v ≡ Some p → first_arc (kept_items ps f) v ≡ kept_number p.arcs
-kept_first ps f v p kept is =
-    first_of (kept_items ps f) v (kept_number p.arcs)
-    (ap (λ fs. slice_get fs v) (kept_firsts ps f kept) ∙ (slice_get-map (λ (q : PlainVertex). kept_number q.arcs) ps v ∙ ap (option_map (λ (q : PlainVertex). kept_number q.arcs)) is))
+pub kept_first : (names : List (List ℕ)) (firsts : List ℕ) (f : Fields) (v k : ℕ) → AreKept names firsts f → slice_get firsts v ≡ Some k → first_arc (kept_items names firsts f) v ≡ kept_number k
+kept_first names firsts f v k kept is =
+    first_of (kept_items names firsts f) v (kept_number k)
+    (ap (λ fs. slice_get fs v) (kept_firsts names firsts f kept) ∙ (slice_get-map kept_number firsts v ∙ ap (option_map kept_number) is))
 
 -- its name
-pub kept_name : (ps : List PlainVertex) (f : Fields) (v : ℕ) (p : PlainVertex) → AreKept ps f → slice_get ps v ≡ Some p → slice_get (map (λ x. x.name) (kept_items ps f)) v ≡ Some p.name
-kept_name ps f v p kept is = rw (kept_names ps f kept) (simp slice_get-map (rw is refl))
+pub kept_name : (names : List (List ℕ)) (firsts : List ℕ) (f : Fields) (v : ℕ) (name : List ℕ) → AreKept names firsts f → slice_get names v ≡ Some name → slice_get (map (λ x. x.name) (kept_items names firsts f)) v ≡ Some name
+kept_name names firsts f v name kept is = rw (kept_names names firsts f kept) is
 
--- a field x, y or z has each place
-has_number : (place : ℕ) (ps : List PlainVertex) (k : ℕ) (f : Numbers) → length (numbers_values place ps f) ≡ length ps → k < length ps → HasNumber k f
-has_number place ps k f whole below = grind (arith, HasPlace-below, whole)
-
--- and all fields
-pub have_values : (ps : List PlainVertex) (k : ℕ) (f : Fields) → AreKept ps f → k < length ps → HaveValues k f
-have_values ps k f kept below = search (rules, HasPlace-below, has_number)
-
--- a column that is not used
-unused_values : (n : ℕ) (c : Column) → column_kind c ≡ Z → values n c ≡ replicate n Nothing
-unused_values n c e = ap (values n) (unused c e)
-
--- a field x, y or z that is not used
-unused_numbers : (place : ℕ) (ps : List PlainVertex) (f : Numbers) → numbers_kind f ≡ Z → numbers_values place ps f ≡ replicate (length ps) Nothing
-unused_numbers place ps f e = grind (arith, unused_values)
+-- all fields have each place
+pub have_values : (n k : ℕ) (f : Fields) → AreColumns n (field_columns n f) → k < n → HaveValues k f
+have_values n k f kept below = search (rules, HasPlace-below)
 
 -- vertices without fields
-with_no_fields : (names : List (List ℕ)) → with_fields (map bare_named names) (replicate (length names) no_fields) ≡ map new_vertex names
-with_no_fields [] = refl
-with_no_fields (x ∷ names) = ap (λ vertices. new_vertex x ∷ vertices) (with_no_fields names)
+with_no_fields : (names : List (List ℕ)) (k : ℕ) → kept_number k ≡ None → with_fields (combined bare_vertex names (replicate (length names) k)) (replicate (length names) no_fields) ≡ map new_vertex names
+with_no_fields [] k none = refl
+with_no_fields (x ∷ names) k none =
+    ap (λ first. record (new_vertex x) { arcs = first } ∷ with_fields (combined bare_vertex names (replicate (length names) k)) (replicate (length names) no_fields)) none
+    ∙ ap (λ vertices. new_vertex x ∷ vertices) (with_no_fields names k none)
 
 -- columns of one element
 replicate_whole : {X : Type 0} (n k : ℕ) (x : X) → AreColumns n (replicate k (replicate n x))
 replicate_whole n zero x = tt
 replicate_whole n (suc k) x = (length-replicate n x, replicate_whole n k x)
 
+-- a column that is not used
+unused_values : (n : ℕ) (c : Column) → column_kind c ≡ Z → values n c ≡ replicate n Nothing
+unused_values n c e = ap (values n) (unused c e)
+
 -- fields that are not used
-pub unused_columns : (ps : List PlainVertex) (f : Fields) → field_kinds f ≡ replicate 6 Z → field_columns ps f ≡ replicate 6 (replicate (length ps) Nothing)
-unused_columns ps f e = search (rules, unused_values, unused_numbers)
+unused_columns : (n : ℕ) (f : Fields) → field_kinds f ≡ replicate 6 Z → field_columns n f ≡ replicate 6 (replicate n Nothing)
+unused_columns n f e = search (rules, unused_values)
 
--- they are kept
-pub unused_kept : (ps : List PlainVertex) (f : Fields) → field_kinds f ≡ replicate 6 Z → AreKept ps f
-unused_kept ps f e = subst (AreColumns (length ps)) (sym (unused_columns ps f e)) (replicate_whole (length ps) 6 Nothing)
+-- vertices of names are kept
+pub unused_kept : (names : List (List ℕ)) (firsts : List ℕ) (f : Fields) → length firsts ≡ length names → field_kinds f ≡ replicate 6 Z → AreKept names firsts f
+unused_kept names firsts f count e = record {
+  count = count;
+  columns = subst (AreColumns (length names)) (sym (unused_columns (length names) f e)) (replicate_whole (length names) 6 Nothing);
+}
 
--- and vertices of names are seen
-pub unused_items : (ps : List PlainVertex) (f : Fields) (names : List (List ℕ)) → field_kinds f ≡ replicate 6 Z → map bare_vertex ps ≡ map bare_named names → kept_items ps f ≡ map new_vertex names
-unused_items ps f names e bare =
-    let count : length ps ≡ length names = sym (length-map ps bare_vertex) ∙ (ap length bare ∙ length-map names bare_named) in
-    ap (λ columns. with_fields (map bare_vertex ps) (rows (length ps) columns)) (unused_columns ps f e)
-    ∙ (ap (with_fields (map bare_vertex ps)) (rows-replicate (length ps) 6 Nothing)
-    ∙ (rw (bare, count) (with_no_fields names)))
+-- and seen
+pub unused_items : (names : List (List ℕ)) (firsts : List ℕ) (k : ℕ) (f : Fields) → kept_number k ≡ None → firsts ≡ replicate (length names) k → field_kinds f ≡ replicate 6 Z → kept_items names firsts f ≡ map new_vertex names
+unused_items names firsts k f none all e =
+    let bare : List ℕ → List Vertex = λ ks. combined bare_vertex names ks in
+    ap (λ ks. with_fields (bare ks) (rows (length names) (field_columns (length names) f))) all
+    ∙ (ap (λ columns. with_fields (bare (replicate (length names) k)) (rows (length names) columns)) (unused_columns (length names) f e)
+    ∙ (ap (with_fields (bare (replicate (length names) k))) (rows-replicate (length names) 6 Nothing) ∙ with_no_fields names k none))
 
--- columns that are the same
-pub columns_kept : (n m : ℕ) (columns others : List (List Util)) → m ≡ n → others ≡ columns → AreColumns n columns → AreColumns m others
-columns_kept n m columns others count same kept = rw (count, same) kept
+-- another first record is kept
+pub first_kept : (v k : ℕ) (names : List (List ℕ)) (firsts : List ℕ) (f : Fields) → AreKept names firsts f → AreKept names (set firsts v k) f
+first_kept v k names firsts f kept = record { count = length-set firsts v k ∙ kept.count; columns = kept.columns }
 
--- and what is seen of them
-pub same_table : (xs ys : List Vertex) (m n : ℕ) (columns others : List (List Util)) → xs ≡ ys → m ≡ n → columns ≡ others → with_fields xs (rows m columns) ≡ with_fields ys (rows n others)
-same_table xs ys m n columns others bare count same = cc
-
--- the numbers of vertices of which one is exchanged for one with the same numbers
-same_numbers : (place v : ℕ) (ps : List PlainVertex) (p q : PlainVertex) (f : Numbers) → p ≡ get_or ps v p → q.ints ≡ p.ints → numbers_values place (set ps v q) f ≡ numbers_values place ps f
-same_numbers place v ps p q f here ints = grind (arith, map-set_same, here, length-set)
-
--- the fields then stay
-same_columns : (v : ℕ) (ps : List PlainVertex) (p q : PlainVertex) (f : Fields) → p ≡ get_or ps v p → q.ints ≡ p.ints → field_columns (set ps v q) f ≡ field_columns ps f
-same_columns v ps p q f here ints =
-    rw (length-set ps v q, same_numbers 0 v ps p q f.x here ints, same_numbers 1 v ps p q f.y here ints, same_numbers 2 v ps p q f.z here ints) refl
-
--- another first record
-pub first_kept : (v k : ℕ) (ps : List PlainVertex) (p : PlainVertex) (f : Fields) → p ≡ get_or ps v p → AreKept ps f → AreKept (set ps v (record p { arcs = k })) f
-first_kept v k ps p f here kept = search (rules, columns_kept, length-set, same_columns, here)
+-- a first record that is put into a list of them
+bare_put : (v k j : ℕ) (names : List (List ℕ)) (firsts : List ℕ) → kept_number k ≡ Some j → combined bare_vertex names (set firsts v k) ≡ with_first j v (combined bare_vertex names firsts)
+bare_put v k j [] firsts is = refl
+bare_put v k j (name ∷ names) [] is = refl
+bare_put zero k j (name ∷ names) (i ∷ firsts) is = ap (λ o. record (bare_vertex name i) { arcs = o } ∷ combined bare_vertex names firsts) is
+bare_put (suc v) k j (name ∷ names) (i ∷ firsts) is = ap (λ xs. bare_vertex name i ∷ xs) (bare_put v k j names firsts is)
 
 -- is what is seen
-pub first_put : (v k j : ℕ) (ps : List PlainVertex) (p : PlainVertex) (f : Fields) → v < length ps → p ≡ get_or ps v p → kept_number k ≡ Some j → kept_items (set ps v (record p { arcs = k })) f ≡ with_first j v (kept_items ps f)
-first_put v k j ps p f below here is =
-    let q : PlainVertex = record p { arcs = k } in
+pub first_put : (v k j : ℕ) (names : List (List ℕ)) (firsts : List ℕ) (f : Fields) → kept_number k ≡ Some j → kept_items names (set firsts v k) f ≡ with_first j v (kept_items names firsts f)
+first_put v k j names firsts f is =
     let led : Vertex → Vertex = λ x. record x { arcs = Some j } in
-    let same : bare_vertex q ≡ led (bare_vertex p) = ap (λ o. record (bare_vertex p) { arcs = o }) is in
-    let within : v < length (map bare_vertex ps) = omega (arith, length-map ps bare_vertex) in
-    let there : bare_vertex p ≡ get_or (map bare_vertex ps) v (bare_vertex p) = ap bare_vertex here ∙ sym (get_or-map bare_vertex ps v p) in
-    let bare : map bare_vertex (set ps v q) ≡ with_first j v (map bare_vertex ps) =
-    map-set bare_vertex ps v q ∙ (ap (set (map bare_vertex ps) v) same ∙ at_place-is_set led v (map bare_vertex ps) (bare_vertex p) within there) in
-    grind (arith, same_table, set, length-set, same_columns, combined-at_first, put_fields, q, led, same, within, there, bare)
-
--- the numbers of the first k vertices are taken, all else stays
-pub record TakenSoFar (place k : ℕ) (old new : List PlainVertex) (found : List Util) : Type 0 where
-  pub bare : map bare_vertex new ≡ map bare_vertex old
-  pub here : take k (map (λ p. Int (number_at place p)) new) ≡ take k (map number_or_zero found)
-  pub others : (q : ℕ) → q ≢ place → map (number_at q) new ≡ map (number_at q) old
-
--- none are
-pub taken_none : (place : ℕ) (ps : List PlainVertex) (found : List Util) → TakenSoFar place 0 ps ps found
-taken_none place ps found = record { bare = refl; here = refl; others = λ q other. refl }
-
--- one more is
-pub taken_more : (place k : ℕ) (value : ℤ) (old new : List PlainVertex) (p q : PlainVertex) (found : List Util) (u : Util) → k < length new → q ≡ record (get_or new k p) { ints = set (get_or new k p).ints place value } → number_at place q ≡ value
-    → slice_get found k ≡ Some u → number_or_zero u ≡ Int value → TakenSoFar place k old new found → TakenSoFar place (k + 1) old (set new k q) found
-taken_more place k value old new p q found u below is at given some so_far =
-    let f : PlainVertex → Util = λ x. Int (number_at place x) in
-    let now = take_more_set (map f new) k (f q) (omega (arith, below, length-map new f)) in
-    let here : get_or (map number_or_zero found) k (number_or_zero u) ≡ Int value = get_or-map number_or_zero found k u ∙ (ap number_or_zero (get_or_from_slice_get found k u u given) ∙ some) in
-    grind (arith, take_more, slice_get_within, length-map, get_or-set_other, map-set_same, map-set, here, f, now, here)
-
--- all are
-pub taken_all : (place k : ℕ) (old new : List PlainVertex) (found : List Util) → k ≡ length new → k ≡ length found → TakenSoFar place k old new found → TakeNumbers place old new found
-taken_all place k old new found all also so_far = grind (arith, length-map, take_all)
-
--- numbers that stand in the vertices already
-pub numbers_inside : (place : ℕ) (ps : List PlainVertex) → TakeNumbers place ps ps (numbers_values place ps Inside)
-numbers_inside place ps = grind (arith, map-map)
-
--- numbers of another place stay
-pub other_numbers : (place q : ℕ) (old new : List PlainVertex) (found : List Util) (f : Numbers) → TakeNumbers place old new found → q ≢ place → numbers_values q new f ≡ numbers_values q old f
-other_numbers place q old new found Inside taken other =
-    sym (map-map (λ i. Int i) (number_at q) new) ∙ (ap (map (λ i. Int i)) (taken.others q other) ∙ map-map (λ i. Int i) (number_at q) old)
-other_numbers place q old new found (Beside column) taken other =
-    ap (λ n. values n column) (sym (length-map new bare_vertex) ∙ (ap length taken.bare ∙ length-map old bare_vertex))
-
--- the vertices after the numbers of x, y and z are taken
-pub all_taken : (f : Fields) (old one two new : List PlainVertex) → TakeNumbers 0 old one (numbers_values 0 old f.x) → TakeNumbers 1 one two (numbers_values 1 one f.y) → TakeNumbers 2 two new (numbers_values 2 two f.z)
-    → HoldNumbers old f new (record f { x = Inside; y = Inside; z = Inside })
-all_taken f old one two new x y z = record {
-  fields = refl;
-  bare = z.bare ∙ (y.bare ∙ x.bare);
-  x = other_numbers 2 0 two new _ Inside z (λ e. omega (arith, e)) ∙ (other_numbers 1 0 one two _ Inside y (λ e. omega (arith, e)) ∙ x.here);
-  y = other_numbers 2 1 two new _ Inside z (λ e. omega (arith, e)) ∙ (y.here ∙ ap (map number_or_zero) (other_numbers 0 1 old one _ f.y x (λ e. omega (arith, e))));
-  z = z.here ∙ ap (map number_or_zero) (other_numbers 1 2 one two _ f.z y (λ e. omega (arith, e)) ∙ other_numbers 0 2 old one _ f.z x (λ e. omega (arith, e)));
-}
+    ap (λ xs. with_fields xs (rows (length names) (field_columns (length names) f))) (bare_put v k j names firsts is)
+    ∙ combined-at_first put_fields led led v (combined bare_vertex names firsts) (rows (length names) (field_columns (length names) f)) (λ x row. refl)
 
 -- the vertex with its fields changed
 abbrev with_util : (List Util → List Util) → Vertex → Vertex
 with_util h x = record x { util = h x.util }
-
--- columns with a number in each place of x, y, z
-abbrev number_columns : List (List Util) → List (List Util)
-number_columns columns = at_place (map number_or_zero) 5 (at_place (map number_or_zero) 4 (at_place (map number_or_zero) 3 columns))
-
--- and with these numbers in those of v
-abbrev put_columns : ℕ → ℤ → ℤ → ℤ → List (List Util) → List (List Util)
-put_columns v x y z columns =
-    at_place (at_place (λ _. Int z) v) 5 (at_place (at_place (λ _. Int y) v) 4 (at_place (at_place (λ _. Int x) v) 3 columns))
-
--- their rows have numbers
-number_rows : (n : ℕ) (columns : List (List Util)) → rows n (number_columns columns) ≡ map some_numbers (rows n columns)
-number_rows n columns = simp (rows-map, map-map)
-
--- and these
-put_rows : (n v : ℕ) (x y z : ℤ) (columns : List (List Util)) → rows n (put_columns v x y z columns) ≡ at_place (put_numbers x y z) v (rows n columns)
-put_rows n v x y z columns = simp (rows-at, at_place-at_place) (at_place-same _ (put_numbers x y z) v (rows n columns) (λ r. simp at_place-set))
-
--- a number that is put into a vertex
-put_column : (place v : ℕ) (i : ℤ) (ps : List PlainVertex) (q : PlainVertex) (us : List Util) → number_at place q ≡ i → map (λ p. Int (number_at place p)) ps ≡ us → map (λ p. Int (number_at place p)) (set ps v q) ≡ at_place (λ _. Int i) v us
-put_column place v i ps q us is column = rw (← column, ← is, at_place-set (Int (number_at place q)) v (map (λ p. Int (number_at place p)) ps)) (map-set (λ p. Int (number_at place p)) ps v q)
-
--- fields x, y, z after numbers are put into a vertex
-record PutNumbers (old : List PlainVertex) (f : Fields) (new : List PlainVertex) (g : Fields) (v : ℕ) (x y z : ℤ) : Type 0 where
-  bare : map bare_vertex new ≡ map bare_vertex old
-  count : length new ≡ length old
-  columns : field_columns new g ≡ put_columns v x y z (number_columns (field_columns old f))
-
--- as they are put
-put_all : (old : List PlainVertex) (f : Fields) (new : List PlainVertex) (p : PlainVertex) (v : ℕ) (x y z : ℤ) → HoldNumbers old f new (record f { x = Inside; y = Inside; z = Inside }) → p ≡ get_or new v p
-    → PutNumbers old f (set new v (record p { ints = x ∷ y ∷ z ∷ [] })) (record f { x = Inside; y = Inside; z = Inside }) v x y z
-put_all old f new p v x y z hold here =
-    let q : PlainVertex = record p { ints = x ∷ y ∷ z ∷ [] } in
-    let bare : map bare_vertex (set new v q) ≡ map bare_vertex old = map-set_same bare_vertex new v q p (rw (← here) refl) ∙ hold.bare in
-    let count : length (set new v q) ≡ length old = sym (length-map (set new v q) bare_vertex) ∙ (ap length bare ∙ length-map old bare_vertex) in
-    grind (arith, put_column, q, bare, count)
-
--- what is kept of vertices whose fields are of these kinds
-pub kinds_record : (ps : List PlainVertex) (f : Fields) (u v w x y z : Kind) → field_kinds f ≡ u ∷ v ∷ w ∷ x ∷ y ∷ z ∷ []
-    → kept_vertices ps f ≡ record { u = u; v = v; w = w; x = x; y = y; z = z; items = kept_items ps f }
-kinds_record ps f u v w x y z e = grind (arith)
-
--- a value put after those of a column
-abbrev pub AddsValue : Column → Column → Util → Type 0
-AddsValue c d value = (n : ℕ) → HoldsMany n c → values (1 + n) d ≡ values n c ++ value ∷ []
-
--- a value put after those of a field x, y or z, where the vertex has this integer
-abbrev pub AddsNumber : Numbers → Numbers → Util → ℤ → Type 0
-AddsNumber c d value i =
-    (place : ℕ) (ps : List PlainVertex) (p : PlainVertex) → number_at place p ≡ i → length (numbers_values place ps c) ≡ length ps
-    → numbers_values place (ps ++ p ∷ []) d ≡ numbers_values place ps c ++ value ∷ []
-
--- a row put after those of the fields
-pub fields_pushed : (ps : List PlainVertex) (p : PlainVertex) (f g : Fields) (a b c d e h : Util) (i j k : ℤ) → p.ints ≡ i ∷ j ∷ k ∷ [] → AreKept ps f
-    → AddsValue f.u g.u a → AddsValue f.v g.v b → AddsValue f.w g.w c → AddsNumber f.x g.x d i → AddsNumber f.y g.y e j → AddsNumber f.z g.z h k
-    → field_columns (ps ++ p ∷ []) g ≡ with_row (field_columns ps f) (a ∷ b ∷ c ∷ d ∷ e ∷ h ∷ [])
-fields_pushed ps p f g a b c d e h i j k ints kept u v w x y z = grind (arith, length_push)
-
--- three integers in a vertex are a row of fields that are left alone
-ints_row : (ps : List PlainVertex) (p : PlainVertex) (x y z : ℤ) → p.ints ≡ x ∷ y ∷ z ∷ [] → AreKept ps ints_inside
-    → field_columns (ps ++ p ∷ []) ints_inside ≡ with_row (field_columns ps ints_inside) (put_numbers x y z no_fields)
-ints_row ps p x y z ints kept =
-    fields_pushed ps p ints_inside ints_inside Nothing Nothing Nothing (Int x) (Int y) (Int z) x y z ints kept none none none (one x) (one y) (one z)
-  where
-    none : AddsValue Unused Unused Nothing
-    none n whole = values-unused n Unused refl
-
-    one : (i : ℤ) → AddsNumber Inside Inside (Int i) i
-    one i place qs q at whole = grind (arith, map-append)
-
--- columns with one row more
-columns_row : (n : ℕ) (columns : List (List Util)) (row : List Util) → length columns ≡ length row → AreColumns n columns → AreColumns (suc n) (with_row columns row)
-columns_row n [] _ long are = tt
-columns_row n (column ∷ columns) [] long are = absurd (omega (arith, long))
-columns_row n (column ∷ columns) (x ∷ row) long are = grind (arith, length_push, columns_row n columns row (omega (arith, long)) are.1)
-
--- one vertex more
-pub record AreMore (ps : List PlainVertex) (f : Fields) (qs : List PlainVertex) (g : Fields) (x : Vertex) : Type 0 where
-  pub whole : AreKept qs g
-  pub same : kept_vertices qs g ≡ record (kept_vertices ps f) { items = kept_items ps f ++ x ∷ [] }
-
-pub kept_more : (ps : List PlainVertex) (p : PlainVertex) (f g : Fields) (x : Vertex) → AreKept ps f → field_kinds g ≡ field_kinds f
-    → field_columns (ps ++ p ∷ []) g ≡ with_row (field_columns ps f) x.util → length x.util ≡ 6 → p.name ≡ x.name → kept_number p.arcs ≡ x.arcs → AreMore ps f (ps ++ p ∷ []) g x
-kept_more ps p f g x kept kinds columns six name arcs =
-    let n = length ps in
-    let old = field_columns ps f in
-    let long : length (ps ++ p ∷ []) ≡ suc n = omega (arith, length_push ps p) in
-    let table = ap (λ m. rows m (field_columns (ps ++ p ∷ []) g)) long ∙ (ap (rows (suc n)) columns ∙ rows-push n old x.util kept (sym six)) in
-    let last : record (bare_vertex p) { util = x.util } ≡ x = rw (name, arcs) refl in
-    let all : kept_items (ps ++ p ∷ []) g ≡ kept_items ps f ++ x ∷ [] =
-    ap (λ rs. with_fields (map bare_vertex (ps ++ p ∷ [])) rs) table
-    ∙ (ap (λ xs. with_fields xs (rows n old ++ x.util ∷ [])) (map-append bare_vertex ps (p ∷ []))
-    ∙ (combined-push put_fields (map bare_vertex ps) (rows n old) (bare_vertex p) x.util (length-map ps bare_vertex ∙ sym (length-rows n old kept))
-    ∙ ap (λ y. with_fields (map bare_vertex ps) (rows n old) ++ y ∷ []) last)) in
-    record {
-      whole = columns_kept (suc n) (length (ps ++ p ∷ [])) (with_row old x.util) (field_columns (ps ++ p ∷ []) g) long columns (columns_row n old x.util (sym six) kept);
-      same = kinds_record (ps ++ p ∷ []) g (column_kind f.u) (column_kind f.v) (column_kind f.w) (numbers_kind f.x) (numbers_kind f.y) (numbers_kind f.z) kinds
-          ∙ ap (λ (xs : List Vertex). record (kept_vertices ps f) { items = xs }) all;
-    }
-
--- the same, where room was taken before
-pub vertex_pushed : (ps qs rs : List PlainVertex) (p : PlainVertex) (f h g : Fields) (x : Vertex) → AreKept ps f → qs ≡ ps → rs ≡ qs ++ p ∷ [] → field_kinds h ≡ field_kinds f
-    → ((l : List PlainVertex) → field_columns l h ≡ field_columns l f) → field_kinds g ≡ field_kinds h
-    → (AreKept ps h → field_columns (ps ++ p ∷ []) g ≡ with_row (field_columns ps h) x.util) → length x.util ≡ 6 → p.name ≡ x.name → kept_number p.arcs ≡ x.arcs → AreMore ps f rs g x
-vertex_pushed ps qs rs p f h g x kept same pushed kinds columns of_kinds row six name arcs =
-    let room : AreKept ps h = subst (AreColumns (length ps)) (sym (columns ps)) kept in
-    subst (λ (l : List PlainVertex). AreMore ps f l g x) (sym (pushed ∙ ap (λ (l : List PlainVertex). l ++ p ∷ []) same))
-    (kept_more ps p f g x kept (of_kinds ∙ kinds) (row room ∙ ap (λ t. with_row t x.util) (columns ps)) six name arcs)
-
--- the same of three integers, which pass through words of 64 bits
-pub ints_pushed : (ps qs rs : List PlainVertex) (p : PlainVertex) (f : Fields) (text : List ℕ) (first : Option ℕ) (x y z : ℤ) → SFits w64 x → SFits w64 y → SFits w64 z → f ≡ ints_inside → AreKept ps f
-    → qs ≡ ps → rs ≡ qs ++ p ∷ [] → p.ints ≡ to_z w64 (of_z w64 x) ∷ to_z w64 (of_z w64 y) ∷ to_z w64 (of_z w64 z) ∷ [] → p.name ≡ text → kept_number p.arcs ≡ first
-    → AreMore ps f rs f (vertex_with_ints text first x y z)
-ints_pushed ps qs rs p f text first x y z i j k alone kept same pushed ints name arcs =
-    let whole : AreKept ps ints_inside = rw alone at kept in
-    rw alone
-    (vertex_pushed ps qs rs p ints_inside ints_inside ints_inside (vertex_with_ints text first x y z) whole same pushed refl (λ l. refl) refl
-    (λ room. ints_row ps p x y z (simp to_z-of_z at ints) room) refl name arcs)
 
 -- a column changed, which keeps its length
 columns_at : (f : List Util → List Util) (n k : ℕ) (columns : List (List Util)) → ((us : List Util) → length (f us) ≡ length us) → AreColumns n columns → AreColumns n (at_place f k columns)
@@ -328,62 +154,130 @@ columns_at f n zero (column ∷ columns) same are = (same column ∙ are.0, are.
 columns_at f n (suc k) (column ∷ columns) same are = (are.0, columns_at f n k columns same are.1)
 
 -- numbers put into a vertex keep the columns
-put_whole : (n v : ℕ) (x y z : ℤ) (columns : List (List Util)) → AreColumns n columns → AreColumns n (put_columns v x y z (number_columns columns))
-put_whole n v x y z columns are = search (rules, columns_at, length-at_place, length-map, columns)
+number_whole : (n : ℕ) (columns : List (List Util)) → AreColumns n columns → AreColumns n (number_columns columns)
+number_whole n columns are = search (rules, columns_at, length-map)
 
--- the vertices with numbers put
-pub record ArePut (old : List PlainVertex) (f : Fields) (new : List PlainVertex) (g : Fields) (v : ℕ) (x y z : ℤ) : Type 0 where
-  pub whole : AreKept new g
-  pub items : kept_items new g ≡ at_place (with_numbers x y z) v (map with_some_numbers (kept_items old f))
+put_whole : (n v : ℕ) (x y z : ℤ) (columns : List (List Util)) → AreColumns n columns → AreColumns n (put_columns v x y z columns)
+put_whole n v x y z columns are = search (rules, columns_at, length-at_place)
 
-pub are_put : (old : List PlainVertex) (f : Fields) (new : List PlainVertex) (p : PlainVertex) (v : ℕ) (x y z : ℤ) → AreKept old f → HoldNumbers old f new (record f { x = Inside; y = Inside; z = Inside }) → p ≡ get_or new v p
-    → ArePut old f (set new v (record p { ints = x ∷ y ∷ z ∷ [] })) (record f { x = Inside; y = Inside; z = Inside }) v x y z
-are_put old f new p v x y z kept hold here =
-    let last = set new v (record p { ints = x ∷ y ∷ z ∷ [] }) in
-    let g : Fields = record f { x = Inside; y = Inside; z = Inside } in
-    let put = put_all old f new p v x y z hold here in
-    let n = length old in
-    let columns = field_columns old f in
-    let table = ap (λ m. rows m (field_columns last g)) put.count
-    ∙ (ap (rows n) put.columns ∙ (put_rows n v x y z (number_columns columns) ∙ ap (at_place (put_numbers x y z) v) (number_rows n columns))) in
-    record {
-      whole = columns_kept n (length last) (put_columns v x y z (number_columns columns)) (field_columns last g) put.count put.columns (put_whole n v x y z columns kept);
-      items = ap (λ rs. with_fields (map bare_vertex last) rs) table
-          ∙ (ap (λ xs. with_fields xs (at_place (put_numbers x y z) v (map some_numbers (rows n columns)))) put.bare
-          ∙ (combined-at_second put_fields (put_numbers x y z) (with_util (put_numbers x y z)) v (map bare_vertex old) (map some_numbers (rows n columns)) (λ w fields. refl)
-          ∙ ap (at_place (with_numbers x y z) v) (combined-map_second put_fields some_numbers (with_util some_numbers) (map bare_vertex old) (rows n columns) (λ w fields. refl))));
-    }
+-- the rows of columns with a number in each place
+number_rows : (n : ℕ) (columns : List (List Util)) → rows n (number_columns columns) ≡ map some_numbers (rows n columns)
+number_rows n columns = simp (rows-map, map-map)
 
--- numbers taken, read off their clauses
-pub taken_from : (old : List PlainVertex) (f : Fields) (new : List PlainVertex) (g : Fields) → HoldNumbers old f new g → HoldNumbers old f new (record f { x = Inside; y = Inside; z = Inside })
-taken_from old f new g held = record { fields = refl; bare = held.bare; x = held.x; y = held.y; z = held.z }
+-- and with these
+put_rows : (n v : ℕ) (x y z : ℤ) (columns : List (List Util)) → rows n (put_columns v x y z columns) ≡ at_place (put_numbers x y z) v (rows n columns)
+put_rows n v x y z columns = simp (rows-at, at_place-at_place) (at_place-same _ (put_numbers x y z) v (rows n columns) (λ r. simp at_place-set))
 
--- as many vertices as before
-pub taken_long : (old : List PlainVertex) (f : Fields) (new : List PlainVertex) (g : Fields) → HoldNumbers old f new g → length new ≡ length old
-taken_long old f new g held = sym (length-map new bare_vertex) ∙ (ap length held.bare ∙ length-map old bare_vertex)
+-- what is kept of vertices whose fields are of these kinds
+pub kinds_record : (names : List (List ℕ)) (firsts : List ℕ) (f : Fields) (u v w x y z : Kind) → field_kinds f ≡ u ∷ v ∷ w ∷ x ∷ y ∷ z ∷ []
+    → kept_vertices names firsts f ≡ record { u = u; v = v; w = w; x = x; y = y; z = z; items = kept_items names firsts f }
+kinds_record names firsts f u v w x y z e = grind (arith)
+
+-- a column of integers has a number in each place
+ints_numbers : (n : ℕ) (c : Column) → column_kind c ≡ I → map number_or_zero (values n c) ≡ values n c
+ints_numbers n c is = grind (arith, map-map)
+
+-- fields that hold integers are made to
+pub held_already : (n : ℕ) (f : Fields) → AreIntegers f → HoldNumbers n f f
+held_already n f are = record {
+  u = refl;
+  v = refl;
+  w = refl;
+  kinds = are;
+  columns = rw (ints_numbers n f.x are.x, ints_numbers n f.y are.y, ints_numbers n f.z are.z) refl;
+}
+
+-- the columns stay whole
+held_columns : (n : ℕ) (f g : Fields) → AreColumns n (field_columns n f) → HoldNumbers n f g → AreColumns n (field_columns n g)
+held_columns n f g are held = subst (AreColumns n) (sym held.columns) (number_whole n (field_columns n f) are)
+
+-- each field has each place then
+pub held_values : (n k : ℕ) (f g : Fields) → AreColumns n (field_columns n f) → HoldNumbers n f g → k < n → HaveValues k g
+held_values n k f g are held below = have_values n k g (held_columns n f g are held) below
 
 -- the vertices with numbers written
-pub record AreWritten (old : List PlainVertex) (f : Fields) (new : List PlainVertex) (g : Fields) (v : ℕ) (x y z : ℤ) : Type 0 where
-  pub whole : AreKept new g
-  pub same : kept_vertices new g ≡ record (kept_vertices old f) { x = I; y = I; z = I; items = at_place (with_numbers x y z) v (map with_some_numbers (kept_items old f)) }
+pub record AreWritten (names : List (List ℕ)) (firsts : List ℕ) (f g : Fields) (v : ℕ) (x y z : ℤ) : Type 0 where
+  pub whole : AreKept names firsts g
+  pub same : kept_vertices names firsts g ≡ record (kept_vertices names firsts f) { x = I; y = I; z = I; items = at_place (with_numbers x y z) v (map with_some_numbers (kept_items names firsts f)) }
 
-are_written : (n : ℕ) (old : List PlainVertex) (f : Fields) (new : List PlainVertex) (g : Fields) (p : PlainVertex) (v : ℕ) (x y z : ℤ) → length old ≡ n → AreKept old f → HoldNumbers old f new g
-    → p ≡ get_or (take n (new ++ drop (length new) old)) v p
-    → AreWritten old f (set (take n (new ++ drop (length new) old)) v (record p { ints = x ∷ y ∷ z ∷ [] })) g v x y z
-are_written n old f new g p v x y z count kept held =
-    let q : PlainVertex = record p { ints = x ∷ y ∷ z ∷ [] } in
-    subst (λ (ps : List PlainVertex). p ≡ get_or ps v p → AreWritten old f (set ps v q) g v x y z) (sym (take_written n new (drop (length new) old) (sym (taken_long old f new g held ∙ count))))
-    (λ here.
-    let put = are_put old f new p v x y z kept (taken_from old f new g held) here in
-    subst (λ (h : Fields). AreWritten old f (set new v q) h v x y z) (sym held.fields) (record {
-      whole = put.whole;
-      same = ap (λ (xs : List Vertex). record (kept_vertices old f) { x = I; y = I; z = I; items = xs }) put.items;
-    }))
+-- where the fields f were made to hold integers, as h, and then the numbers put
+pub are_written : (names : List (List ℕ)) (firsts : List ℕ) (f h g : Fields) (v : ℕ) (x y z : ℤ) → AreKept names firsts f → HoldNumbers (length names) f h → field_kinds g ≡ field_kinds h
+    → ((n : ℕ) → field_columns n g ≡ put_columns v x y z (field_columns n h)) → AreWritten names firsts f g v x y z
+are_written names firsts f h g v x y z kept held kinds put =
+    let n = length names in
+    let bare = combined bare_vertex names firsts in
+    let columns = field_columns n f in
+    let last : field_columns n g ≡ put_columns v x y z (number_columns columns) = put n ∙ ap (put_columns v x y z) held.columns in
+    let table = ap (rows n) last ∙ (put_rows n v x y z (number_columns columns) ∙ ap (at_place (put_numbers x y z) v) (number_rows n columns)) in
+    let items : kept_items names firsts g ≡ at_place (with_numbers x y z) v (map with_some_numbers (kept_items names firsts f)) =
+    ap (λ rs. with_fields bare rs) table
+    ∙ (combined-at_second put_fields (put_numbers x y z) (with_util (put_numbers x y z)) v bare (map some_numbers (rows n columns)) (λ w fields. refl)
+    ∙ ap (at_place (with_numbers x y z) v) (combined-map_second put_fields some_numbers (with_util some_numbers) bare (rows n columns) (λ w fields. refl))) in
+    let of_kinds : field_kinds g ≡ column_kind f.u ∷ column_kind f.v ∷ column_kind f.w ∷ I ∷ I ∷ I ∷ [] =
+    kinds ∙ (rw (held.u, held.v, held.w, held.kinds.x, held.kinds.y, held.kinds.z) refl) in
+    record {
+      whole = record { count = kept.count; columns = subst (AreColumns n) (sym last) (put_whole n v x y z (number_columns columns) (number_whole n columns kept.columns)) };
+      same = kinds_record names firsts g (column_kind f.u) (column_kind f.v) (column_kind f.w) I I I of_kinds
+          ∙ ap (λ (xs : List Vertex). record (kept_vertices names firsts f) { x = I; y = I; z = I; items = xs }) items;
+    }
 
--- the same of numbers that pass through words of 64 bits
-pub written_in_words : (n : ℕ) (lent old : List PlainVertex) (f : Fields) (new : List PlainVertex) (g : Fields) (p : PlainVertex) (v : ℕ) (x y z : ℤ) → SFits w64 x → SFits w64 y → SFits w64 z
-    → length old ≡ n → AreKept old f → lent ≡ old → HoldNumbers lent f new g → p ≡ get_or (take n (new ++ drop (length new) old)) v p
-    → AreWritten old f (set (take n (new ++ drop (length new) old)) v (record p { ints = to_z w64 (of_z w64 x) ∷ to_z w64 (of_z w64 y) ∷ to_z w64 (of_z w64 z) ∷ [] })) g v x y z
-written_in_words n lent old f new g p v x y z i j k count kept same held here =
-    rw (to_z-of_z w64 x i, to_z-of_z w64 y j, to_z-of_z w64 z k)
-    (are_written n old f new g p v x y z count kept (subst (λ ps. HoldNumbers ps f new g) same held) here)
+-- columns with one row more
+columns_row : (n : ℕ) (columns : List (List Util)) (row : List Util) → length columns ≡ length row → AreColumns n columns → AreColumns (suc n) (with_row columns row)
+columns_row n [] _ long are = tt
+columns_row n (column ∷ columns) [] long are = absurd (omega (arith, long))
+columns_row n (column ∷ columns) (x ∷ row) long are = grind (arith, length_push, columns_row n columns row (omega (arith, long)) are.1)
+
+-- one vertex more
+pub record AreMore (names : List (List ℕ)) (firsts : List ℕ) (f : Fields) (more : List (List ℕ)) (others : List ℕ) (g : Fields) (x : Vertex) : Type 0 where
+  pub whole : AreKept more others g
+  pub same : kept_vertices more others g ≡ record (kept_vertices names firsts f) { items = kept_items names firsts f ++ x ∷ [] }
+
+kept_more : (names : List (List ℕ)) (firsts : List ℕ) (k : ℕ) (f g : Fields) (x : Vertex) → AreKept names firsts f → field_kinds g ≡ field_kinds f
+    → field_columns (suc (length names)) g ≡ with_row (field_columns (length names) f) x.util → length x.util ≡ 6 → kept_number k ≡ x.arcs → AreMore names firsts f (names ++ x.name ∷ []) (firsts ++ k ∷ []) g x
+kept_more names firsts k f g x kept kinds columns six arcs =
+    let n = length names in
+    let old = field_columns n f in
+    let bare = combined bare_vertex names firsts in
+    let long : length (names ++ x.name ∷ []) ≡ suc n = omega (arith, length_push names x.name) in
+    let table = ap (λ m. rows m (field_columns m g)) long ∙ (ap (rows (suc n)) columns ∙ rows-push n old x.util kept.columns (sym six)) in
+    let last : record (bare_vertex x.name k) { util = x.util } ≡ x = rw arcs refl in
+    let all : kept_items (names ++ x.name ∷ []) (firsts ++ k ∷ []) g ≡ kept_items names firsts f ++ x ∷ [] =
+    ap (λ rs. with_fields (combined bare_vertex (names ++ x.name ∷ []) (firsts ++ k ∷ [])) rs) table
+    ∙ (ap (λ xs. with_fields xs (rows n old ++ x.util ∷ [])) (combined-push bare_vertex names firsts x.name k (sym kept.count))
+    ∙ (combined-push put_fields bare (rows n old) (bare_vertex x.name k) x.util (same_length names firsts f kept)
+    ∙ ap (λ y. with_fields bare (rows n old) ++ y ∷ []) last)) in
+    record {
+      whole = record {
+        count = length_push firsts k ∙ (ap (λ m. m + 1) kept.count ∙ sym (length_push names x.name));
+        columns = subst (λ m. AreColumns m (field_columns m g)) (sym long) (subst (AreColumns (suc n)) (sym columns) (columns_row n old x.util (sym six) kept.columns));
+      };
+      same = kinds_record (names ++ x.name ∷ []) (firsts ++ k ∷ []) g (column_kind f.u) (column_kind f.v) (column_kind f.w) (column_kind f.x) (column_kind f.y) (column_kind f.z) kinds
+          ∙ ap (λ (xs : List Vertex). record (kept_vertices names firsts f) { items = xs }) all;
+    }
+
+-- the same, where room was taken before
+pub vertex_pushed : (names reserved more : List (List ℕ)) (firsts held others : List ℕ) (k : ℕ) (f h g : Fields) (x : Vertex) → AreKept names firsts f
+    → reserved ≡ names → more ≡ reserved ++ x.name ∷ [] → held ≡ firsts → others ≡ held ++ k ∷ [] → field_kinds h ≡ field_kinds f
+    → ((n : ℕ) → field_columns n h ≡ field_columns n f) → field_kinds g ≡ field_kinds h
+    → ((n : ℕ) → AreColumns n (field_columns n h) → field_columns (1 + n) g ≡ with_row (field_columns n h) x.util) → length x.util ≡ 6 → kept_number k ≡ x.arcs → AreMore names firsts f more others g x
+vertex_pushed names reserved more firsts held others k f h g x kept same pushed as_before put kinds columns of_kinds row six arcs =
+    let n = length names in
+    let more_by_one : suc n ≡ 1 + n = omega arith in
+    rw (pushed, same, put, as_before)
+    (kept_more names firsts k f g x kept (of_kinds ∙ kinds) (ap (λ m. field_columns m g) more_by_one ∙ row n (subst (AreColumns n) (sym (columns n)) kept.columns) ∙ ap (λ t. with_row t x.util) (columns n)) six arcs)
+
+-- what is kept stays so where room alone was taken
+pub still_kept : (names reserved : List (List ℕ)) (firsts held : List ℕ) (f h : Fields) → AreKept names firsts f → reserved ≡ names → held ≡ firsts → ((n : ℕ) → field_columns n h ≡ field_columns n f) → AreKept reserved held h
+still_kept names reserved firsts held f h kept same as_before columns =
+    rw (same, as_before) (record { count = kept.count; columns = subst (AreColumns (length names)) (sym (columns (length names))) kept.columns })
+
+-- numbers taken one after another: one more
+pub taken_more : (k : ℕ) (value : ℤ) (numbers : List ℤ) (us : List Util) (u : Util) → slice_get us k ≡ Some u → number_or_zero u ≡ Int value
+    → map (λ i. Int i) numbers ≡ take k (map number_or_zero us) → map (λ i. Int i) (numbers ++ value ∷ []) ≡ take (k + 1) (map number_or_zero us)
+taken_more k value numbers us u given some so_far =
+    let zs = map number_or_zero us in
+    let below : k < length zs = omega (arith, slice_get_within us k u given, length-map us number_or_zero) in
+    let here : get_or zs k (number_or_zero u) ≡ Int value = get_or-map number_or_zero us k u ∙ (ap number_or_zero (get_or_from_slice_get us k u u given) ∙ some) in
+    map_push (λ i. Int i) numbers value
+    ∙ (ap (λ ys. ys ++ Int value ∷ []) so_far
+    ∙ sym (take_more zs k (number_or_zero u) below ∙ ap (λ y. take k zs ++ y ∷ []) here))

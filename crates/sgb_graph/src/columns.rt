@@ -1,13 +1,16 @@
 //! The values of one utility field, of all vertices or of all arc records of a graph, kept by their kind.
 //!
 //! No value can stand where its kind forbids it, and the kinds of a graph are those of its columns.
-ghost use Rattle.std.specs.Prelude.{◌≡◌, ◌<◌, ◌+◌, ℕ, [], ◌∷◌, ◌++◌, slice_get, Some, OnOk};
+ghost use Rattle.std.specs.Prelude.{◌≡◌, ◌<◌, ◌+◌, ℕ, [], ◌∷◌, ◌++◌, map, slice_get, Some, IfOk, OnOk};
 ghost use Rattle.std.specs.Bool.{OnTrue};
 ghost use Rattle.sgb_graph.specs.Columns.{util_seen};
 ghost use Rattle.std.specs.List.{list_all};
 ghost use Rattle.sgb_graph.specs.Sound.{chain_fits, ref_fits, util_fits};
+ghost use Rattle.sgb_graph.specs.Growth.{at_place, number_or_zero};
 ghost use Rattle.sgb_graph.specs.inner.Columns.{HasPlace, HasRoom, HoldsMany, column_kind, util_kind, values};
 ghost use Rattle.sgb_graph.specs.declared.columns.Column.TheVariants.{Unused};
+ghost use Rattle.sgb_graph.specs.declared.fields.Kind.TheVariants.{I};
+ghost use Rattle.sgb_graph.specs.declared.fields.Util.TheVariants.{Int};
 
 use crate::fields::{Kind, Ref, Util, UtilRef};
 use crate::ranges::{chain_fits, ref_fits};
@@ -73,6 +76,14 @@ impl Column {
         matches!(self, Column::Unused)
     }
 
+    // Whether the field holds integers.
+    #[inline(always)]
+    pub(crate) fn is_of_ints(&self) -> bool
+        ensures { OnTrue result (column_kind self.now ≡ I) }
+    {
+        matches!(self, Column::Ints(_))
+    }
+
     // Takes room for one value more. The values stay, whether there is room or not.
     #[inline(always)]
     pub(crate) fn reserve(&mut self) -> Result<(), AllocError>
@@ -135,6 +146,44 @@ impl Column {
             Column::Texts(texts) => UtilRef::Str(&texts[k]),
             Column::Chains(chains) => UtilRef::Chain(chains[k]),
         }
+    }
+
+    // The integers of n values: 0 for a value that is none.
+    pub(crate) fn numbers(&self, alloc: Global, n: usize) -> Result<Vec<i64>, AllocError>
+        requires { HoldsMany n self.now }
+        ensures { IfOk result (λ numbers. map (λ i. Int i) numbers.items
+            ≡ map number_or_zero (values n self.now)) }
+    {
+        let mut numbers = Vec::with_capacity(alloc, n)?;
+        for k in 0..n {
+            numbers.push(own_number(self.get(k)))?;
+        }
+        Ok(numbers)
+    }
+
+    // Makes the value of place k, of a field that holds integers, this one.
+    #[inline(always)]
+    pub(crate) fn set_int(&mut self, k: usize, value: i64)
+        requires kind { column_kind self.old ≡ I }
+        requires place { HasPlace k self.old }
+        ensures kind { column_kind self.new ≡ I }
+        ensures values { (n : ℕ) → values n self.new
+            ≡ at_place (λ _. Int value) k (values n self.old) }
+    {
+        let Column::Ints(numbers) = self else {
+            return;
+        };
+        numbers[k] = value;
+    }
+}
+
+// The integer that the value is, or 0.
+fn own_number(value: UtilRef<'_>) -> i64
+    ensures { number_or_zero (util_seen value.entry) ≡ Int result }
+{
+    match value {
+        UtilRef::Int(number) => number,
+        _ => 0,
     }
 }
 

@@ -74,11 +74,12 @@ impl Graph {
             return Err(Panic::VeryBad);
         }
         let id = new_id(names.len());
+        let vertices = Vertices::named(alloc, names)?;
         Ok(Graph {
             id,
             m: 0,
             util: no_fields(),
-            vertices: Vertices::named(alloc, names),
+            vertices,
             records: Records::new(alloc, Kind::Z, Kind::Z),
         })
     }

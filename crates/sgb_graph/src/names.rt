@@ -2,10 +2,8 @@
 //!
 //! Each stands where its vertex will: the graph takes them over, and none is moved. Where their number is known before
 //! they are made, as that of a line graph, their room is taken at once: a vector that grows moves, and leaves holes behind.
-ghost use Rattle.std.specs.Prelude.{◌≡◌, [], ◌∷◌, ◌++◌, length, map, OnOk, OnErr, IfErr, IfOk, IsOkUnless};
-ghost use Rattle.sgb_graph.specs.inner.KeptVertices.{bare_named, bare_vertex};
+ghost use Rattle.std.specs.Prelude.{◌≡◌, ◌<◌, [], ◌∷◌, ◌++◌, Some, length, slice_get, OnOk, OnErr, IfErr, IfOk, IsOkUnless};
 
-use crate::vertices::PlainVertex;
 use sgb_vec::{Panic, Text};
 use std::alloc::Global;
 use std::marker::Model;
@@ -13,20 +11,15 @@ use std::marker::Model;
 /// The names of a graph's vertices, in their order. Contracts see them as a list of texts.
 #[derive(Drop)]
 pub struct Names {
-    // vertices of these names, which have no arcs
-    vertices: Vec<PlainVertex>,
+    texts: Vec<Text>,
 }
 
 impl Model for Names {
-    ghost use Rattle.std.specs.Prelude.{◌≡◌, List, ℕ, map};
-    ghost use Rattle.sgb_graph.specs.inner.KeptVertices.{bare_named, bare_vertex};
+    ghost use Rattle.std.specs.Prelude.{List, ℕ};
 
     ghost Value = { List (List ℕ) };
 
-    ghost view = { λ names. map (λ v. v.name) names.vertices.items };
-
-    ghost invariant = { λ names. map bare_vertex names.vertices.items
-        ≡ map bare_named (map (λ v. v.name) names.vertices.items) };
+    ghost view = { λ names. names.texts.items };
 }
 
 impl Names {
@@ -35,7 +28,7 @@ impl Names {
         ensures { result ≡ [] }
     {
         Names {
-            vertices: Vec::new(alloc),
+            texts: Vec::new(alloc),
         }
     }
 
@@ -46,8 +39,8 @@ impl Names {
         ensures ok { IfOk result (λ names. names ≡ []) }
         ensures memory { IsOkUnless result Panic.NoRoom }
     {
-        let vertices = Vec::with_capacity(alloc, count)?;
-        Ok(Names { vertices })
+        let texts = Vec::with_capacity(alloc, count)?;
+        Ok(Names { texts })
     }
 
     /// Appends a name.
@@ -58,9 +51,9 @@ impl Names {
         ensures err { OnErr result (self.new ≡ self.old) }
         ensures returned { IfErr result (λ text. text ≡ name) }
     {
-        match self.vertices.push(PlainVertex::new(name, None, [0; 3])) {
+        match self.texts.push(name) {
             Ok(()) => Ok(()),
-            Err(refused) => Err(refused.value.name),
+            Err(refused) => Err(refused.value),
         }
     }
 
@@ -68,14 +61,22 @@ impl Names {
     pub fn len(&self) -> usize
         ensures { result ≡ length self.now }
     {
-        self.vertices.len()
+        self.texts.len()
     }
 
-    // The vertices of these names, which have no arcs.
-    pub(crate) fn into_vertices(self) -> Vec<PlainVertex>
-        ensures { map bare_vertex result.items ≡ map bare_named self }
+    /// Name number `v`, counted from 0, below `len()`.
+    pub fn get(&self, v: u32) -> &Text
+        requires { v < length self.now }
+        ensures { slice_get self.now v ≡ Some result.now }
     {
-        let Names { vertices } = self;
-        vertices
+        &self.texts[v as usize]
+    }
+
+    // The names, one after another.
+    pub(crate) fn into_texts(self) -> Vec<Text>
+        ensures { result.items ≡ self }
+    {
+        let Names { texts } = self;
+        texts
     }
 }

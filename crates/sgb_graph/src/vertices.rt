@@ -1,6 +1,6 @@
-//! The vertices of a graph, in little memory: integers in the utility fields x, y, z stand in the vertex itself, all
-//! other utility fields beside.
-ghost use Rattle.std.specs.Prelude.{◌≡◌, ◌<◌, ◌+◌, ◌^◌, ◌++◌, ◌&&◌, [], ◌∷◌, length, map, slice_get, Some, IfSome, OnErr, OnOk};
+//! The vertices of a graph, column by column: the names of all, the first records of all, and the values of each utility
+//! field. So who reads one of these reads little else, and a field that is not used takes no memory.
+ghost use Rattle.std.specs.Prelude.{◌≡◌, ◌<◌, ◌+◌, ◌^◌, ◌++◌, ◌&&◌, [], ◌∷◌, length, map, slice_get, Some, IfOk, IfSome, OnErr, OnOk};
 ghost use Rattle.std.specs.Bool.{OnTrue};
 ghost use Rattle.std.specs.List.{list_all};
 ghost use Rattle.sgb_graph.specs.Columns.{vertex_seen};
@@ -10,31 +10,27 @@ ghost use Rattle.sgb_graph.specs.inner.Fitting.{vertex_fits_by};
 ghost use Rattle.sgb_graph.specs.Growth.{at_place, first_arc, new_vertex, with_first, with_numbers, with_some_numbers};
 ghost use Rattle.sgb_graph.specs.Parts.{vertex_with_ints};
 ghost use Rattle.sgb_graph.specs.inner.KeptRecords.{kept_number};
-ghost use Rattle.sgb_graph.specs.inner.KeptVertices.{AreKept, columns_fit, field_columns, field_kinds, ints_alone, kinds_of_vertices};
+ghost use Rattle.sgb_graph.specs.inner.KeptVertices.{columns_fit, field_columns, field_kinds, ints_alone, kinds_of_vertices};
 ghost use Rattle.sgb_graph.specs.declared.fields.Kind.TheVariants.{Z, I};
 
 // The utility fields of all vertices.
 mod fields;
-// A field that may hold integers in the vertices themselves.
-mod numbers;
-// A vertex as it is kept.
-mod plain;
 
 use crate::fields::{Kind, Vertex, VertexRef};
 use crate::kept_numbers::{keep_number, read_number};
 use crate::names::Names;
 use crate::ranges::chain_fits;
 use crate::room::put;
-use fields::{Fields, use_numbers};
-pub(crate) use plain::PlainVertex;
+use fields::Fields;
 use sgb_vec::Text;
 use std::alloc::{AllocError, Global};
 use std::marker::Model;
 
-// The vertices of a graph, one after another, and their utility fields beside them.
+// The vertices of a graph: their names, the first records of their lists of arcs, and their utility fields.
 #[derive(Drop)]
 pub(crate) struct Vertices {
-    plain: Vec<PlainVertex>,
+    names: Vec<Text>,
+    firsts: Vec<usize>,
     fields: Fields,
 }
 
@@ -43,21 +39,30 @@ impl Model for Vertices {
 
     ghost Value = { KeptVertices };
 
-    ghost view = { λ g. kept_vertices g.plain.items g.fields };
+    ghost view = { λ g. kept_vertices g.names.items g.firsts.items g.fields };
 
-    ghost invariant = { λ g. AreKept g.plain.items g.fields };
+    ghost invariant = { λ g. AreKept g.names.items g.firsts.items g.fields };
 }
 
 impl Vertices {
-    // The vertices of these names, with no arcs and no utility fields. It takes no memory.
-    pub(crate) fn named(alloc: Global, names: Names) -> Vertices
-        ensures { result
-            ≡ record { u = Z; v = Z; w = Z; x = Z; y = Z; z = Z; items = map new_vertex names } }
+    // The vertices of these names, with no arcs and no utility fields.
+    pub(crate) fn named(alloc: Global, names: Names) -> Result<Vertices, AllocError>
+        ensures { IfOk result (λ g. g ≡ record {
+          u = Z;
+          v = Z;
+          w = Z;
+          x = Z;
+          y = Z;
+          z = Z;
+          items = map new_vertex names;
+        }) }
     {
-        Vertices {
-            plain: names.into_vertices(),
+        let firsts = vec![in alloc; keep_number(None); names.len()]?;
+        Ok(Vertices {
+            names: names.into_texts(),
+            firsts,
             fields: Fields::new(alloc, [Kind::Z; 6]),
-        }
+        })
     }
 
     // No vertices, whose utility fields u, v, w, x, y, z are of these kinds. It takes no memory.
@@ -66,7 +71,8 @@ impl Vertices {
         ensures items { result.items ≡ [] }
     {
         Vertices {
-            plain: Vec::new(alloc),
+            names: Vec::new(alloc),
+            firsts: Vec::new(alloc),
             fields: Fields::new(alloc, kinds),
         }
     }
@@ -76,7 +82,7 @@ impl Vertices {
         ensures count { result ≡ length self.now.items }
         ensures small { result < 2 ^ 63 }
     {
-        self.plain.len()
+        self.names.len()
     }
 
     // What the utility fields hold.
@@ -91,7 +97,7 @@ impl Vertices {
         ensures { result ≡ list_all (vertex_fits_by (length self.now.items) m
             (kinds_of_vertices self.now)) self.now.items }
     {
-        all_fit(&self.plain, &self.fields, m)
+        all_fit(&self.firsts, &self.fields, m)
     }
 
     // Puts a vertex, whose utility fields are of the kinds here, after the others.
@@ -104,18 +110,20 @@ impl Vertices {
     {
         let Vertex { name, arcs, util } = vertex;
         self.fields.reserve()?;
-        self.plain.reserve(1)?;
-        let ints = self.fields.push(util);
-        put(&mut self.plain, PlainVertex::new(name, arcs, ints));
+        self.names.reserve(1)?;
+        self.firsts.reserve(1)?;
+        self.fields.push(util);
+        put(&mut self.names, name);
+        put(&mut self.firsts, keep_number(arcs));
         Ok(())
     }
 
-    // Whether they hold integers in x, y, z and nothing in u, v, w, so that nothing stands beside.
+    // Whether they hold integers in x, y, z and nothing in u, v, w.
     #[inline(always)]
     pub(crate) fn hold_ints_alone(&self) -> bool
         ensures { OnTrue result (kinds_of_vertices self.now ≡ ints_alone) }
     {
-        self.fields.are_ints_inside()
+        self.fields.are_ints_alone()
     }
 
     // Puts a vertex that holds integers in x, y, z and nothing in u, v, w, as the others do, after them.
@@ -134,12 +142,12 @@ impl Vertices {
             { items = self.old.items ++ vertex_with_ints name arcs x y z ∷ [] }) }
         ensures err { OnErr result (self.new ≡ self.old) }
     {
-        // Kinds do not tell that the integers stand in the vertices.
-        if !self.fields.are_ints_inside() {
-            return self.push(Vertex::with_ints(name, arcs, x, y, z));
-        }
-        self.plain.reserve(1)?;
-        put(&mut self.plain, PlainVertex::new(name, arcs, [x, y, z]));
+        self.fields.reserve()?;
+        self.names.reserve(1)?;
+        self.firsts.reserve(1)?;
+        self.fields.push_ints(x, y, z);
+        put(&mut self.names, name);
+        put(&mut self.firsts, keep_number(arcs));
         Ok(())
     }
 
@@ -148,7 +156,7 @@ impl Vertices {
         requires { v < length self.now.items }
         ensures { slice_get (map (λ x. x.name) self.now.items) v ≡ Some result.now }
     {
-        &self.plain[v as usize].name
+        &self.names[v as usize]
     }
 
     // The first record of the list of vertex `v < n`.
@@ -157,7 +165,7 @@ impl Vertices {
         ensures value { result ≡ first_arc self.now.items v }
         ensures small { IfSome result (λ k. k + 1 < 2 ^ 64) }
     {
-        read_number(self.plain[v as usize].arcs)
+        read_number(self.firsts[v as usize])
     }
 
     // Makes this the first record of the list of vertex `v < n`.
@@ -167,7 +175,7 @@ impl Vertices {
         ensures { self.new ≡ record self.old
             { items = with_first number v self.old.items } }
     {
-        self.plain[v as usize].arcs = keep_number(Some(number));
+        self.firsts[v as usize] = keep_number(Some(number));
     }
 
     // Vertex `v < n`.
@@ -175,42 +183,52 @@ impl Vertices {
         requires { v < length self.now.items }
         ensures { slice_get self.now.items v ≡ Some (vertex_seen result) }
     {
-        let plain = &self.plain[v as usize];
         VertexRef {
-            name: &plain.name,
-            arcs: read_number(plain.arcs),
-            util: self.fields.get(&plain.ints, v as usize),
+            name: &self.names[v as usize],
+            arcs: read_number(self.firsts[v as usize]),
+            util: self.fields.get(v as usize),
         }
     }
 
     // Puts three integers into the fields x, y, z of vertex `v < n`. These fields then hold integers in every vertex: 0
-    // where there was none. It takes no memory.
-    pub(crate) fn put_numbers(&mut self, v: u32, x: i64, y: i64, z: i64)
+    // where there was none. It takes memory where they did not.
+    pub(crate) fn put_numbers(
+        &mut self,
+        alloc: Global,
+        v: u32,
+        x: i64,
+        y: i64,
+        z: i64,
+    ) -> Result<(), AllocError>
         requires { v < length self.old.items }
-        ensures { self.new ≡ record self.old {
+        ensures ok { OnOk result (self.new ≡ record self.old {
           x = I;
           y = I;
           z = I;
           items = at_place (with_numbers x y z) v (map with_some_numbers self.old.items);
-        } }
+        }) }
+        ensures err { OnErr result (self.new ≡ self.old) }
     {
-        use_numbers(&mut self.plain, &mut self.fields);
-        self.plain[v as usize].ints = [x, y, z];
+        self.fields.hold_numbers(alloc, self.names.len())?;
+        self.fields.set_numbers(v as usize, x, y, z);
+        Ok(())
     }
 }
 
 // Whether all of these fit as many vertices as there are and m records.
-fn all_fit(plain: &[PlainVertex], fields: &Fields, m: usize) -> bool
-    ensures { result ≡ (list_all (λ p. chain_fits m (kept_number p.arcs)) plain.now
-        && columns_fit (length plain.now) m (field_kinds fields.now)
-        (field_columns plain.now fields.now)) }
+fn all_fit(firsts: &[usize], fields: &Fields, m: usize) -> bool
+    ensures { result ≡ (list_all (λ k. chain_fits m (kept_number k)) firsts.now
+        && columns_fit (length firsts.now) m (field_kinds fields.now)
+        (field_columns (length firsts.now) fields.now)) }
 {
-    firsts_fit(plain, m) && fields.fit(plain.len(), m)
+    firsts_fit(firsts, m) && fields.fit(firsts.len(), m)
 }
 
 // Whether the first record of each list is one of m, or none.
-fn firsts_fit(plain: &[PlainVertex], m: usize) -> bool
-    ensures { result ≡ list_all (λ p. chain_fits m (kept_number p.arcs)) plain.now }
+fn firsts_fit(firsts: &[usize], m: usize) -> bool
+    ensures { result ≡ list_all (λ k. chain_fits m (kept_number k)) firsts.now }
 {
-    plain.iter().all(|vertex| vertex.fits(m))
+    firsts
+        .iter()
+        .all(|first| chain_fits(m, read_number(*first)))
 }

@@ -167,7 +167,7 @@ impl Board {
         let mut graph = Graph::new(alloc, names)?;
         graph.reserve(self.records_count()?)?;
         self.add_arcs(&mut graph)?;
-        put_coordinates(&mut graph, &self.family);
+        put_coordinates(alloc, &mut graph, &self.family)?;
         graph.set_id(self.id());
         Ok(graph)
     }

@@ -157,7 +157,7 @@ impl Simplex {
         let mut graph = Graph::new(alloc, names)?;
         let places = self.places_of_graph(alloc);
         self.add_arcs(&mut graph, &places)?;
-        put_coordinates(&mut graph, &self.family);
+        put_coordinates(alloc, &mut graph, &self.family)?;
         graph.set_id(self.id());
         Ok(graph)
     }

@@ -172,7 +172,7 @@ impl Subsets {
         let names = vector_names(alloc, &self.family)?;
         let mut graph = Graph::new(alloc, names)?;
         self.add_arcs(&mut graph)?;
-        put_coordinates(&mut graph, &self.family);
+        put_coordinates(alloc, &mut graph, &self.family)?;
         graph.set_id(self.id());
         Ok(graph)
     }

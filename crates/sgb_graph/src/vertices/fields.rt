@@ -1,14 +1,12 @@
 //! The utility fields of all vertices, each by its kind.
-ghost use Rattle.std.specs.Prelude.{◌≡◌, ◌++◌, List, [], ◌∷◌, length, map, slice_get, Some, OnOk};
+ghost use Rattle.std.specs.Prelude.{◌≡◌, ◌<◌, ◌+◌, ℕ, [], ◌∷◌, map, slice_get, Some, OnErr, OnOk};
 ghost use Rattle.std.specs.Bool.{OnTrue};
 ghost use Rattle.sgb_graph.specs.Columns.{util_seen};
-ghost use Rattle.sgb_graph.specs.inner.Columns.{util_kind, values};
-ghost use Rattle.sgb_graph.specs.inner.KeptVertices.{AreKept, HoldNumbers, columns_fit, field_columns, field_kinds, ints_inside};
-// For the search alone.
-ghost use Rattle.std.specs.Prelude.{◌+◌};
+ghost use Rattle.sgb_graph.specs.Growth.{put_numbers};
+ghost use Rattle.sgb_graph.specs.Made.{no_fields};
+ghost use Rattle.sgb_graph.specs.inner.Columns.{util_kind};
+ghost use Rattle.sgb_graph.specs.inner.KeptVertices.{AreColumns, AreIntegers, HaveRoom, HaveValues, HoldNumbers, columns_fit, field_columns, field_kinds, ints_alone, put_columns, rows, with_row};
 
-use super::numbers::{Numbers, take_numbers};
-use super::plain::PlainVertex;
 use crate::columns::Column;
 use crate::fields::{Kind, Util, UtilRef};
 use std::alloc::{AllocError, Global};
@@ -19,28 +17,25 @@ pub(super) struct Fields {
     u: Column,
     v: Column,
     w: Column,
-    x: Numbers,
-    y: Numbers,
-    z: Numbers,
+    x: Column,
+    y: Column,
+    z: Column,
 }
 
 impl Fields {
-    ghost use Rattle.sgb_graph.specs.inner.KeptVertices.{AreKept, HaveRoom, HaveValues, columns_fit, field_columns, rows, with_row};
-    ghost use Rattle.sgb_graph.specs.declared.vertices.plain.PlainVertex.{PlainVertex};
-
     // Fields of these kinds, with no values yet. They take no memory.
     pub(super) fn new(alloc: Global, kinds: [Kind; 6]) -> Fields
         ensures kinds { field_kinds result ≡ kinds }
-        ensures none { AreKept [] result }
+        ensures none { AreColumns 0 (field_columns 0 result) }
     {
         let [u, v, w, x, y, z] = kinds;
         Fields {
             u: Column::new(alloc, u),
             v: Column::new(alloc, v),
             w: Column::new(alloc, w),
-            x: Numbers::new(alloc, x),
-            y: Numbers::new(alloc, y),
-            z: Numbers::new(alloc, z),
+            x: Column::new(alloc, x),
+            y: Column::new(alloc, y),
+            z: Column::new(alloc, z),
         }
     }
 
@@ -58,24 +53,27 @@ impl Fields {
         ]
     }
 
-    // Whether x, y, z hold integers, which stand in the vertices, and u, v, w nothing.
+    // Whether x, y, z hold integers, and u, v, w nothing.
     #[inline(always)]
-    pub(super) fn are_ints_inside(&self) -> bool
-        ensures { OnTrue result (self.now ≡ ints_inside) }
+    pub(super) fn are_ints_alone(&self) -> bool
+        ensures { OnTrue result (field_kinds self.now ≡ ints_alone) }
     {
-        self.u.is_unused()
-            && self.v.is_unused()
-            && self.w.is_unused()
-            && self.x.is_inside()
-            && self.y.is_inside()
-            && self.z.is_inside()
+        self.u.is_unused() && self.v.is_unused() && self.w.is_unused() && self.are_integers()
+    }
+
+    // Whether x, y, z hold integers.
+    #[inline(always)]
+    fn are_integers(&self) -> bool
+        ensures { OnTrue result (AreIntegers self.now) }
+    {
+        self.x.is_of_ints() && self.y.is_of_ints() && self.z.is_of_ints()
     }
 
     // Takes room for the values of one vertex more. The values stay, whether there is room or not.
+    #[inline(always)]
     pub(super) fn reserve(&mut self) -> Result<(), AllocError>
         ensures kinds { field_kinds self.new ≡ field_kinds self.old }
-        ensures columns { (ps : List PlainVertex) → field_columns ps self.new
-            ≡ field_columns ps self.old }
+        ensures columns { (n : ℕ) → field_columns n self.new ≡ field_columns n self.old }
         ensures room { OnOk result (HaveRoom self.new) }
     {
         self.u.reserve()?;
@@ -87,30 +85,42 @@ impl Fields {
         Ok(())
     }
 
-    // Puts the values of a vertex after the others, for which there is room, and hands out the integers that the
-    // vertex is to have. It takes no memory.
-    pub(super) fn push(&mut self, values: [Util; 6]) -> [i64; 3]
+    // Puts the values of a vertex after the others, for which there is room. It takes no memory.
+    pub(super) fn push(&mut self, values: [Util; 6])
         requires kinds { map util_kind values ≡ field_kinds self.old }
         requires room { HaveRoom self.old }
         ensures kinds { field_kinds self.new ≡ field_kinds self.old }
-        ensures values { (ps : List PlainVertex) (p : PlainVertex) → p.ints ≡ result
-            → AreKept ps self.old
-            → field_columns (ps ++ p ∷ []) self.new ≡ with_row (field_columns ps self.old) values }
+        ensures values { (n : ℕ) → AreColumns n (field_columns n self.old)
+            → field_columns (1 + n) self.new ≡ with_row (field_columns n self.old) values }
     {
         let (u, v, w, x, y, z) = each(values);
         self.u.push(u);
         self.v.push(v);
         self.w.push(w);
-        let first = self.x.push(x);
-        let second = self.y.push(y);
-        let third = self.z.push(z);
-        [first, second, third]
+        self.x.push(x);
+        self.y.push(y);
+        self.z.push(z);
+    }
+
+    // The same of a vertex that holds integers in x, y, z and nothing in u, v, w, as the others do.
+    #[inline(always)]
+    pub(super) fn push_ints(&mut self, x: i64, y: i64, z: i64)
+        requires kinds { field_kinds self.old ≡ ints_alone }
+        requires room { HaveRoom self.old }
+        ensures kinds { field_kinds self.new ≡ ints_alone }
+        ensures values { (n : ℕ) → AreColumns n (field_columns n self.old)
+            → field_columns (1 + n) self.new
+            ≡ with_row (field_columns n self.old) (put_numbers x y z no_fields) }
+    {
+        self.x.push(Util::Int(x));
+        self.y.push(Util::Int(y));
+        self.z.push(Util::Int(z));
     }
 
     // Whether each vertex that is named is one of n, and each arc record one of m.
     pub(super) fn fit(&self, n: usize, m: usize) -> bool
-        ensures { (ps : List PlainVertex) → result ≡ columns_fit n m (field_kinds self.now)
-            (field_columns ps self.now) }
+        ensures { (k : ℕ) → result
+            ≡ columns_fit n m (field_kinds self.now) (field_columns k self.now) }
     {
         self.u.fits(n, m)
             && self.v.fits(n, m)
@@ -120,22 +130,63 @@ impl Fields {
             && self.z.fits(n, m)
     }
 
-    // The values of vertex k, which has these integers.
-    pub(super) fn get(&self, ints: &[i64; 3], k: usize) -> [UtilRef<'_>; 6]
+    // The values of vertex k.
+    pub(super) fn get(&self, k: usize) -> [UtilRef<'_>; 6]
         requires { HaveValues k self.now }
-        ensures { (ps : List PlainVertex) (p : PlainVertex) → slice_get ps k ≡ Some p → p.ints
-            ≡ ints.now → AreKept ps self.now
-            → slice_get (rows (length ps) (field_columns ps self.now)) k
-            ≡ Some (map util_seen result) }
+        ensures { (n : ℕ) → k < n → AreColumns n (field_columns n self.now)
+            → slice_get (rows n (field_columns n self.now)) k ≡ Some (map util_seen result) }
     {
         [
             self.u.get(k),
             self.v.get(k),
             self.w.get(k),
-            self.x.get(ints[0], k),
-            self.y.get(ints[1], k),
-            self.z.get(ints[2], k),
+            self.x.get(k),
+            self.y.get(k),
+            self.z.get(k),
         ]
+    }
+
+    // Makes the fields x, y, z of n vertices hold integers: 0 where a vertex had none. It takes memory where they held none.
+    #[inline(always)]
+    pub(super) fn hold_numbers(&mut self, alloc: Global, n: usize) -> Result<(), AllocError>
+        requires { AreColumns n (field_columns n self.old) }
+        ensures ok { OnOk result (HoldNumbers n self.old self.new) }
+        ensures err { OnErr result (self.new ≡ self.old) }
+    {
+        if self.are_integers() {
+            return Ok(());
+        }
+        self.take_numbers(alloc, n)
+    }
+
+    // The same, where one of them does not.
+    #[inline(never)]
+    fn take_numbers(&mut self, alloc: Global, n: usize) -> Result<(), AllocError>
+        requires { AreColumns n (field_columns n self.old) }
+        ensures ok { OnOk result (HoldNumbers n self.old self.new) }
+        ensures err { OnErr result (self.new ≡ self.old) }
+    {
+        let x = self.x.numbers(alloc, n)?;
+        let y = self.y.numbers(alloc, n)?;
+        let z = self.z.numbers(alloc, n)?;
+        self.x = Column::Ints(x);
+        self.y = Column::Ints(y);
+        self.z = Column::Ints(z);
+        Ok(())
+    }
+
+    // Puts integers into the fields x, y, z of vertex k, which hold integers.
+    #[inline(always)]
+    pub(super) fn set_numbers(&mut self, k: usize, x: i64, y: i64, z: i64)
+        requires kinds { AreIntegers self.old }
+        requires place { HaveValues k self.old }
+        ensures kinds { field_kinds self.new ≡ field_kinds self.old }
+        ensures columns { (n : ℕ) → field_columns n self.new
+            ≡ put_columns k x y z (field_columns n self.old) }
+    {
+        self.x.set_int(k, x);
+        self.y.set_int(k, y);
+        self.z.set_int(k, z);
     }
 }
 
@@ -145,14 +196,4 @@ fn each(values: [Util; 6]) -> (Util, Util, Util, Util, Util, Util)
 {
     let [u, v, w, x, y, z] = values;
     (u, v, w, x, y, z)
-}
-
-// Makes the fields x, y, z hold integers, which stand in the vertices: 0 where a vertex had none.
-pub(super) fn use_numbers(plain: &mut [PlainVertex], fields: &mut Fields)
-    requires { AreKept plain.old fields.old }
-    ensures { HoldNumbers plain.old fields.old plain.new fields.new }
-{
-    take_numbers(plain, 0, &mut fields.x);
-    take_numbers(plain, 1, &mut fields.y);
-    take_numbers(plain, 2, &mut fields.z);
 }

@@ -16,7 +16,7 @@ loop-u-preserved g c =
     let z : read c.entry-z.result ≡ pos (slice_index v 2) = to_z-of_z w64 c.entry-z.result (search rules) ∙ c.entry-z.ensures in
     let now = c.loop-u.graph in
     let new = c.set_vertex_ints.new.self in
-    let h = c.set_vertex_ints.ensures in
+    let h = c.in_ok-set_vertex_ints.ensures in
     let put : PutsCoordinates u v now new = record { whole = cc h.«data»; chains = h.chains; names = h.names; fields = cc h.fields } in (
       next_left vectors c.loop-u.left c.advance-some.new.self u c.loop-u.invariant.0 c.advance-some.ensures.rest,
       coordinates-more vectors u v c.args.graph.now now new here c.loop-u.invariant.1 put,

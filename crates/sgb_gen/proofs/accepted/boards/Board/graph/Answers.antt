@@ -16,4 +16,4 @@ put_coordinates-requires-clause-fields c = fields_unused (box c.self.inside.fami
 pub returns : goal.returns
 returns c =
     let b = c.args.self.now in
-    graph_made (board_id b) _ b.directed (box b.sizes) (box c.self.inside.family) (moves_of_board b) _ _ _ _ _ (ap (λ d. box d.sizes) c.self.view_is) c.in_ok-names.ensures.ok (c.reserve.ensures.kept ∙ c.in_ok-graph.ensures.ok) c.in_ok-add_arcs.ensures.ok c.put_coordinates.ensures c.set_id.ensures c.id.ensures
+    graph_made (board_id b) _ b.directed (box b.sizes) (box c.self.inside.family) (moves_of_board b) _ _ _ _ _ (ap (λ d. box d.sizes) c.self.view_is) c.in_ok-names.ensures.ok (c.reserve.ensures.kept ∙ c.in_ok-graph.ensures.ok) c.in_ok-add_arcs.ensures.ok c.in_ok-put_coordinates.ensures.ok c.set_id.ensures c.id.ensures

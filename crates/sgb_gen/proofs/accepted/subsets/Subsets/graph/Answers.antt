@@ -11,4 +11,4 @@ put_coordinates-requires-clause-fields c = fields_unused (bounded_sums c.self.in
 pub returns : goal.returns
 returns c =
     let s = c.args.self.now in
-    graph_made (subsets_id s) _ s.directed (subsets_vectors s) (bounded_sums c.self.inside.family.total c.self.inside.family.bounds) (moves_of_subsets s) _ _ _ _ _ (ap (λ d. bounded_sums d.sum.total d.sum.bounds) c.self.view_is) c.in_ok-names.ensures.ok (c.in_ok-graph.ensures.ok) c.in_ok-add_arcs.ensures.ok c.put_coordinates.ensures c.set_id.ensures c.id.ensures
+    graph_made (subsets_id s) _ s.directed (subsets_vectors s) (bounded_sums c.self.inside.family.total c.self.inside.family.bounds) (moves_of_subsets s) _ _ _ _ _ (ap (λ d. bounded_sums d.sum.total d.sum.bounds) c.self.view_is) c.in_ok-names.ensures.ok (c.in_ok-graph.ensures.ok) c.in_ok-add_arcs.ensures.ok c.in_ok-put_coordinates.ensures.ok c.set_id.ensures c.id.ensures
