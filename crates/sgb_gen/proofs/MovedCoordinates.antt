@@ -1,15 +1,17 @@
 -- A place, by the coordinates that a displacement moves.
-use Rattle.std.proofs.Common.{◌≡◌, ℕ, zero, suc, ◌+◌, ◌<◌, ℤ, pos, negsuc, ◌+ℤ◌, ◌*ℤ◌, Bool, ◌&&◌, cond, List, [], ◌∷◌, ◌++◌, length, get_or, drop, set, Option, Some, None, refl, sym, ap, ap₂, ◌∙◌, arith, append_assoc, length-append, length-set}
-use Rattle.std.specs.List.{All}
-use Rattle.std.specs.Option.{is_some, option_map_or, unwrap_or}
+use Rattle.std.proofs.Common.{◌≡◌, ℕ, zero, suc, ◌+◌, ◌<◌, ℤ, pos, negsuc, ◌+ℤ◌, ◌*ℤ◌, Bool, cond, List, [], ◌∷◌, ◌++◌, length, map, get_or, drop, set, Option, Some, None, refl, sym, ap, ap₂, ◌∙◌, arith, append_assoc, length-append, length-set, get_or-set_other, ◌≢◌, inl, inr}
+use Rattle.std.specs.List.{All, AllByRecursion}
+use Rattle.std.specs.Option.{option_map_or, unwrap_or}
 use Rattle.std.proofs.Math.Seq.{set-append_seam}
 use Rattle.std.proofs.lemmas.Int.{ints}
+use Rattle.std.proofs.lemmas.Bool.{cases_eq}
+use Rattle.std.proofs.lemmas.Grind.{get_or-set_at, same_number_lists}
 use Rattle.std.proofs.lemmas.List.{at_drop_more, drop_all}
 use Rattle.std.proofs.lemmas.List.Elements.{All-cons, All-nil, AllZip-get_or, length_all_zip}
 use Rattle.sgb_vec.specs.Lexicographic.{IsBelow}
-use Rattle.sgb_gen.specs.Moves.{sides_of, in_front, place}
+use Rattle.sgb_gen.specs.Moves.{sides_of, in_front, opposite, place}
 use Rattle.sgb_gen.specs.MovedCoordinates.{part_at, parts_from, parts_of, parts_put}
-use Rattle.sgb_gen.specs.inner.MovedCoordinates.{parts_stay}
+use Rattle.sgb_gen.specs.inner.MovedCoordinates.{AgreeBut, parts_stay}
 use Rattle.sgb_gen.proofs.Places.{after_known, after_known-none, after_known-push, coordinates_from, coordinates-step}
 use Rattle.sgb_gen.proofs.TurnedMoves.{side_itself}
 
@@ -29,15 +31,9 @@ abbrev chosen : Bool → List ℕ → Option (List ℕ)
 chosen b v = cond b (Some v) None
 
 module _ (sizes : List ℕ) (wrap : ℤ) (x : List ℕ) (l : ℕ) where
-  one_put : (p : ℕ × ℤ) (parts : List (ℕ × ℤ)) (there : List ℕ) (o : Option ℕ)
-      → ((w : List ℕ) → moved_by sizes wrap x l parts w ≡ chosen (parts_stay sizes wrap x l parts) (parts_put sizes wrap x l parts w))
-      → option_map_or (λ c. moved_by sizes wrap x l parts (set there p.0 c)) o None
-      ≡ chosen (is_some o && parts_stay sizes wrap x l parts) (parts_put sizes wrap x l parts (set there p.0 (unwrap_or o 0)))
-  one_put p parts there o rest = grind (arith, set)
-
   all_put : (parts : List (ℕ × ℤ)) (there : List ℕ) → moved_by sizes wrap x l parts there ≡ chosen (parts_stay sizes wrap x l parts) (parts_put sizes wrap x l parts there)
   all_put [] there = refl
-  all_put (p ∷ parts) there = one_put p parts there (part_at sizes wrap x l p) (all_put parts)
+  all_put (p ∷ parts) there = let rest = all_put parts in grind (arith, rest, set)
 
   -- ---- a place, coordinate by coordinate
 
@@ -83,7 +79,40 @@ pub length-put : (sizes : List ℕ) (wrap : ℤ) (x : List ℕ) (l : ℕ) (parts
 length-put sizes wrap x l [] there = refl
 length-put sizes wrap x l (p ∷ parts) there = simp (set, length-set, length-put sizes wrap x l parts (set there p.0 (unwrap_or (part_at sizes wrap x l p) 0)))
 
+-- ---- a vector that differs in no others
+
+module _ (sizes : List ℕ) (wrap : ℤ) (x : List ℕ) (l : ℕ) where
+  put_elsewhere : (parts : List (ℕ × ℤ)) (v : List ℕ) (k : ℕ) → AllByRecursion (λ j. k ≢ j) (map (λ p. p.0) parts) → get_or (parts_put sizes wrap x l parts v) k 0 ≡ get_or v k 0
+  put_elsewhere [] v k other = refl
+  put_elsewhere (p ∷ parts) v k other =
+      let c = unwrap_or (part_at sizes wrap x l p) 0 in put_elsewhere parts (set v p.0 c) k other.1 ∙ get_or-set_other v p.0 k c 0 other.0
+
+  -- it goes on to do so when they are put
+  pub agree_put : (parts : List (ℕ × ℤ)) (v w : List ℕ) → AgreeBut (map (λ p. p.0) parts) v w → AgreeBut (map (λ p. p.0) parts) (parts_put sizes wrap x l parts v) w
+  agree_put parts v w same =
+      let long = length-put sizes wrap x l parts v in (long ∙ same.0, λ k within other. put_elsewhere parts v k other ∙ same.1 k (omega (arith, within, long)) other)
+
+  -- and is then the same
+  pub put_over : (parts : List (ℕ × ℤ)) (v w : List ℕ) → AgreeBut (map (λ p. p.0) parts) v w → parts_put sizes wrap x l parts v ≡ parts_put sizes wrap x l parts w
+  put_over [] v w same = same_number_lists v w same.0 (λ k within. same.1 k within tt)
+  put_over (p ∷ parts) v w same =
+      let c = unwrap_or (part_at sizes wrap x l p) 0 in
+      put_over parts (set v p.0 c) (set w p.0 c) (
+        length-set v p.0 c ∙ same.0 ∙ sym (length-set w p.0 c),
+        λ k within other. elim (cases_eq k p.0) [
+          | inl here ↦ grind (arith, same.0, get_or-set_at, length-set)
+          | inr away ↦ let h = same.1 k (omega (arith, within, length-set v p.0 c)) (away, other) in grind (arith, h, get_or-set_other)
+        ],
+      )
+
 -- ---- their numbers
+
+-- the opposite displacement moves the same
+pub moved_opposite : (n : ℕ) (t : List ℤ) → map (λ p. p.0) (parts_from n (opposite t)) ≡ map (λ p. p.0) (parts_from n t)
+moved_opposite n [] = refl
+moved_opposite n (pos zero ∷ t) = moved_opposite (n + 1) t
+moved_opposite n (pos (suc c) ∷ t) = ap (λ ks. n ∷ ks) (moved_opposite (n + 1) t)
+moved_opposite n (negsuc c ∷ t) = ap (λ ks. n ∷ ks) (moved_opposite (n + 1) t)
 
 parts-within : (k n : ℕ) (t : List ℤ) → k + length t ≡ n → All (λ p. p.0 < n) (parts_from k t)
 parts-within k n [] e = All-nil (λ (p : ℕ × ℤ). p.0 < n)

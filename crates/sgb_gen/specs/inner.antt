@@ -26,7 +26,7 @@ pub mod Moves
 pub mod Simplexes
 -- what the parameters of accepted subsets keep
 pub mod Subsets
--- moved coordinates that stay on the board
+-- moved coordinates that stay on the board, and vectors that differ in no others
 pub mod MovedCoordinates
 -- a list that is had run by run
 pub mod StraightLists

@@ -186,25 +186,6 @@ pub(crate) fn put_parts(
     }
 }
 
-/// Puts the place at length `l` from `x`, by a displacement that moves these coordinates and leads to one, into `there`.
-#[inline(always)]
-pub(crate) fn put_placed(
-    sizes: &[u32],
-    wrap: i64,
-    x: &[u32],
-    parts: &[Part],
-    l: u32,
-    there: &mut Vector,
-)
-    requires few { length sizes.now ≤ most_dimensions }
-    requires below { IsBelow x.now sizes.now }
-    requires parts { All (λ p. p.0 < length sizes.now) parts.now }
-    ensures { there.new.items ≡ parts_put sizes.now wrap x.now l parts.now x.now }
-{
-    put_vector(x, there);
-    put_parts(sizes, wrap, x, parts, l, there.as_mut_slice());
-}
-
 // Puts these coordinates where they lead at length `l` from `x` into their places of `there`, where all of them lead to
 // coordinates. `false` where one does not; what `there` holds is then open.
 fn move_parts(
@@ -231,8 +212,8 @@ fn move_parts(
     true
 }
 
-// Puts the vector `x` into `there`, which is as long as it as a rule.
-fn put_vector(x: &[u32], there: &mut Vector)
+/// Puts the vector `x` into `there`, which is as long as it as a rule.
+pub(crate) fn put_vector(x: &[u32], there: &mut Vector)
     requires { length x.now ≤ most_dimensions }
     ensures { there.new.items ≡ x.now }
 {

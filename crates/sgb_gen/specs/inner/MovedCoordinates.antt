@@ -1,6 +1,6 @@
--- Whether moved coordinates stay on the board.
-use Rattle.std.specs.Prelude.{◌≡◌, ◌<◌, ◌≤◌, ◌+◌, ℕ, ℤ, Bool, true, List, get_or, is_some, length}
-use Rattle.std.specs.List.{list_all}
+-- Whether moved coordinates stay on the board, and where two vectors differ in no others.
+use Rattle.std.specs.Prelude.{◌≡◌, ◌≢◌, ◌<◌, ◌≤◌, ◌+◌, ℕ, ℤ, Bool, true, List, get_or, is_some, length, map}
+use Rattle.std.specs.List.{AllByRecursion, list_all}
 use Rattle.sgb_gen.specs.MovedCoordinates.{part_at, parts_of}
 use Rattle.sgb_gen.specs.Moves.{opposite}
 
@@ -15,3 +15,11 @@ StayAtOne sizes wrap x t = (parts_stay sizes wrap x 1 (parts_of t) ≡ true) × 
 -- each coordinate has this much room on both sides
 abbrev pub IsInside : ℕ → List ℕ → List ℕ → Type 0
 IsInside room sizes x = (k : ℕ) → k < length sizes → (room ≤ get_or x k 0) × (get_or x k 0 + room < get_or sizes k 0)
+
+-- the numbers of the coordinates that a displacement moves
+abbrev pub moved_of : List ℤ → List ℕ
+moved_of t = map (λ p. p.0) (parts_of t)
+
+-- two vectors of one length differ in no other coordinates than these
+abbrev pub AgreeBut : List ℕ → List ℕ → List ℕ → Type 0
+AgreeBut ks v w = (length v ≡ length w) × ((k : ℕ) → k < length v → AllByRecursion (λ j. k ≢ j) ks → get_or v k 0 ≡ get_or w k 0)

@@ -15,14 +15,15 @@ ghost use Rattle.sgb_gen.specs.Moves.{opposite, sides_of};
 ghost use Rattle.sgb_gen.specs.Runs.{arc_along, arcs_along};
 ghost use Rattle.sgb_gen.specs.inner.EntryBounds.{displacements_within, entry_bounds};
 ghost use Rattle.sgb_gen.specs.inner.LocalBoards.{arcs_onward, moves_by};
+ghost use Rattle.sgb_gen.specs.inner.MovedCoordinates.{AgreeBut, moved_of};
 ghost use Rattle.sgb_gen.specs.inner.StraightLists.{IsInOrder, NeedsNoSort, arcs_back};
 
 use super::Board;
 use crate::arc_sinks::ArcSink;
 use crate::displacement_tables::DisplacementTable;
-use crate::moves::put_placed;
+use crate::moves::{put_parts, put_vector};
 use crate::steps::Step;
-use sgb_vec::Vector;
+use sgb_vec::{Family, Vector};
 
 impl Board {
     /// Hands the arcs of the vertex of `x` to a sink, by the displacements in a table, where those by each of them are had in
@@ -58,7 +59,7 @@ impl Board {
 
     // Hands out the arcs of `x` by the edges of the displacement `t`, whose opposite is `back`, where so many moves lead back
     // from `x`: those back to vectors after `x`, those ahead, the longer first, and those back to vectors before it. `there` is
-    // room for a place, here and below: what it holds does not count.
+    // room for a place: what it holds does not count. `x` is put there once; each arc puts the coordinates that `t` moves.
     pub(super) fn give_by<K: ArcSink<R, S>, R, S>(
         &self,
         x: &[u32],
@@ -86,12 +87,15 @@ impl Board {
     {
         let near = self.lengths_near(x, t, behind);
         let ahead = self.lengths_by(x, t);
+        prove!(x.len() == self.family.dims());
+        put_vector(x, there);
         self.give_lengths(x, back, near, behind, there, sink, room, out)?;
         self.give_lengths_down(x, t, ahead, there, sink, room, out)?;
         self.give_lengths(x, back, 0, near, there, sink, room, out)
     }
 
-    // Hands out the arcs from `x` by `t` of the lengths above `from` up to `to`.
+    // Hands out the arcs from `x` by `t` of the lengths above `from` up to `to`. Here and below `there` is `x` but for the
+    // coordinates that `t` moves.
     fn give_lengths<K: ArcSink<R, S>, R, S>(
         &self,
         x: &[u32],
@@ -106,12 +110,14 @@ impl Board {
         requires below { IsBelow x.now self.now.sizes }
         requires dimensions { length t.now ≡ length self.now.sizes }
         requires lengths { from ≤ to }
+        requires there { AgreeBut (moved_of t.now) there.old.items x.now }
         requires width { K.width sink.now ≡ length x.now }
         requires ready { K.ready sink.now room.old out.old }
         ensures given { AreGiven (K.took sink.now) (K.cut sink.now) room.old out.old
             (map (arc_along self.now.sizes self.now.wrap x.now (parts_of t.now))
             (range_with_len (from + 1) (to - from))) room.new out.new result }
         ensures ready { OnOk result (K.ready sink.now room.new out.new) }
+        ensures there { AgreeBut (moved_of t.now) there.new.items x.now }
     {
         for shorter in from..to {
             self.give_one(x, t, shorter + 1, there, sink, room, out)?;
@@ -132,12 +138,14 @@ impl Board {
     ) -> Result<(), K::Fault>
         requires below { IsBelow x.now self.now.sizes }
         requires dimensions { length t.now ≡ length self.now.sizes }
+        requires there { AgreeBut (moved_of t.now) there.old.items x.now }
         requires width { K.width sink.now ≡ length x.now }
         requires ready { K.ready sink.now room.old out.old }
         ensures given { AreGiven (K.took sink.now) (K.cut sink.now) room.old out.old
             (reverse (arcs_along self.now.sizes self.now.wrap x.now (parts_of t.now) to)) room.new
             out.new result }
         ensures ready { OnOk result (K.ready sink.now room.new out.new) }
+        ensures there { AgreeBut (moved_of t.now) there.new.items x.now }
     {
         for shorter in (0..to).rev() {
             self.give_one(x, t, shorter + 1, there, sink, room, out)?;
@@ -159,14 +167,23 @@ impl Board {
     ) -> Result<(), K::Fault>
         requires below { IsBelow x.now self.now.sizes }
         requires dimensions { length t.now ≡ length self.now.sizes }
+        requires there { AgreeBut (moved_of t.now) there.old.items x.now }
         requires width { K.width sink.now ≡ length x.now }
         requires ready { K.ready sink.now room.old out.old }
         ensures given { AreGiven (K.took sink.now) (K.cut sink.now) room.old out.old
             (arc_along self.now.sizes self.now.wrap x.now (parts_of t.now) l ∷ []) room.new out.new
             result }
         ensures ready { OnOk result (K.ready sink.now room.new out.new) }
+        ensures there { AgreeBut (moved_of t.now) there.new.items x.now }
     {
-        put_placed(self.sizes(), self.wrap, x, t.parts(), l, there);
+        put_parts(
+            self.sizes(),
+            self.wrap,
+            x,
+            t.parts(),
+            l,
+            there.as_mut_slice(),
+        );
         sink.put_arc(there.as_slice(), l, room, out)
     }
 }

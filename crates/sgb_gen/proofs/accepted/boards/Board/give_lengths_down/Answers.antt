@@ -17,4 +17,5 @@ loop-shorter-preserved g c =
       so_far_more (g.met.K.ArcSink.laws c.args.sink.now) _ _ _ _ _ _ _ _ _ _
           (lengths-last (arc_along b.sizes b.wrap c.args.x.now (parts_of c.args.t.now)) c.loop-shorter.shorter (omega arith)) c.loop-shorter.invariant.0 c.in_ok-give_one.ensures.given,
       c.in_ok-give_one.ensures.ready,
+      c.give_one.ensures.there,
     )

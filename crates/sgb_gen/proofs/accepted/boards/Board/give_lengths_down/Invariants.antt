@@ -1,6 +1,7 @@
-use Rattle.std.proofs.Common.{◌≡◌, reverse}
+use Rattle.std.proofs.Common.{reverse}
 use Rattle.sgb_gen.specs.MovedCoordinates.{parts_of}
 use Rattle.sgb_gen.specs.Runs.{arcs_along}
+use Rattle.sgb_gen.specs.inner.MovedCoordinates.{AgreeBut, moved_of}
 use Rattle.sgb_gen.proofs.ArcsInTurn.{TakenSoFar}
 use Rattle.sgb_gen.proofs.accepted.boards.Board.give_lengths_down.Given as goal
 
@@ -11,3 +12,4 @@ invariant-loop-shorter g l =
     (reverse (arcs_along l.self.sizes l.self.wrap l.x (parts_of l.t) l.to))
     (reverse (arcs_along l.self.sizes l.self.wrap l.x (parts_of l.t) l.shorter)) l.fn.room l.fn.out l.room l.out
     × g.K.ArcSink.ready l.sink l.room l.out
+    × AgreeBut (moved_of l.t) l.there.items l.x

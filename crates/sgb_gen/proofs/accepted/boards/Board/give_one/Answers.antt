@@ -1,9 +1,13 @@
-use Rattle.std.proofs.Common.{◌∙◌, length, sym, ap, w64, to_z, of_z}
-use Rattle.sgb_gen.proofs.MovedCoordinates.{length-put}
+use Rattle.std.proofs.Common.{rules}
+use Rattle.sgb_gen.proofs.DisplacementWalk.{refill-all}
+use Rattle.sgb_gen.proofs.MovedCoordinates.{agree_put, length-put, put_over}
 use Rattle.sgb_gen.proofs.accepted.boards.Board.give_one.Goals as goal
 
 pub put_arc-requires-clause-width : goal.put_arc-requires-clause-width
-put_arc-requires-clause-width g c =
-    ap length (c.as_slice.ensures.value ∙ c.put_placed.ensures)
-    ∙ length-put c.sizes.result.now (to_z w64 (of_z w64 c.self.inside.wrap)) c.args.x.now c.args.l c.parts.result.now c.args.x.now
-    ∙ sym c.requires.width
+put_arc-requires-clause-width g c = search (rules, refill-all, length-put)
+
+pub returns-clause-given : goal.returns-clause-given
+returns-clause-given g c = search (rules, refill-all, length-put, put_over)
+
+pub returns-clause-there : goal.returns-clause-there
+returns-clause-there g c = search (rules, refill-all, length-put, agree_put)
