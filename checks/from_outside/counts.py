@@ -25,8 +25,8 @@ Row = collections.namedtuple("Row", "quick_way words saved is_begun instructions
 UNION = "gunion(board(30,30,0,0,1,0,0),board(30,30,0,0,2,0,0),0,0)"
 COMMON = "intersection(board(30,30,0,0,1,0,0),board(30,30,0,0,1,0,0),0,0)"
 ROWS = [
-    Row("arcs of a file, each of its line; chains that lead back", ("names", "stdin"), "complete(80)", False, 5_900_000, 30, 1),
-    Row("vertices of a file, each of its line", ("names", "stdin"), "board(40,40,0,0,7,0,0)", False, 1_650_000, 30, 1),
+    Row("arcs of a file, each of its line; chains that lead back", ("names", "stdin"), "complete(80)", False, 5_900_000, 60, 1),
+    Row("vertices of a file, each of its line", ("names", "stdin"), "board(40,40,0,0,7,0,0)", False, 1_750_000, 60, 1),
     Row("lists that are had run by run", ("list", "board(30,30,0,0,1,0,0)"), None, False, 1_720_000, 15, 4),
     Row("displacements in a table", ("list", "board(30,30,0,0,1,3,0)"), None, False, 1_900_000, 20, 4),
     Row("moves around a side, with no sort", ("list", "board(16,16,0,0,-1,3,0)"), None, False, 8_600_000, 30, 14),
