@@ -31,11 +31,29 @@ pub fn rows_of_run(alloc: Global, local: &Local, first: u32, count: u32) -> Resu
     ensures refused { IfErr result (IsRunRefusal (graph_described (described local.now)) first
         count) }
 {
+    rows_with_room(alloc, local, first, count, 0)
+}
+
+/// The same, with room for so many arcs from the start, where the caller knows how many there are to be.
+pub(crate) fn rows_with_room(
+    alloc: Global,
+    local: &Local,
+    first: u32,
+    count: u32,
+    room: usize,
+) -> Result<Rows, Wrong>
+    ensures rows { IfOk result (λ rows. IsThere (graph_described (described local.now)) first count
+        × AreRows (graph_described (described local.now)) first count rows.starts.items
+        rows.tips.items rows.lengths.items) }
+    ensures refused { IfErr result (IsRunRefusal (graph_described (described local.now)) first
+        count) }
+{
     let mut links = Links::new(alloc);
     let run = RowsOfRun {
         alloc,
         first,
         count,
+        room,
     };
     local.visit(run, &mut links)
 }
@@ -46,6 +64,7 @@ struct RowsOfRun {
     alloc: Global,
     first: u32,
     count: u32,
+    room: usize,
 }
 
 impl Visitor<Links> for RowsOfRun {
@@ -63,16 +82,17 @@ impl Visitor<Links> for RowsOfRun {
 impl<'a, L: Listed<'a>> Visit<'a, L, Links> for RowsOfRun {
     fn visit(self, listed: &mut L, links: &mut Links) -> Result<Rows, Wrong> {
         listed.prepare(links);
-        rows_in(self.alloc, listed, self.first, self.count, links)
+        rows_in(self.alloc, listed, self.first, self.count, self.room, links)
     }
 }
 
-// The lists of a run of a graph, by what a listing asks of it.
+// The lists of a run of a graph, by what a listing asks of it, with room for so many arcs from the start, here and below.
 fn rows_in<'a, L: Listed<'a>>(
     alloc: Global,
     listed: &mut L,
     first: u32,
     count: u32,
+    room: usize,
     links: &mut Links,
 ) -> Result<Rows, Wrong>
     ensures rows { IfOk result (λ rows. IsThere (graph_described (described_by (L.graph
@@ -86,7 +106,7 @@ fn rows_in<'a, L: Listed<'a>>(
         return Err(Wrong::Vertices);
     }
     let places = listed.places(links);
-    match put_rows(alloc, listed, &places, first, count, links) {
+    match put_rows(alloc, listed, &places, first, count, room, links) {
         Ok(rows) => Ok(rows),
         Err(_) => Err(Wrong::NoRoom),
     }
@@ -99,6 +119,7 @@ fn put_rows<'a, L: Listed<'a>>(
     places: &Option<L::Places>,
     first: u32,
     count: u32,
+    room: usize,
     links: &mut Links,
 ) -> Result<Rows, Panic>
     requires there { first + count ≤ length (L.graph listed.old).vectors }
@@ -108,7 +129,7 @@ fn put_rows<'a, L: Listed<'a>>(
     ensures memory { IsOkUnless result Panic.NoRoom }
 {
     let family = listed.family();
-    let mut rows = Rows::new(alloc, count as usize, 0)?;
+    let mut rows = Rows::new(alloc, count as usize, room)?;
     let mut left = vectors_from(family, first);
     // The vertices are numbers of 32 bits.
     let _size = family.size();

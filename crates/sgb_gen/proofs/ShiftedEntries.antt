@@ -4,7 +4,7 @@ use Rattle.std.proofs.lemmas.Bool.{and_parts, and_from, cases_eq, ltb-true}
 use Rattle.std.proofs.lemmas.Bool.Decides.{Decides-ltb}
 use Rattle.std.proofs.lemmas.List.{ext_get_or, get_or-set_same, get_or-set_other}
 use Rattle.sgb_vec.specs.Lexicographic.{IsBefore, IsWithin}
-use Rattle.sgb_gen.specs.Simplexes.{Places, unit_moved}
+use Rattle.sgb_gen.specs.Simplexes.{Places}
 use Rattle.sgb_gen.specs.inner.Simplexes.{can_shift, shifted}
 use Rattle.sgb_gen.specs.inner.LocalSimplexes.{can_return, returned}
 use Rattle.sgb_gen.proofs.OrderedLists.{before_at}
@@ -48,10 +48,6 @@ module _ (v : List ℕ) (i j a b : ℕ) (apart : i ≢ j) where
         | inl same ↦ grind (arith, set, get_or-set_same)
         | inr from_i ↦ grind (arith, get_or-set_other, cases_eq, set, get_or-set_same, written-other)
       ])
-
--- a vector stays as long when a unit goes
-pub length-moved : (v : List ℕ) (from to : ℕ) → length (unit_moved v from to) ≡ length v
-length-moved v from to = length-set (set v from (get_or v from 0 - 1)) to (get_or v to 0 + 1) ∙ length-set v from (get_or v from 0 - 1)
 
 -- what a unit that can go says of the entries
 pub can_shift-says : (bounds v : List ℕ) (at : Places) → can_shift bounds v at ≡ true → (0 < get_or v at.lower 0) × (get_or v at.higher 0 < get_or bounds at.higher 0)

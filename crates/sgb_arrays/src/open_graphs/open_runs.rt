@@ -14,7 +14,7 @@ use crate::refusals::Wrong;
 use crate::rows::Rows;
 use crate::run_arcs::arcs_of_run;
 use crate::run_names::{names_len_of_run, names_of_run};
-use crate::run_rows::rows_of_run;
+use crate::run_rows::rows_with_room;
 use crate::runs::is_there;
 use crate::strided_rows::{arcs_of_strided_run, fill_strided_rows, fill_strided_tips};
 use sgb_gen::{Links, Local};
@@ -288,7 +288,7 @@ fn fill_listed_rows(
         (IsListed (OpenGraph.Listed local.now) × (length starts.old ≡ count + 1)) why
         × (starts.new ≡ starts.old) × (tips.new ≡ tips.old) × (lengths.new ≡ lengths.old)) }
 {
-    match rows_for(alloc, local, first, count, starts.len()) {
+    match rows_for(alloc, local, first, count, starts.len(), tips.len()) {
         Ok(rows) => rows.copy_to(starts, tips, lengths),
         Err(wrong) => Err(wrong),
     }
@@ -346,7 +346,7 @@ fn fill_listed_tips(
         (IsListed (OpenGraph.Listed local.now) × (length starts.old ≡ count + 1)) why
         × (starts.new ≡ starts.old) × (tips.new ≡ tips.old)) }
 {
-    match rows_for(alloc, local, first, count, starts.len()) {
+    match rows_for(alloc, local, first, count, starts.len(), tips.len()) {
         Ok(rows) => rows.copy_tips_to(starts, tips),
         Err(wrong) => Err(wrong),
     }
@@ -379,13 +379,14 @@ fn fill_local_names(
     }
 }
 
-// The lists of a run of a generator's graph, for an array of so many starts.
+// The lists of a run of a generator's graph, for arrays of so many starts and tips.
 fn rows_for(
     alloc: Global,
     local: &Local,
     first: u32,
     count: u32,
     starts: usize,
+    tips: usize,
 ) -> Result<Rows, Wrong>
     ensures rows { IfOk result (λ rows. IsThere (graph_open (OpenGraph.Listed local.now)) first
         count × AreRows (graph_open (OpenGraph.Listed local.now)) first count rows.starts.items
@@ -399,7 +400,7 @@ fn rows_for(
     if starts as u64 != u64::from(count) + 1 {
         return Err(Wrong::Length);
     }
-    rows_of_run(alloc, local, first, count)
+    rows_with_room(alloc, local, first, count, tips)
 }
 
 // The names of a run of a generator's graph, for an array of so many starts.
