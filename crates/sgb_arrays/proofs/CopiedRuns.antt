@@ -13,14 +13,6 @@ use Rattle.sgb_arrays.specs.declared.refusals.Wrong.TheVariants as wrong
 use Rattle.sgb_arrays.specs.declared.rows.Rows.{Rows}
 use Rattle.sgb_arrays.proofs.RunSteps.{length-part_starts}
 
--- a refusal where less fits, and memory may be wanted more often
-pub refusal_wider : (g : GraphData) (first count : ℕ) (fits less memory more : Type 0) (why : Wrong) → (less → fits) → (memory → more)
-    → IsFillRefusal g first count fits memory why → IsFillRefusal g first count less more why
-refusal_wider g first count fits less memory more wrong.Vertices narrows widens said = said
-refusal_wider g first count fits less memory more wrong.Length narrows widens (there, out) = (there, λ fit. out (narrows fit))
-refusal_wider g first count fits less memory more wrong.NoRoom narrows widens (there, wanted) = (there, widens wanted)
-refusal_wider g first count fits less memory more _ narrows widens said = absurd said
-
 -- arrays of a run that is there do not fit
 pub unfit_there : (g : GraphData) (first count : ℕ) (fits memory : Type 0) (why : Wrong) → why ≡ wrong.Length → IsThere g first count → (fits → ⊥) → IsFillRefusal g first count fits memory why
 unfit_there g first count fits memory why is there out = subst (λ w. IsFillRefusal g first count fits memory w) (sym is) (there, out)

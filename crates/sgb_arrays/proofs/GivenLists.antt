@@ -60,11 +60,6 @@ table_last end (x ∷ xs) e =
     let same : length (x ∷ xs) - 1 ≡ length xs = omega arith in
     ap (λ k. get_or (x ∷ xs) k 0) same ∙ climbs_last end x xs (and_parts _ (climbs_to end x xs) e).1
 
--- a table has a first place
-pub table_some : (end : ℕ) (starts : List ℕ) → is_table end starts ≡ true → 1 ≤ length starts
-table_some end [] e = absurd (grind (arith, e))
-table_some end (x ∷ xs) e = omega arith
-
 and_both : (x y : Bool) → x ≡ true → y ≡ true → (x && y) ≡ true
 and_both true true e f = refl
 and_both true false e f = f

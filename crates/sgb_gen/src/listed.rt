@@ -4,7 +4,7 @@
 //! `BoardLists`, which makes a table only in `prepare`: names, sizes and where a listing begins take no memory; or by an
 //! `OrderedBoard`, which has its table, so that nothing after it wants memory. That moves have their ends among the
 //! vectors is a clause of `family` and no law: its proof would have to stand with the definitions.
-ghost use Rattle.std.specs.Prelude.{◌≡◌, ◌⊎◌, ◌≤◌, ◌^◌, length, map, slice_get, All, Contains, IfErr, IfOk, IfSome, IsOk, OnOk, IsOkUnless, Some};
+ghost use Rattle.std.specs.Prelude.{◌≡◌, ◌⊎◌, ◌≤◌, ◌^◌, length, map, slice_get, All, Contains, IfErr, IfNone, IfOk, IfSome, IsOk, OnOk, IsOkUnless, Some};
 ghost use Rattle.sgb_graph.specs.Graphs.{chain_of};
 ghost use Rattle.sgb_graph.specs.Made.{graph_described};
 ghost use Rattle.sgb_gen.specs.ArcSinks.{AreGiven};
@@ -103,10 +103,13 @@ pub trait Listed<'a> {
         ensures sort { sort self.new ≡ sort self.old };
 
     /// How many arcs are on the list of the vertex of `x`, where they are told without it, as a run asks: of a board that is
-    /// prepared, where its arcs are had in order with no sort, and of undirected subsets. No memory is taken.
+    /// prepared, where its arcs are had in order with no sort, and of undirected subsets. Of an `OrderedBoard` they are, where 64
+    /// bits hold the number. No memory is taken.
     fn count_at(&self, x: &[u32]) -> Option<u64>
         requires { Contains (graph self.now).vectors x.now }
-        ensures { IfSome result (λ m. m ≡ length (list_in (graph self.now) x.now)) };
+        ensures count { IfSome result (λ m. m ≡ length (list_in (graph self.now) x.now)) }
+        ensures ordered { sort self.now ≡ of_ordered_board
+            → IfNone result (2 ^ 64 ≤ length (list_in (graph self.now) x.now)) };
 
     /// The list of the vertex of `x` run by run, where it can be had so, of a board alone: no list is then made. No memory is
     /// taken.

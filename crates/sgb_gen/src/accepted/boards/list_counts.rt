@@ -2,7 +2,7 @@
 //!
 //! By each of them there are as many as moves lead ahead and, where there are edges, as lead back. That is said where the arcs
 //! by each displacement are had in order with no sort, as they are given (`given`).
-ghost use Rattle.std.specs.Prelude.{◌≡◌, length, nat_abs, All, Contains, IfSome};
+ghost use Rattle.std.specs.Prelude.{◌≡◌, ◌≤◌, ◌^◌, length, nat_abs, All, Contains, IfNone, IfSome};
 ghost use Rattle.sgb_vec.specs.Boxes.{box};
 ghost use Rattle.sgb_vec.specs.Lexicographic.{IsBelow};
 ghost use Rattle.sgb_gen.specs.Boards.{moves_of_board};
@@ -23,8 +23,10 @@ impl Board {
         requires table { table.now ≡ displacements_within (nat_abs self.now.piece)
             (entry_bounds (nat_abs self.now.piece) (sides_of self.now.sizes self.now.wrap)) }
         requires sorted { All (NeedsNoSort self.now) table.now }
-        ensures { IfSome result (λ m. m ≡ length (list_at self.now.directed (box self.now.sizes)
-            (moves_of_board self.now) x.now)) }
+        ensures count { IfSome result (λ m. m ≡ length (list_at self.now.directed
+            (box self.now.sizes) (moves_of_board self.now) x.now)) }
+        ensures none { IfNone result (2 ^ 64 ≤ length (list_at self.now.directed
+            (box self.now.sizes) (moves_of_board self.now) x.now)) }
     {
         let mut arcs: u64 = 0;
         for k in (0..table.len()).rev() {

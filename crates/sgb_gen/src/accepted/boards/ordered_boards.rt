@@ -3,7 +3,7 @@
 //!
 //! So it is where the graph is directed, or no side wraps around. The arcs of other boards may come in order too, which
 //! `BoardLists` finds out; what a listing says of memory beforehand is said of these.
-ghost use Rattle.std.specs.Prelude.{◌≡◌, ◌⊎◌, is_some, length, pos, true, Contains, IfOk, IfSome, IsOkUnless, OnOk};
+ghost use Rattle.std.specs.Prelude.{◌≡◌, ◌≤◌, ◌^◌, ◌⊎◌, is_some, length, pos, true, Contains, IfNone, IfOk, IfSome, IsOkUnless, OnOk};
 ghost use Rattle.std.specs.Bool.{OnFalse, OnTrue};
 ghost use Rattle.sgb_vec.specs.Boxes.{box};
 ghost use Rattle.sgb_gen.specs.ArcSinks.{AreGiven};
@@ -108,11 +108,14 @@ impl<'a> OrderedBoard<'a> {
             .runs_of(x, &self.table, self.straight, self.leaping, self.widest)
     }
 
-    /// How many arcs are on the list of the vertex of `x`, which is a vector of the board, with no list made. No memory is taken.
+    /// How many arcs are on the list of the vertex of `x`, which is a vector of the board, with no list made. `None` where 64 bits
+    /// do not hold the number, and nowhere else. No memory is taken.
     pub(crate) fn count_at(&self, x: &[u32]) -> Option<u64>
         requires { Contains (box self.now.sizes) x.now }
-        ensures { IfSome result (λ m. m ≡ length (list_at self.now.directed (box self.now.sizes)
-            (moves_of_board self.now) x.now)) }
+        ensures count { IfSome result (λ m. m ≡ length (list_at self.now.directed
+            (box self.now.sizes) (moves_of_board self.now) x.now)) }
+        ensures none { IfNone result (2 ^ 64 ≤ length (list_at self.now.directed
+            (box self.now.sizes) (moves_of_board self.now) x.now)) }
     {
         self.board.count_kept(x, &self.table)
     }

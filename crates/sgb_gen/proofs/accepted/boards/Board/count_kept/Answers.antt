@@ -24,5 +24,9 @@ pub loop-k-preserved : goal.loop-k-preserved
 loop-k-preserved c =
     omega (arith, c.in_ok-arcs.ensures.1, c.count_both_ways.ensures, c.loop-k.invariant, count_apart c.args.self.now c.args.x.now c.args.table.now c.loop-k.k c.at.result.now (omega arith) c.at.ensures)
 
-pub returns : goal.returns
-returns c = omega (arith, c.loop-k.invariant, ap length (none_first c.args.self.now c.args.x.now c.args.table.now c.loop-k.k (omega arith)))
+pub returns-clause-count : goal.returns-clause-count
+returns-clause-count c = omega (arith, c.loop-k.invariant, ap length (none_first c.args.self.now c.args.x.now c.args.table.now c.loop-k.k (omega arith)))
+
+pub returns-in_err-arcs-clause-none : goal.returns-in_err-arcs-clause-none
+returns-in_err-arcs-clause-none c =
+    rw c.from_residual.ensures (omega (arith, c.in_err-arcs.ensures, c.count_both_ways.ensures, c.loop-k.invariant, count_apart c.args.self.now c.args.x.now c.args.table.now c.loop-k.k c.at.result.now (omega arith) c.at.ensures))
