@@ -45,6 +45,7 @@ CALLS = [
     "Subsets::new",
     "complement",
     "gunion",
+    "complement_of",
     "gunion_of",
     "intersection",
     "lines",

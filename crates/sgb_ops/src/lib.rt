@@ -37,7 +37,7 @@ mod tallies;
 mod wheels;
 
 pub use bipartite_graphs::bi_complete;
-pub use complements::complement;
+pub use complements::{complement, complement_of};
 pub use gunions::{gunion, gunion_of};
 pub use induced_graphs::{Entry, induced, induced_from};
 pub use intersections::{intersection, intersection_of};
