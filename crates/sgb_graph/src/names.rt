@@ -2,7 +2,7 @@
 //!
 //! Each stands where its vertex will: the graph takes them over, and none is moved. Where their number is known before
 //! they are made, as that of a line graph, their room is taken at once: a vector that grows moves, and leaves holes behind.
-ghost use Rattle.std.specs.Prelude.{◌≡◌, [], ◌∷◌, ◌++◌, length, map, OnOk, OnErr, IfErr, IfOk, IsOkUnless};
+ghost use Rattle.std.specs.Prelude.{◌≡◌, [], ◌∷◌, ◌++◌, ◌<◌, Some, length, map, slice_get, OnOk, OnErr, IfErr, IfOk, IsOkUnless};
 ghost use Rattle.sgb_graph.specs.inner.KeptVertices.{bare_named, bare_vertex};
 
 use crate::vertices::PlainVertex;
@@ -69,6 +69,14 @@ impl Names {
         ensures { result ≡ length self.now }
     {
         self.vertices.len()
+    }
+
+    /// Name number `v`.
+    pub fn get(&self, v: u32) -> &Text
+        requires { v < length self.now }
+        ensures { slice_get self.now v ≡ Some result.now }
+    {
+        &self.vertices[v as usize].name
     }
 
     // The vertices of these names, which have no arcs.
