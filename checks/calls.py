@@ -46,6 +46,7 @@ CALLS = [
     "complement",
     "gunion",
     "complement_of",
+    "directed_lines_of",
     "gunion_of",
     "intersection",
     "lines",

@@ -45,7 +45,7 @@ pub use laws::{
     compound_ids_law, copies_law, lines_law, merged_are_apart, merging_law, taken_lead_up,
     taking_law,
 };
-pub use line_graphs::lines;
+pub use line_graphs::{directed_lines_of, lines};
 pub use products::product;
 pub use sources::Source;
 pub use wheels::wheel;

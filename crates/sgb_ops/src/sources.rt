@@ -11,10 +11,10 @@ ghost use Rattle.sgb_gen.specs.Strides.{lengths_to, tips_ahead, tips_back};
 ghost use Rattle.sgb_gen.specs.VectorGraphs.{described_by};
 ghost use Rattle.sgb_ops.specs.Taken.{taken};
 ghost use Rattle.sgb_ops.specs.inner.Ends.{event_of};
-ghost use Rattle.sgb_ops.specs.inner.Sources.{HasTips, bare, event_to, events_to, link_of};
+ghost use Rattle.sgb_ops.specs.inner.Sources.{HasTips, bare, event_to, events_to, link_of, names_held};
 
 use crate::events::Event;
-use crate::operands::names_of;
+use crate::operands::{VertexNames, names_of};
 use crate::taken::taken;
 use sgb_gen::{FlatLists, Strides};
 use sgb_graph::{Graph, Id, Link, Names};
@@ -97,6 +97,29 @@ impl<'a> Source<'a> {
         match &self.kept {
             SourceKind::Built(graph) => names_of(alloc, graph),
             SourceKind::Flat(lists) => lists.names(alloc),
+        }
+    }
+
+    /// The names of its vertices for who reads them, which are made where it is not built.
+    ///
+    /// `NoRoom` when out of memory, and nothing else.
+    pub(crate) fn vertex_names(&self, alloc: Global) -> Result<VertexNames<'_>, Panic>
+        ensures ok { IfOk result (λ names. names_held names ≡ names_of self.now) }
+        ensures memory { IsOkUnless result Panic.NoRoom }
+    {
+        let lists = match &self.kept {
+            SourceKind::Built(graph) => return Ok(VertexNames::Of(graph)),
+            SourceKind::Flat(lists) => lists,
+        };
+        let names = lists.names(alloc)?;
+        Ok(VertexNames::Made(names))
+    }
+
+    /// So many arcs are on its lists at most where that is known, and else 0: it is told for room alone.
+    pub(crate) fn most_arcs(&self) -> usize {
+        match &self.kept {
+            SourceKind::Built(graph) => graph.records_len(),
+            SourceKind::Flat(_) => 0,
         }
     }
 

@@ -20,10 +20,12 @@ use crate::kept::Kept;
 use crate::stdin::read_kept;
 pub use entries::numbered_entry;
 use entries::{EntryValue, graph_value, handed_entries};
-use list_operations::{OnList, OnLists, Operand, answer_of, answer_of_one, generated};
+use list_operations::{
+    OnList, OnLists, Operand, answer_of, answer_of_one, generated, lines_of_operand,
+};
 use sgb_expr::{EntryExpr, Expr, have_stdin};
 use sgb_graph::Graph;
-use sgb_ops::{bi_complete, induced_from, lines, product, wheel};
+use sgb_ops::{bi_complete, induced_from, product, wheel};
 use sgb_vec::Panic;
 use std::alloc::Global;
 
@@ -121,8 +123,8 @@ fn evaluate(
             more,
         ),
         Expr::Lines { graph, directed } => {
-            let operand = evaluate(alloc, graph, input, more)?;
-            lines(alloc, &operand, *directed)
+            let operand = operand(alloc, graph, input, more)?;
+            lines_of_operand(alloc, operand, *directed)
         }
         Expr::Product {
             first,

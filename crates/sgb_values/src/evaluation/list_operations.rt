@@ -7,12 +7,13 @@ ghost use Rattle.sgb_graph.specs.Made.{graph_described};
 ghost use Rattle.sgb_gen.specs.Boards.{board_vector_graph};
 ghost use Rattle.sgb_gen.specs.Generators.{IsGeneratorRefused, generator_value, made};
 ghost use Rattle.sgb_gen.specs.VectorGraphs.{described_by};
+ghost use Rattle.sgb_expr.specs.Expression.{Lines};
 ghost use Rattle.sgb_values.specs.Values.{of_graph, of_graphs};
 ghost use Rattle.sgb_values.specs.inner.Operands.{graph_held, on_list, on_lists};
 
 use sgb_gen::{FlatLists, Generator, Local, local_of};
 use sgb_graph::Graph;
-use sgb_ops::{Source, complement_of, gunion_of, intersection_of};
+use sgb_ops::{Source, complement_of, directed_lines_of, gunion_of, intersection_of, lines};
 use sgb_vec::Panic;
 use std::alloc::Global;
 
@@ -25,6 +26,8 @@ pub(crate) enum OnList {
         self_loops: bool,
         directed: bool,
     },
+    /// The directed line graph.
+    DirectedLines,
 }
 
 impl OnList {
@@ -38,6 +41,7 @@ impl OnList {
                 self_loops,
                 directed,
             } => complement_of(alloc, graph, copy, self_loops, directed),
+            OnList::DirectedLines => directed_lines_of(alloc, graph),
         }
     }
 }
@@ -128,7 +132,25 @@ pub(crate) fn answer_of_one(
     operation.answer(alloc, &Source::built(&graph))
 }
 
-/// The same of an operation on two operands.
+/// The line graph of an operand, which is then dropped. Where it is not directed the operand is built: whether it consists of
+/// edges is told by its records.
+///
+/// The refusal of the operation, or `NoRoom` when out of memory.
+pub(crate) fn lines_of_operand(
+    alloc: Global,
+    operand: Operand,
+    directed: bool,
+) -> Result<Graph, Panic>
+    ensures { IsAnswerOf (of_graph (Lines directed) (graph_held operand)) result }
+{
+    if directed {
+        return answer_of_one(alloc, OnList::DirectedLines, operand);
+    }
+    let graph = operand.graph(alloc)?;
+    lines(alloc, &graph, false)
+}
+
+/// The answer of an operation on two operands, which are then dropped.
 ///
 /// The refusal of the second comes first.
 pub(crate) fn answer_of(

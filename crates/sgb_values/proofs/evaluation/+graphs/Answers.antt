@@ -99,7 +99,7 @@ evaluate-returns-in_ok-operand-in-Complement-clause-left t c =
 
 pub evaluate-returns-in_ok-operand-in-Lines-clause-left : goal.evaluate-returns-in_ok-operand-in-Lines-clause-left
 evaluate-returns-in_ok-operand-in-Lines-clause-left t c =
-    if_ok c.lines.result _ (c.in_ok-operand-in-Lines.ensures.left ∙ ap (left_by c.args.more c.args.input.now) c.deref-in-Lines.ensures ∙ ap (left_by c.args.more c.args.input.now) (sym c.in-Lines.is))
+    if_ok c.lines_of_operand.result _ (c.in_ok-operand-in-Lines.ensures.left ∙ ap (left_by c.args.more c.args.input.now) c.deref-in-Lines.ensures ∙ ap (left_by c.args.more c.args.input.now) (sym c.in-Lines.is))
 
 pub evaluate-returns-in_ok-left-in-Product-clause-left : goal.evaluate-returns-in_ok-left-in-Product-clause-left
 evaluate-returns-in_ok-left-in-Product-clause-left t c =
@@ -110,7 +110,7 @@ evaluate-returns-in_ok-left-in-Product-clause-left t c =
 pub evaluate-returns-in_ok-operand-in-Lines-clause-value : goal.evaluate-returns-in_ok-operand-in-Lines-clause-value
 evaluate-returns-in_ok-operand-in-Lines-clause-value t c =
     let a = c.in-Lines in
-    rw a.is (λ stdin gives. value_one (λ g. line_graph_of g a.directed) (stdin c.args.input.now) _ a.graph.value _ _ c.deref-in-Lines.ensures (c.in_ok-operand-in-Lines.ensures.value stdin gives) c.lines.ensures)
+    rw a.is (λ stdin gives. value_one (λ g. line_graph_of g a.directed) (stdin c.args.input.now) _ a.graph.value _ _ c.deref-in-Lines.ensures (c.in_ok-operand-in-Lines.ensures.ok stdin gives) c.lines_of_operand.ensures)
 
 pub evaluate-returns-in_ok-left-in-Product-clause-value : goal.evaluate-returns-in_ok-left-in-Product-clause-value
 evaluate-returns-in_ok-left-in-Product-clause-value t c =
