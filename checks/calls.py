@@ -45,6 +45,8 @@ CALLS = [
     "Subsets::new",
     "complement",
     "gunion",
+    "complement_of",
+    "directed_lines_of",
     "gunion_of",
     "intersection",
     "lines",

@@ -24,22 +24,27 @@ links_of : (v : ℕ) (links : List Link) → map link_of (map (event_of v) links
 links_of v [] = refl
 links_of v (l ∷ links) = ap (λ ls. bare l ∷ ls) (links_of v links)
 
--- those of the events of the arcs that are taken, all of whose tips are vertices
-pub links_taken : (directed : Bool) (g : GraphData) (v : ℕ) → HasTips g → v < length g.vertices
-    → map link_of (map (event_of v) (filter (λ l. nat_lt l.tip (length g.vertices)) (taken directed g v))) ≡ map bare (taken directed g v)
-links_taken directed g v tips below =
-    ap (λ ls. map link_of (map (event_of v) ls)) (filter-all (λ l. nat_lt l.tip (length g.vertices)) (taken directed g v) (λ k d h. lt-ltb _ _ (listed_tips directed g v tips below k d h)))
-    ∙ links_of v (taken directed g v)
+ends_of : (v : ℕ) (links : List Link) → map (λ e. e.to) (map (event_of v) links) ≡ map (λ l. l.tip) links
+ends_of v [] = refl
+ends_of v (l ∷ links) = ap (λ ts. l.tip ∷ ts) (ends_of v links)
 
--- so where they are read from events that were put into empty room
-pub arcs_read : (directed : Bool) (g : GraphData) (v n : ℕ) (none events handed : List Event) (empty arcs : List Link) → HasTips g → v < length g.vertices
-    → n ≡ length g.vertices → none ≡ [] → events ≡ none ++ map (event_of v) (filter (λ l. nat_lt l.tip n) (taken directed g v)) → handed ≡ events
-    → empty ≡ [] → arcs ≡ empty ++ map link_of handed → arcs ≡ map bare (taken directed g v)
-arcs_read directed g v n none events handed empty arcs tips below few cleared put same clear read =
-    read
-    ∙ (ap (λ es. es ++ map link_of handed) clear
-    ∙ (ap (map link_of) (same ∙ (put ∙ ap (λ es. es ++ map (event_of v) (filter (λ l. nat_lt l.tip n) (taken directed g v))) cleared))
-    ∙ (ap (λ k. map link_of (map (event_of v) (filter (λ l. nat_lt l.tip k) (taken directed g v)))) few ∙ links_taken directed g v tips below)))
+-- where the tips of all arcs that are taken are vertices, their events are put where those to vertices are
+pub events_put : (directed : Bool) (g : GraphData) (v n : ℕ) (none events : List Event) → HasTips g → v < length g.vertices → n ≡ length g.vertices
+    → none ≡ [] → events ≡ none ++ map (event_of v) (filter (λ l. nat_lt l.tip n) (taken directed g v)) → events ≡ map (event_of v) (taken directed g v)
+events_put directed g v n none events tips below few cleared put =
+    put
+    ∙ (ap (λ es. es ++ map (event_of v) (filter (λ l. nat_lt l.tip n) (taken directed g v))) cleared
+    ∙ ap (map (event_of v)) (filter-all (λ l. nat_lt l.tip n) (taken directed g v) (λ k d h. lt-ltb _ _ (omega (arith, few, listed_tips directed g v tips below k d h)))))
+
+-- so the arcs that are read from these
+pub arcs_read : (v : ℕ) (links : List Link) (events handed : List Event) (empty arcs : List Link)
+    → events ≡ map (event_of v) links → handed ≡ events → empty ≡ [] → arcs ≡ empty ++ map link_of handed → arcs ≡ map bare links
+arcs_read v links events handed empty arcs put same clear read = rw (read, clear, same, put) (links_of v links)
+
+-- and their tips
+pub tips_read : (v : ℕ) (links : List Link) (events handed : List Event) (empty tips : List ℕ)
+    → events ≡ map (event_of v) links → handed ≡ events → empty ≡ [] → tips ≡ empty ++ map (λ e. e.to) handed → tips ≡ map (λ l. l.tip) links
+tips_read v links events handed empty tips put same clear read = rw (read, clear, same, put) (ends_of v links)
 
 -- their tips are below what those of the arcs are
 pub bare_tips : (n : ℕ) (links : List Link) → All (TipBelow n) links → All (TipBelow n) (map bare links)

@@ -1,6 +1,6 @@
 -- The lines of a graph of edges: one for each edge, and each has its way back.
-use Rattle.sgb_vec.proofs.Common.{rules, ◌≡◌, ◌≢◌, ◌+◌, ◌*◌, ◌/◌, ◌≤◌, ◌<◌, ◌==◌, ℕ, zero, suc, min, Bool, true, false, not, cond, nat_lt, List, [], ◌∷◌, map, reverse, length, get_or, refl, sym, ap, ◌∙◌, arith, All, Ok, Err, filter, slice_get, if◌then◌else◌, enumerate_from, list_all, range_with_len, option_map_or, and_from, cond_both, eq-eqb, lt-ltb, le-ltb, nat_tests, length-append, length-map, length-reverse, AllPass-from_list_all, list_all-from_AllPass, list_all-map, slice_get-map}
-use Rattle.sgb_vec.proofs.Lists.{All-flat_map, All-reverse, filter-all, filter-none}
+use Rattle.sgb_vec.proofs.Common.{rules, ◌≡◌, ◌≢◌, ◌+◌, ◌*◌, ◌/◌, ◌≤◌, ◌<◌, ◌==◌, ℕ, zero, suc, min, Bool, true, false, not, cond, nat_lt, List, [], ◌∷◌, map, reverse, length, refl, sym, ap, ◌∙◌, arith, All, All-weaker, Ok, Err, filter, slice_get, if◌then◌else◌, enumerate_from, list_all, range_with_len, option_map_or, and_from, cond_both, eq-eqb, lt-ltb, le-ltb, nat_tests, length-append, length-map, length-reverse, AllPass-from_list_all, list_all-from_AllPass, list_all-map, slice_get-map}
+use Rattle.sgb_vec.proofs.Lists.{All-reverse, filter-all, filter-none, range-within}
 use Rattle.sgb_vec.specs.Limits.{most_vertices}
 use Rattle.sgb_vec.specs.Results.{and_then}
 use Rattle.sgb_vec.specs.declared.panics.Panic.TheVariants.{VeryBad, Invalid}
@@ -8,15 +8,14 @@ use Rattle.sgb_graph.specs.Graphs.{GraphData}
 use Rattle.sgb_graph.specs.Descriptions.{Description}
 use Rattle.sgb_graph.specs.Events.{Event, HasArcsOf, HasEndsBelow, all_records}
 use Rattle.sgb_graph.specs.declared.fields.ArcRec.{ArcRec}
-use Rattle.sgb_graph.specs.declared.fields.Link.{Link}
 use Rattle.sgb_graph.specs.declared.fields.Ref.{Ref}
 use Rattle.sgb_graph.specs.declared.fields.Ref.TheVariants.{At}
 use Rattle.sgb_ops.specs.Lines.{has_way_back, is_of_edges, line_graph_of, lines_of_graph}
-use Rattle.sgb_graph.specs.Vertices.{order_of}
+use Rattle.sgb_graph.specs.Vertices.{order_of, places_of}
 use Rattle.sgb_ops.specs.Taken.{edges_up_from, lower_record, taken}
 use Rattle.sgb_ops.specs.declared.line_graphs.line.Line.{Line}
-use Rattle.sgb_ops.specs.inner.Lines.{line_of, points_to}
-use Rattle.sgb_ops.proofs.LineEvents.{lines_at, lines_below, lines_below-more, vertices_down}
+use Rattle.sgb_ops.specs.inner.Lines.{points_to}
+use Rattle.sgb_ops.proofs.LineEvents.{lines_at, lines_below, lines_below-more}
 use Rattle.sgb_ops.proofs.Taking.{taken_of_edges}
 
 -- the edges whose smaller end is below k
@@ -70,7 +69,7 @@ back_by_tips records v k = search (rules, slice_get-map)
 
 -- the lower record of an edge at this place has its way back
 abbrev way_back_of : GraphData → ℕ → ℕ × Event → Bool
-way_back_of g v p = has_way_back g (line_of v (lower_record p))
+way_back_of g v p = has_way_back g v (lower_record p)
 
 -- one more edge that passes, where it is wanted
 one_passes : (p : ℕ × Event → Bool) (b : Bool) (x : ℕ × Event) (xs : List (ℕ × Event)) → (b ≡ true → p x ≡ true) → list_all p xs ≡ true
@@ -98,24 +97,21 @@ ways_back_from g v i (e ∷ events) same =
 passes_reverse : {X : Type 0} (p : X → Bool) (xs : List X) → list_all p xs ≡ true → list_all p (reverse xs) ≡ true
 passes_reverse p xs all = list_all-from_AllPass p (reverse xs) (All-reverse (λ x. p x ≡ true) xs (AllPass-from_list_all p xs all))
 
--- each line that begins at v has its way back
-ways_back_at : (events : List Event) (g : GraphData) (v : ℕ) → HasArcsOf false events g → v < order_of g → list_all (has_way_back g) (lines_at g false v) ≡ true
+-- each arc taken of v has its way back
+ways_back_at : (events : List Event) (g : GraphData) (v : ℕ) → HasArcsOf false events g → v < order_of g → list_all (has_way_back g v) (taken false g v) ≡ true
 ways_back_at events g v has below =
-    let back = λ (l : Link). has_way_back g (line_of v l) in
+    let back = has_way_back g v in
     let edges = edges_up_from v events in
     let same = λ (j : ℕ). let place : 2 * 0 + j ≡ j = omega arith in ap (slice_get (map (λ r. r.tip) g.records)) place ∙ ap (λ (ts : List Ref). slice_get ts j) has.tips in
-    list_all-map (has_way_back g) (line_of v) (taken false g v)
-    ∙ (ap (list_all back) (taken_of_edges events g v has below)
-    ∙ passes_reverse back (map lower_record edges) (list_all-map back lower_record edges ∙ ways_back_from g v 0 events same))
+    ap (list_all back) (taken_of_edges events g v has below)
+    ∙ passes_reverse back (map lower_record edges) (list_all-map back lower_record edges ∙ ways_back_from g v 0 events same)
 
--- so has each line
-ways_back : (events : List Event) (g : GraphData) → HasArcsOf false events g → list_all (has_way_back g) (lines_of_graph g false) ≡ true
+-- so has each
+ways_back : (events : List Event) (g : GraphData) → HasArcsOf false events g → list_all (λ v. list_all (has_way_back g v) (taken false g v)) (places_of g) ≡ true
 ways_back events g has =
-    list_all-from_AllPass (has_way_back g) (lines_of_graph g false)
-    (All-flat_map (λ l. has_way_back g l ≡ true) (lines_at g false) (reverse (range_with_len 0 (order_of g)))
-    (λ k d h.
-    let v = get_or (reverse (range_with_len 0 (order_of g))) k d in
-    AllPass-from_list_all (has_way_back g) (lines_at g false v) (ways_back_at events g v has (vertices_down (order_of g) k d h))))
+    let Has = λ (v : ℕ). list_all (has_way_back g v) (taken false g v) ≡ true in
+    list_all-from_AllPass (λ v. list_all (has_way_back g v) (taken false g v)) (places_of g)
+    (All-weaker (λ v. (0 ≤ v) × (v < 0 + order_of g)) Has (λ v p. ways_back_at events g v has (omega (arith, p.1))) (places_of g) (range-within 0 (order_of g)))
 
 -- a graph that is one of edges is not refused for that
 not_refused : (g : GraphData) (lines : List Line) (edges : Bool) (make : List Line → Description) → edges ≡ true

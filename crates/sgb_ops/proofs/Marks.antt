@@ -1,22 +1,18 @@
--- Marks at the vertices that a list of arcs leads to.
+-- Marks at the vertices that a list leads to.
 use Rattle.sgb_vec.proofs.Common.{rules, ◌≡◌, ℕ, ◌+◌, ◌<◌, ◌≤◌, ◌==◌, Bool, cond, List, ◌∷◌, ◌++◌, length, take, set, get_or, ◌∙◌, arith, list_any, cases_Bool, cond_both, nat_tests, get_or-set_same, get_or-set_other, take-append-le, take_all}
-use Rattle.sgb_graph.specs.declared.fields.Link.{Link}
+use Rattle.sgb_ops.proofs.CopiedArcs.{is_among}
 
--- one of these arcs leads to w
-abbrev pub leads_to : List Link → ℕ → Bool
-leads_to links w = list_any (λ l. l.tip == w) links
+-- what stands at w: the mark where it is one of these, else what these marks have
+abbrev pub mark_at : List ℕ → ℕ → List ℕ → ℕ → ℕ
+mark_at tips mark marks w = cond (is_among w tips) mark (get_or marks w 0)
 
--- what stands at w: the mark where one of these arcs leads there, else what these marks have
-abbrev pub mark_at : List Link → ℕ → List ℕ → ℕ → ℕ
-mark_at links mark marks w = cond (leads_to links w) mark (get_or marks w 0)
+-- the first of them is marked
+pub mark_at-next : (t : ℕ) (tips : List ℕ) (mark : ℕ) (marks : List ℕ) (w : ℕ) → t < length marks → mark_at tips mark (set marks t mark) w ≡ mark_at (t ∷ tips) mark marks w
+mark_at-next t tips mark marks w within = grind (arith, cases_Bool, nat_tests, get_or-set_same, cond_both, get_or-set_other)
 
--- the tip of the first arc is marked
-pub mark_at-next : (l : Link) (links : List Link) (mark : ℕ) (marks : List ℕ) (w : ℕ) → l.tip < length marks → mark_at links mark (set marks l.tip mark) w ≡ mark_at (l ∷ links) mark marks w
-mark_at-next l links mark marks w within = grind (arith, cases_Bool, nat_tests, get_or-set_same, cond_both, get_or-set_other)
-
--- and no mark is greater
-pub mark_at-le : (links : List Link) (u : ℕ) (marks : List ℕ) (w : ℕ) → get_or marks w 0 ≤ u → mark_at links (u + 1) marks w ≤ u + 1
-mark_at-le links u marks w earlier = search (rules, cases_Bool)
+-- no mark is greater
+pub mark_le : (b : Bool) (u m : ℕ) → m ≤ u → cond b (u + 1) m ≤ u + 1
+mark_le b u m earlier = grind (arith, cases_Bool)
 
 -- marks that were lent as a whole
 pub lent_back : (n : ℕ) (marks beyond : List ℕ) → length marks ≡ n → take n (marks ++ beyond) ≡ marks

@@ -1,5 +1,5 @@
 -- The line graph: a vertex for each arc or edge [GB_BASIC, lines].
-use Rattle.std.specs.Prelude.{pos, ◌+◌, ◌/◌, ◌==◌, Bool, true, false, not, ◌&&◌, ◌||◌, List, [], ◌∷◌, map, reverse, filter, flat_map, take, length, slice_get, codes, nat_lt, if◌then◌else◌, Result, Ok, Err}
+use Rattle.std.specs.Prelude.{ℕ, pos, ◌+◌, ◌/◌, ◌==◌, Bool, true, false, not, ◌&&◌, ◌||◌, List, [], ◌∷◌, map, reverse, filter, flat_map, take, length, slice_get, codes, nat_lt, if◌then◌else◌, Result, Ok, Err}
 use Rattle.std.specs.List.{list_all, enumerate_from}
 use Rattle.std.specs.Option.{option_map_or}
 use Rattle.sgb_vec.specs.Limits.{most_vertices}
@@ -9,6 +9,7 @@ use Rattle.sgb_vec.specs.declared.panics.Panic.TheVariants.{VeryBad, Invalid}
 use Rattle.sgb_graph.specs.Graphs.{GraphData}
 use Rattle.sgb_graph.specs.Events.{Event}
 use Rattle.sgb_graph.specs.Ids.{compound_id}
+use Rattle.sgb_graph.specs.declared.fields.Link.{Link}
 use Rattle.sgb_graph.specs.declared.fields.Ref.TheVariants.{Null, One, At}
 use Rattle.sgb_graph.specs.Descriptions.{Description}
 use Rattle.sgb_graph.specs.Made.{plain}
@@ -20,17 +21,16 @@ use Rattle.sgb_ops.specs.Compounds.{closing, line_name}
 
 -- the lines: the arcs taken of each vertex, from the last vertex down to the first
 abbrev pub lines_of_graph : GraphData → Bool → List Line
-lines_of_graph g directed =
-    flat_map (λ v. map (λ l. record { from = v; to = l.tip; number = l.number }) (taken directed g v)) (reverse (places_of g))
+lines_of_graph g directed = flat_map (λ v. map (λ l. record { from = v; to = l.tip }) (taken directed g v)) (reverse (places_of g))
 
--- the record with the next number is there, and its tip is the vertex where the line begins
-abbrev pub has_way_back : GraphData → Line → Bool
-has_way_back g line =
-    option_map_or (λ r. elim r.tip [ Null ↦ false | One ↦ false | At w ↦ w == line.from ]) (slice_get g.records (line.number + 1)) false
+-- the record after the one of this arc of v is there, and its tip is v
+abbrev pub has_way_back : GraphData → ℕ → Link → Bool
+has_way_back g v l =
+    option_map_or (λ r. elim r.tip [ Null ↦ false | One ↦ false | At w ↦ w == v ]) (slice_get g.records (l.number + 1)) false
 
 -- every line is an edge with its two records, and the lines number half of the graph's arcs, rounded down
 abbrev pub is_of_edges : GraphData → List Line → Bool
-is_of_edges g lines = list_all (has_way_back g) lines && (length lines == g.m / 2)
+is_of_edges g lines = list_all (λ v. list_all (has_way_back g v) (taken false g v)) (places_of g) && (length lines == g.m / 2)
 
 -- the lines, or why they are refused: no graph of edges where one is wanted; then more lines than a graph can have vertices
 abbrev pub accepted_lines : GraphData → Bool → List Line → Result (List Line) Panic

@@ -1,17 +1,18 @@
 //! The complement of a graph, or a copy of it without parallel arcs (GB_BASIC, complement).
-ghost use Rattle.std.specs.Prelude.{◌≡◌, ◌<◌, ◌+◌, ◌++◌, ◌==◌, [], ◌∷◌, ℕ, true, pos, length, map, slice_index, All, OnOk, IsOkUnless, if◌then◌else◌};
+ghost use Rattle.std.specs.Prelude.{◌≡◌, ◌<◌, ◌+◌, ◌==◌, [], ◌∷◌, ℕ, true, pos, length, slice_index, All, OnOk, IsOkUnless, if◌then◌else◌};
 ghost use Rattle.std.specs.List.{list_any};
-ghost use Rattle.sgb_graph.specs.Graphs.{chain_of};
 ghost use Rattle.sgb_graph.specs.Descriptions.{IsAnswerOf};
 ghost use Rattle.sgb_graph.specs.Growth.{AddsEvents, HasPlainArcs};
 ghost use Rattle.sgb_ops.specs.Complement.{complement_events, complement_of};
 ghost use Rattle.sgb_ops.specs.inner.Complement.{AreFrom, complement_events_from, events_to, is_wanted_where, has_arc};
 ghost use Rattle.sgb_ops.specs.inner.Compounds.{complement_id};
+ghost use Rattle.sgb_ops.specs.inner.Sources.{HasTips};
 
 use crate::compounds::flag_byte;
-use crate::operands::names_of;
+use crate::events::Event;
+use crate::sources::Source;
 use sgb_graph::{Graph, Id, compound_id};
-use sgb_vec::Panic;
+use sgb_vec::{Panic, Vector};
 use std::alloc::Global;
 
 /// The complement of a graph, or a copy of it without parallel arcs (GB_BASIC, complement): the graph of the same
@@ -30,12 +31,27 @@ pub fn complement(
 ) -> Result<Graph, Panic>
     ensures { IsAnswerOf (complement_of graph.now copy self_loops directed) result }
 {
+    complement_of(alloc, &Source::built(graph), copy, self_loops, directed)
+}
+
+/// The same of a graph that need not be built.
+///
+/// `NoRoom` when out of memory, and nothing else.
+pub fn complement_of(
+    alloc: Global,
+    graph: &Source<'_>,
+    copy: bool,
+    self_loops: bool,
+    directed: bool,
+) -> Result<Graph, Panic>
+    ensures { IsAnswerOf (complement_of graph.now copy self_loops directed) result }
+{
     let wanted = Wanted {
         copy,
         self_loops,
         directed,
     };
-    let names = names_of(alloc, graph)?;
+    let names = graph.names(alloc)?;
     let mut built = Graph::new(alloc, names)?;
     wanted.add_arcs(alloc, graph, &mut built)?;
     built.set_id(wanted.id(graph.id()));
@@ -68,7 +84,7 @@ impl Wanted {
     }
 
     // Adds the arcs of the result: for each vertex of `graph` in order those from it.
-    fn add_arcs(self, alloc: Global, graph: &Graph, built: &mut Graph) -> Result<(), Panic>
+    fn add_arcs(self, alloc: Global, graph: &Source<'_>, built: &mut Graph) -> Result<(), Panic>
         requires vertices { length built.old.vertices ≡ length graph.now.vertices }
         requires plain { HasPlainArcs built.old }
         ensures ok { OnOk result (AddsEvents self.directed built.old built.new
@@ -80,16 +96,25 @@ impl Wanted {
         }
         // For each vertex w the last u + 1 so far where u has an arc to w, or 0.
         let mut marks = vec![in alloc; 0; graph.n() as usize]?;
+        // The tips of each vertex take the memory of those of the vertex before.
+        let mut tips = Vec::new(alloc);
+        let mut room = Vec::new(alloc);
+        let mut x = Vector::new();
         for u in 0..graph.n() {
             graph.read_ahead(u);
-            mark_tips(&mut marks, graph, u, u + 1);
+            mark_arcs(&mut marks, graph, u, u + 1, &mut tips, &mut room, &mut x)?;
             self.add_arcs_from(graph, u, &marks, built)?;
         }
         Ok(())
     }
 
     // Adds those of a copy, in steps of the arcs of `graph` and not of its pairs of vertices.
-    fn add_copied_arcs(self, alloc: Global, graph: &Graph, built: &mut Graph) -> Result<(), Panic>
+    fn add_copied_arcs(
+        self,
+        alloc: Global,
+        graph: &Source<'_>,
+        built: &mut Graph,
+    ) -> Result<(), Panic>
         requires copy { self.copy ≡ true }
         requires vertices { length built.old.vertices ≡ length graph.now.vertices }
         requires plain { HasPlainArcs built.old }
@@ -99,9 +124,11 @@ impl Wanted {
     {
         // The tips of each vertex take the memory of those of the vertex before.
         let mut tips = Vec::new(alloc);
+        let mut room = Vec::new(alloc);
+        let mut x = Vector::new();
         for u in 0..graph.n() {
             graph.read_ahead(u);
-            put_tips(&mut tips, graph, u)?;
+            put_tips(&mut tips, graph, u, &mut room, &mut x)?;
             self.add_arcs_to(u, tips.as_slice(), built)?;
         }
         Ok(())
@@ -125,7 +152,7 @@ impl Wanted {
     // Adds the arcs from vertex `u`, in order. `marks` has `u + 1` where `u` has an arc in `graph`.
     fn add_arcs_from(
         self,
-        graph: &Graph,
+        graph: &Source<'_>,
         u: u32,
         marks: &[u32],
         built: &mut Graph,
@@ -170,44 +197,58 @@ impl Wanted {
     }
 }
 
-// Puts `mark` at each vertex that the list of `u` leads to.
-fn mark_tips(marks: &mut [u32], graph: &Graph, u: u32, mark: u32)
+// Puts `mark` at each vertex that the list of `u` leads to. `tips`, `room` and `x` are what these are found with.
+fn mark_arcs(
+    marks: &mut [u32],
+    graph: &Source<'_>,
+    u: u32,
+    mark: u32,
+    tips: &mut Vec<u32>,
+    room: &mut Vec<Event>,
+    x: &mut Vector,
+) -> Result<(), Panic>
     requires vertex { u < length graph.now.vertices }
+    requires tips { HasTips graph.now }
     requires marks { length marks.old ≡ length graph.now.vertices }
-    ensures { (w : ℕ) → w < length graph.now.vertices → slice_index marks.new w
-        ≡ (if has_arc graph.now u w then mark else slice_index marks.old w) }
+    ensures ok { OnOk result ((w : ℕ) → w < length graph.now.vertices → slice_index marks.new w
+        ≡ (if has_arc graph.now u w then mark else slice_index marks.old w)) }
+    ensures memory { IsOkUnless result Panic.NoRoom }
 {
-    for link in graph.arcs(u) {
-        marks[link.tip as usize] = mark;
+    graph.take_tips(tips, u, room, x)?;
+    mark_tips(marks, tips, mark);
+    Ok(())
+}
+
+// Puts `mark` at each of these vertices.
+fn mark_tips(marks: &mut [u32], tips: &[u32], mark: u32)
+    requires { All (λ t. t < length marks.old) tips.now }
+    ensures { (w : ℕ) → w < length marks.old → slice_index marks.new w
+        ≡ (if list_any (λ t. t == w) tips.now then mark else slice_index marks.old w) }
+{
+    for tip in tips {
+        marks[*tip as usize] = mark;
     }
 }
 
-// Puts the vertices that the list of `u` leads to into `tips`, in order and each once.
-fn put_tips(tips: &mut Vec<u32>, graph: &Graph, u: u32) -> Result<(), Panic>
+// Puts the vertices that the list of `u` leads to into `tips`, in order and each once. `room` and `x` are what they are found
+// with.
+fn put_tips(
+    tips: &mut Vec<u32>,
+    graph: &Source<'_>,
+    u: u32,
+    room: &mut Vec<Event>,
+    x: &mut Vector,
+) -> Result<(), Panic>
     requires vertex { u < length graph.now.vertices }
+    requires tips { HasTips graph.now }
     ensures rise { OnOk result (AreFrom 0 tips.new.items) }
     ensures arcs { OnOk result ((w : ℕ) → list_any (λ t. t == w) tips.new.items
         ≡ has_arc graph.now u w) }
     ensures within { OnOk result (All (λ t. t < length graph.now.vertices) tips.new.items) }
     ensures memory { IsOkUnless result Panic.NoRoom }
 {
-    tips.clear();
-    push_tips(tips, graph, u)?;
+    graph.take_tips(tips, u, room, x)?;
     put_in_order(tips);
-    Ok(())
-}
-
-// Appends the vertices that the list of `u` leads to.
-fn push_tips(tips: &mut Vec<u32>, graph: &Graph, u: u32) -> Result<(), Panic>
-    requires vertex { u < length graph.now.vertices }
-    ensures ok { OnOk result (tips.new.items
-        ≡ tips.old.items ++ map (λ l. l.tip) (chain_of graph.now u)) }
-    ensures tips { All (λ l. l.tip < length graph.now.vertices) (chain_of graph.now u) }
-    ensures memory { IsOkUnless result Panic.NoRoom }
-{
-    for link in graph.arcs(u) {
-        tips.push(link.tip)?;
-    }
     Ok(())
 }
 

@@ -37,7 +37,7 @@ mod tallies;
 mod wheels;
 
 pub use bipartite_graphs::bi_complete;
-pub use complements::complement;
+pub use complements::{complement, complement_of};
 pub use gunions::{gunion, gunion_of};
 pub use induced_graphs::{Entry, induced, induced_from};
 pub use intersections::{intersection, intersection_of};
@@ -45,7 +45,7 @@ pub use laws::{
     compound_ids_law, copies_law, lines_law, merged_are_apart, merging_law, taken_lead_up,
     taking_law,
 };
-pub use line_graphs::lines;
+pub use line_graphs::{directed_lines_of, lines};
 pub use products::product;
 pub use sources::Source;
 pub use wheels::wheel;

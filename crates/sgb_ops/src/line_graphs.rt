@@ -1,14 +1,16 @@
 //! The line graph of a graph, which has a vertex for each arc or edge (GB_BASIC, lines).
 //!
 //! The events are added one by one: no list of them is made. Room for the names is taken at once, and for the records.
-ghost use Rattle.std.specs.Prelude.{◌≡◌, false, ◌≤◌, length, All, OnOk, IfOk, IsOkUnless};
+ghost use Rattle.std.specs.Prelude.{◌≡◌, false, true, ◌≤◌, length, All, OnOk, IfOk, IsOkUnless};
 ghost use Rattle.sgb_vec.specs.Limits.{most_vertices};
 ghost use Rattle.sgb_graph.specs.Descriptions.{IsAnswerOf, IsGraphOf};
 ghost use Rattle.sgb_graph.specs.Made.{plain};
+ghost use Rattle.sgb_graph.specs.Vertices.{names_of};
 ghost use Rattle.sgb_graph.specs.Growth.{AddsEvents, HasPlainArcs};
 ghost use Rattle.sgb_ops.specs.Lines.{line_events, line_graph_of};
 ghost use Rattle.sgb_ops.specs.inner.Lines.{DescendFrom, LeadsUp, LineWithin, names_of_lines};
 ghost use Rattle.sgb_ops.specs.inner.Compounds.{lines_id};
+ghost use Rattle.sgb_ops.specs.inner.Sources.{names_held};
 
 // The arcs of a directed line graph.
 mod arcs;
@@ -18,11 +20,11 @@ mod edges;
 mod line;
 
 use crate::compounds::flag_byte;
-use crate::operands::graph_with_room;
-use crate::taken::taken;
+use crate::operands::{VertexNames, graph_with_room};
+use crate::sources::Source;
 use arcs::add_arcs;
 use edges::{add_edges, records_of_edges};
-use line::{Line, accept_lines, lines_of_graph};
+use line::{Line, accepted_arcs, accepted_edges};
 use sgb_graph::{Graph, Id, Names, compound_id};
 use sgb_vec::Panic;
 use std::alloc::Global;
@@ -39,15 +41,34 @@ use std::alloc::Global;
 pub fn lines(alloc: Global, graph: &Graph, directed: bool) -> Result<Graph, Panic>
     ensures { IsAnswerOf (line_graph_of graph.now directed) result }
 {
-    let lines = lines_of_graph(alloc, graph, directed)?;
-    accept_lines(graph, directed, &lines)?;
-    graph_of_lines(alloc, graph, directed, &lines)
+    if directed {
+        return directed_lines_of(alloc, &Source::built(graph));
+    }
+    lines_of_edges(alloc, graph)
+}
+
+/// The directed line graph of a graph that need not be built.
+///
+/// `VeryBad` at more than 1,000,000,000 lines. `NoRoom` when out of memory.
+pub fn directed_lines_of(alloc: Global, graph: &Source<'_>) -> Result<Graph, Panic>
+    ensures { IsAnswerOf (line_graph_of graph.now true) result }
+{
+    let lines = accepted_arcs(alloc, graph)?;
+    graph_of_lines(alloc, graph, true, &lines)
+}
+
+// The line graph that is not directed.
+fn lines_of_edges(alloc: Global, graph: &Graph) -> Result<Graph, Panic>
+    ensures { IsAnswerOf (line_graph_of graph.now false) result }
+{
+    let lines = accepted_edges(alloc, graph)?;
+    graph_of_lines(alloc, &Source::built(graph), false, &lines)
 }
 
 // The line graph on these lines.
 fn graph_of_lines(
     alloc: Global,
-    graph: &Graph,
+    graph: &Source<'_>,
     directed: bool,
     lines: &[Line],
 ) -> Result<Graph, Panic>
@@ -57,7 +78,8 @@ fn graph_of_lines(
     requires up { directed ≡ false → All LeadsUp lines.now }
     ensures ok { IfOk result (λ g. IsGraphOf
         (plain directed (line_events directed lines.now)
-        (names_of_lines graph.now directed lines.now) (lines_id graph.now.id directed)) g) }
+        (names_of_lines (names_of graph.now) directed lines.now) (lines_id graph.now.id directed))
+        g) }
     ensures memory { IsOkUnless result Panic.NoRoom }
 {
     let names = names_of_lines(alloc, graph, directed, lines)?;
@@ -88,17 +110,34 @@ fn lines_id(id: &Id, directed: bool) -> Id
 // The names of the lines.
 fn names_of_lines(
     alloc: Global,
-    graph: &Graph,
+    graph: &Source<'_>,
     directed: bool,
     lines: &[Line],
 ) -> Result<Names, Panic>
     requires { All (LineWithin (length graph.now.vertices)) lines.now }
-    ensures ok { IfOk result (λ names. names ≡ names_of_lines graph.now directed lines.now) }
+    ensures ok { IfOk result (λ names. names
+        ≡ names_of_lines (names_of graph.now) directed lines.now) }
+    ensures memory { IsOkUnless result Panic.NoRoom }
+{
+    let ends = graph.vertex_names(alloc)?;
+    named_lines(alloc, &ends, directed, lines)
+}
+
+// The names of the lines between vertices of these names.
+fn named_lines(
+    alloc: Global,
+    ends: &VertexNames<'_>,
+    directed: bool,
+    lines: &[Line],
+) -> Result<Names, Panic>
+    requires { All (LineWithin (length (names_held ends.now))) lines.now }
+    ensures ok { IfOk result (λ names. names
+        ≡ names_of_lines (names_held ends.now) directed lines.now) }
     ensures memory { IsOkUnless result Panic.NoRoom }
 {
     let mut names = Names::with_capacity(alloc, lines.len())?;
     for line in lines {
-        let name = line.name(alloc, graph, directed)?;
+        let name = line.name(alloc, ends, directed)?;
         let Ok(()) = names.push(name) else {
             return Err(Panic::NoRoom);
         };

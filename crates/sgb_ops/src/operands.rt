@@ -1,11 +1,12 @@
 //! What the operations read of a graph beside its lists of arcs, and the graph that they begin with.
-ghost use Rattle.std.specs.Prelude.{◌≡◌, ◌<◌, ◌≤◌, ◌↔◌, ◌++◌, [], ◌∷◌, All, length, map, OnOk, IfOk, IsErrOf, IsOkUnless};
+ghost use Rattle.std.specs.Prelude.{◌≡◌, ◌<◌, ◌≤◌, ◌↔◌, ◌++◌, [], ◌∷◌, All, length, map, slice_index_or, OnOk, IfOk, IsErrOf, IsOkUnless};
 ghost use Rattle.sgb_vec.specs.Limits.{most_vertices};
 ghost use Rattle.sgb_vec.specs.Names.{IsTextByte};
 ghost use Rattle.sgb_graph.specs.Growth.{new_graph};
 ghost use Rattle.sgb_graph.specs.Vertices.{names_of};
 ghost use Rattle.sgb_ops.specs.Compounds.{joined_name};
 ghost use Rattle.sgb_ops.specs.inner.Compounds.{begun_name};
+ghost use Rattle.sgb_ops.specs.inner.Sources.{names_held};
 
 use crate::compounds::{begun_name, ended_name};
 use sgb_graph::{Graph, Names};
@@ -31,6 +32,26 @@ pub(crate) fn names_of(alloc: Global, graph: &Graph) -> Result<Names, Panic>
         };
     }
     Ok(names)
+}
+
+/// The names of a graph's vertices for who reads them: those of a graph that is built stay there.
+#[derive(Drop)]
+pub(crate) enum VertexNames<'a> {
+    Of(&'a Graph),
+    Made(Names),
+}
+
+impl<'a> VertexNames<'a> {
+    /// The name of vertex `v`.
+    pub(crate) fn get(&self, v: u32) -> &Text
+        requires { v < length (names_held self.now) }
+        ensures { result.now ≡ slice_index_or (names_held self.now) v [] }
+    {
+        match self {
+            VertexNames::Of(graph) => graph.name(v),
+            VertexNames::Made(names) => names.get(v),
+        }
+    }
 }
 
 /// The graph of these names that has no arcs, with room for so many records where that can be had.

@@ -3,6 +3,7 @@
 //! That of a board with no side that wraps around need not be built: each of its lists is had by strides when it is read.
 ghost use Rattle.std.specs.Prelude.{◌≡◌, ◌<◌, ◌≤◌, ◌+◌, ◌*◌, ◌++◌, ℕ, length, map, filter, nat_lt, pos, reverse, [], ◌∷◌, if◌then◌else◌, All, OnOk, IfOk, IsOkUnless};
 ghost use Rattle.sgb_vec.specs.Limits.{most_vertices};
+ghost use Rattle.sgb_graph.specs.Graphs.{chain_of};
 ghost use Rattle.sgb_graph.specs.Made.{graph_described};
 ghost use Rattle.sgb_graph.specs.Vertices.{names_of};
 ghost use Rattle.sgb_gen.specs.Boards.{board_vector_graph};
@@ -10,10 +11,10 @@ ghost use Rattle.sgb_gen.specs.Strides.{lengths_to, tips_ahead, tips_back};
 ghost use Rattle.sgb_gen.specs.VectorGraphs.{described_by};
 ghost use Rattle.sgb_ops.specs.Taken.{taken};
 ghost use Rattle.sgb_ops.specs.inner.Ends.{event_of};
-ghost use Rattle.sgb_ops.specs.inner.Sources.{HasTips, bare, event_to, events_to, link_of};
+ghost use Rattle.sgb_ops.specs.inner.Sources.{HasTips, bare, event_to, events_to, link_of, names_held};
 
 use crate::events::Event;
-use crate::operands::names_of;
+use crate::operands::{VertexNames, names_of};
 use crate::taken::taken;
 use sgb_gen::{FlatLists, Strides};
 use sgb_graph::{Graph, Id, Link, Names};
@@ -99,6 +100,29 @@ impl<'a> Source<'a> {
         }
     }
 
+    /// The names of its vertices for who reads them, which are made where it is not built.
+    ///
+    /// `NoRoom` when out of memory, and nothing else.
+    pub(crate) fn vertex_names(&self, alloc: Global) -> Result<VertexNames<'_>, Panic>
+        ensures ok { IfOk result (λ names. names_held names ≡ names_of self.now) }
+        ensures memory { IsOkUnless result Panic.NoRoom }
+    {
+        let lists = match &self.kept {
+            SourceKind::Built(graph) => return Ok(VertexNames::Of(graph)),
+            SourceKind::Flat(lists) => lists,
+        };
+        let names = lists.names(alloc)?;
+        Ok(VertexNames::Made(names))
+    }
+
+    /// So many arcs are on its lists at most where that is known, and else 0: it is told for room alone.
+    pub(crate) fn most_arcs(&self) -> usize {
+        match &self.kept {
+            SourceKind::Built(graph) => graph.records_len(),
+            SourceKind::Flat(_) => 0,
+        }
+    }
+
     /// A hint for who reads the lists of all vertices in order, at each vertex before its list. It changes nothing.
     pub(crate) fn read_ahead(&self, v: u32) {
         match &self.kept {
@@ -151,13 +175,62 @@ impl<'a> Source<'a> {
         match &self.kept {
             SourceKind::Built(graph) => push_links(arcs, graph, directed, v),
             SourceKind::Flat(lists) => {
-                events.clear();
-                push_listed(events, lists, directed, v, lists.size(), x)?;
+                put_listed(events, lists, directed, v, x)?;
                 push_links_of(arcs, events)?;
                 Ok(())
             }
         }
     }
+
+    /// Makes `tips` the vertices that the list of vertex `v` leads to, in its order. `events` and `x` are what they are found
+    /// with: what these hold is open.
+    ///
+    /// `NoRoom` when out of memory, and nothing else.
+    pub(crate) fn take_tips(
+        &self,
+        tips: &mut Vec<u32>,
+        v: u32,
+        events: &mut Vec<Event>,
+        x: &mut Vector,
+    ) -> Result<(), Panic>
+        requires vertex { v < length self.now.vertices }
+        ensures ok { OnOk result (tips.new.items ≡ map (λ l. l.tip) (chain_of self.now v)) }
+        ensures memory { IsOkUnless result Panic.NoRoom }
+    {
+        tips.clear();
+        match &self.kept {
+            SourceKind::Built(graph) => push_tips(tips, graph, v),
+            SourceKind::Flat(lists) => {
+                put_listed(events, lists, true, v, x)?;
+                push_tips_of(tips, events)?;
+                Ok(())
+            }
+        }
+    }
+}
+
+// Appends the vertices that the list of `v` in `graph` leads to.
+fn push_tips(tips: &mut Vec<u32>, graph: &Graph, v: u32) -> Result<(), Panic>
+    requires { v < length graph.now.vertices }
+    ensures ok { OnOk result (tips.new.items
+        ≡ tips.old.items ++ map (λ l. l.tip) (chain_of graph.now v)) }
+    ensures memory { IsOkUnless result Panic.NoRoom }
+{
+    for link in graph.arcs(v) {
+        tips.push(link.tip)?;
+    }
+    Ok(())
+}
+
+// Appends the vertices where these events end.
+fn push_tips_of(tips: &mut Vec<u32>, events: &[Event]) -> Result<(), Panic>
+    ensures ok { OnOk result (tips.new.items ≡ tips.old.items ++ map (λ e. e.to) events.now) }
+    ensures memory { IsOkUnless result Panic.NoRoom }
+{
+    for event in events {
+        tips.push(event.link().tip)?;
+    }
+    Ok(())
 }
 
 // Appends the arcs taken of `v` in `graph`.
@@ -213,6 +286,25 @@ fn push_arc(events: &mut Vec<Event>, v: u32, link: Link, n: u32) -> Result<(), P
         events.push(Event::new(v, link.tip, link.len))?;
     }
     Ok(())
+}
+
+// Makes `events` those of the arcs taken of `v` on a board, all of which lead to its vertices.
+fn put_listed(
+    events: &mut Vec<Event>,
+    lists: &FlatLists<'_>,
+    directed: bool,
+    v: u32,
+    x: &mut Vector,
+) -> Result<(), Panic>
+    requires vertex { v < length
+        (graph_described (described_by (board_vector_graph lists.now))).vertices }
+    ensures ok { OnOk result (events.new.items ≡ map (event_of v)
+        (taken directed (graph_described (described_by (board_vector_graph lists.now))) v)) }
+    ensures tips { HasTips (graph_described (described_by (board_vector_graph lists.now))) }
+    ensures memory { IsOkUnless result Panic.NoRoom }
+{
+    events.clear();
+    push_listed(events, lists, directed, v, lists.size(), x)
 }
 
 // Appends the events of the arcs taken of `v` on a board whose tip is below `n`.

@@ -81,7 +81,7 @@ abbrev mutual
   pub size_of : Expression → ℕ
   size_of (Generated f) = 1
   size_of (OfNumbers operation) = 1
-  size_of (OfGraph operation e) = size_of e + 1
+  size_of (OfGraph operation e) = size_of e + 2
   size_of (OfGraphs operation e f) = size_of e + size_of f + 3
   size_of (Induced e entries self_loops multi directed) = size_of e + size_of_entries entries + 2
   size_of Stdin = 1

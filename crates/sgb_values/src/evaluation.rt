@@ -20,10 +20,12 @@ use crate::kept::Kept;
 use crate::stdin::read_kept;
 pub use entries::numbered_entry;
 use entries::{EntryValue, graph_value, handed_entries};
-use list_operations::{ListOperation, Operand, answer_of, generated};
+use list_operations::{
+    OnList, OnLists, Operand, answer_of, answer_of_one, generated, lines_of_operand,
+};
 use sgb_expr::{EntryExpr, Expr, have_stdin};
 use sgb_graph::Graph;
-use sgb_ops::{bi_complete, complement, induced_from, lines, product, wheel};
+use sgb_ops::{bi_complete, induced_from, product, wheel};
 use sgb_vec::Panic;
 use std::alloc::Global;
 
@@ -80,8 +82,13 @@ fn evaluate(
             self_loops,
             directed,
         } => {
-            let operand = evaluate(alloc, graph, input, more)?;
-            complement(alloc, &operand, *copy, *self_loops, *directed)
+            let operand = operand(alloc, graph, input, more)?;
+            let operation = OnList::Complement {
+                copy: *copy,
+                self_loops: *self_loops,
+                directed: *directed,
+            };
+            answer_of_one(alloc, operation, operand)
         }
         Expr::Gunion {
             first,
@@ -90,13 +97,14 @@ fn evaluate(
             directed,
         } => by_lists(
             alloc,
-            ListOperation::Union,
+            OnLists::Union {
+                multi: *multi,
+                directed: *directed,
+            },
             first,
             second,
             input,
             more,
-            *multi,
-            *directed,
         ),
         Expr::Intersection {
             first,
@@ -105,17 +113,18 @@ fn evaluate(
             directed,
         } => by_lists(
             alloc,
-            ListOperation::Intersection,
+            OnLists::Intersection {
+                multi: *multi,
+                directed: *directed,
+            },
             first,
             second,
             input,
             more,
-            *multi,
-            *directed,
         ),
         Expr::Lines { graph, directed } => {
-            let operand = evaluate(alloc, graph, input, more)?;
-            lines(alloc, &operand, *directed)
+            let operand = operand(alloc, graph, input, more)?;
+            lines_of_operand(alloc, operand, *directed)
         }
         Expr::Product {
             first,
@@ -149,16 +158,14 @@ fn evaluate(
 #[cycle(graphs)]
 fn by_lists(
     alloc: Global,
-    operation: ListOperation,
+    operation: OnLists,
     first: &Expr,
     second: &Expr,
     input: &mut Kept<'_>,
     more: bool,
-    multi: bool,
-    directed: bool,
 ) -> Result<Graph, Panic>
     ensures value { (stdin : List ℕ → Result GraphData Panic) → GivesStdin stdin
-        → IsValue (value_of (stdin input.old) (OfGraphs (on_lists operation multi directed)
+        → IsValue (value_of (stdin input.old) (OfGraphs (on_lists operation)
         (expression_of first.now) (expression_of second.now))) result }
     ensures left { IfOk result (λ _. input.new ≡ left_after more
         (has_stdin (expression_of first.now) || has_stdin (expression_of second.now)) input.old) }
@@ -167,7 +174,7 @@ fn by_lists(
 {
     let left = operand(alloc, first, input, more_with(more, second))?;
     let right = operand(alloc, second, input, more);
-    answer_of(alloc, operation, left, right, multi, directed)
+    answer_of(alloc, operation, left, right)
 }
 
 // The graph of an expression, which need not be built where a generator names it.

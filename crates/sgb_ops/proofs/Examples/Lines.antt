@@ -106,7 +106,7 @@ lines_of_half = refl
 
 -- the line from u to v
 abbrev line : ℕ → ℕ → Line
-line u v = record { from = u; to = v; number = 0 }
+line u v = record { from = u; to = v }
 
 -- the line from 1 to 2 meets those that share one of its ends
 pub lines_met : map (meets false (line 1 2)) (line 1 5 ∷ line 0 1 ∷ line 2 5 ∷ line 0 2 ∷ line 0 5 ∷ []) ≡ true ∷ true ∷ true ∷ true ∷ false ∷ []

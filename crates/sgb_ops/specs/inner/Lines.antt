@@ -1,8 +1,6 @@
 -- Lines between vertices of a graph, from the last vertex down, and the events between them [GB_BASIC, lines].
-use Rattle.std.specs.Prelude.{ℕ, pos, ◌<◌, ◌≤◌, ◌==◌, Bool, false, ◌||◌, List, [], ◌∷◌, map, filter, take, if◌then◌else◌}
+use Rattle.std.specs.Prelude.{ℕ, pos, ◌<◌, ◌≤◌, ◌==◌, Bool, false, ◌||◌, List, [], ◌∷◌, map, filter, take, slice_index_or, if◌then◌else◌}
 use Rattle.std.specs.List.{enumerate_from}
-use Rattle.sgb_graph.specs.Graphs.{GraphData}
-use Rattle.sgb_graph.specs.Vertices.{name_at}
 use Rattle.sgb_graph.specs.declared.fields.Link.{Link}
 use Rattle.sgb_graph.specs.declared.fields.Ref.{Ref}
 use Rattle.sgb_graph.specs.declared.fields.Ref.TheVariants.{Null, One, At}
@@ -13,11 +11,11 @@ use Rattle.sgb_ops.specs.declared.line_graphs.line.Line.{Line}
 
 -- any line
 abbrev pub no_line : Line
-no_line = record { from = 0; to = 0; number = 0 }
+no_line = record { from = 0; to = 0 }
 
 -- the line of an arc that is taken of v
 abbrev pub line_of : ℕ → Link → Line
-line_of v l = record { from = v; to = l.tip; number = l.number }
+line_of v l = record { from = v; to = l.tip }
 
 -- the tip is vertex v
 abbrev pub points_to : Ref → ℕ → Bool
@@ -49,9 +47,9 @@ abbrev pub events_to : Bool → ℕ → Line → List Line → List Event
 events_to directed i line others =
     map (λ q. record { from = i; to = q.0; len = pos 1 }) (filter (λ q. meets directed line q.1) (enumerate_from 0 others))
 
--- the names of the lines
-abbrev pub names_of_lines : GraphData → Bool → List Line → List (List ℕ)
-names_of_lines g directed lines = map (λ line. line_name directed (name_at g line.from) (name_at g line.to)) lines
+-- the names of the lines between vertices of these names
+abbrev pub names_of_lines : List (List ℕ) → Bool → List Line → List (List ℕ)
+names_of_lines names directed lines = map (λ line. line_name directed (slice_index_or names line.from []) (slice_index_or names line.to [])) lines
 
 -- the events of length 1 from line number i to those with these numbers
 abbrev pub events_to_numbers : ℕ → List ℕ → List Event

@@ -6,6 +6,9 @@ use Rattle.sgb_graph.specs.Made.{graph_described}
 use Rattle.sgb_graph.specs.declared.fields.Link.{Link}
 use Rattle.sgb_gen.specs.Boards.{board_vector_graph}
 use Rattle.sgb_gen.specs.VectorGraphs.{described_by}
+use Rattle.sgb_graph.specs.Vertices.{names_of}
+use Rattle.sgb_ops.specs.declared.operands.VertexNames.{VertexNames}
+use Rattle.sgb_ops.specs.declared.operands.VertexNames.TheVariants.{Of, Made}
 use Rattle.sgb_ops.specs.declared.sources.SourceKind.{SourceKind}
 use Rattle.sgb_ops.specs.declared.sources.SourceKind.TheVariants.{Built, Flat}
 
@@ -13,6 +16,11 @@ use Rattle.sgb_ops.specs.declared.sources.SourceKind.TheVariants.{Built, Flat}
 abbrev pub graph_kept : SourceKind → GraphData
 graph_kept (Built g) = g.now
 graph_kept (Flat b) = graph_described (described_by (board_vector_graph b.now))
+
+-- the names of a graph's vertices, as they are read
+abbrev pub names_held : VertexNames → List (List ℕ)
+names_held (Of g) = names_of g.now
+names_held (Made names) = names
 
 -- the arcs of each vertex lead to vertices
 abbrev pub HasTips : GraphData → Type 0

@@ -1,45 +1,70 @@
-//! The operations that read each list of their operands once, in order: operands that a generator names need not be built.
-ghost use Rattle.std.specs.Prelude.{◌≡◌, IfErr, IfOk, IfSome, Err, Ok};
+//! The operations that read their operands list by list: an operand that a generator names need not be built.
+ghost use Rattle.std.specs.Prelude.{◌≡◌, IfErr, IfOk, IfSome, Err, Ok, IsOkUnless};
 ghost use Rattle.sgb_vec.specs.Results.{IsValue};
 ghost use Rattle.sgb_vec.specs.declared.panics.Panic.{Panic};
 ghost use Rattle.sgb_graph.specs.Descriptions.{IsAnswerOf};
+ghost use Rattle.sgb_graph.specs.Made.{graph_described};
 ghost use Rattle.sgb_gen.specs.Boards.{board_vector_graph};
-ghost use Rattle.sgb_gen.specs.Generators.{IsGeneratorRefused, described, generator_value, made};
+ghost use Rattle.sgb_gen.specs.Generators.{IsGeneratorRefused, generator_value, made};
 ghost use Rattle.sgb_gen.specs.VectorGraphs.{described_by};
-ghost use Rattle.sgb_values.specs.Values.{of_graphs};
-ghost use Rattle.sgb_values.specs.inner.Operands.{graph_held, on_lists};
+ghost use Rattle.sgb_expr.specs.Expression.{Lines};
+ghost use Rattle.sgb_values.specs.Values.{of_graph, of_graphs};
+ghost use Rattle.sgb_values.specs.inner.Operands.{graph_held, on_list, on_lists};
 
 use sgb_gen::{FlatLists, Generator, Local, local_of};
 use sgb_graph::Graph;
-use sgb_ops::{Source, gunion_of, intersection_of};
+use sgb_ops::{Source, complement_of, directed_lines_of, gunion_of, intersection_of, lines};
 use sgb_vec::Panic;
 use std::alloc::Global;
 
-/// An operation that reads each list of its two operands once, in order.
+/// An operation that reads the lists of its operand.
 #[derive(Clone, Copy)]
-pub(crate) enum ListOperation {
-    /// The union.
-    Union,
-    /// The intersection.
-    Intersection,
+pub(crate) enum OnList {
+    /// The complement.
+    Complement {
+        copy: bool,
+        self_loops: bool,
+        directed: bool,
+    },
+    /// The directed line graph.
+    DirectedLines,
 }
 
-impl ListOperation {
-    // Its answer on two graphs.
-    fn answer(
-        self,
-        alloc: Global,
-        first: &Source<'_>,
-        second: &Source<'_>,
-        multi: bool,
-        directed: bool,
-    ) -> Result<Graph, Panic>
-        ensures { IsAnswerOf (of_graphs (on_lists self multi directed) first.now second.now)
-            result }
+impl OnList {
+    // Its answer on a graph.
+    fn answer(self, alloc: Global, graph: &Source<'_>) -> Result<Graph, Panic>
+        ensures { IsAnswerOf (of_graph (on_list self) graph.now) result }
     {
         match self {
-            ListOperation::Union => gunion_of(alloc, first, second, multi, directed),
-            ListOperation::Intersection => intersection_of(alloc, first, second, multi, directed),
+            OnList::Complement {
+                copy,
+                self_loops,
+                directed,
+            } => complement_of(alloc, graph, copy, self_loops, directed),
+            OnList::DirectedLines => directed_lines_of(alloc, graph),
+        }
+    }
+}
+
+/// An operation that reads the lists of its two operands.
+#[derive(Clone, Copy)]
+pub(crate) enum OnLists {
+    /// The union.
+    Union { multi: bool, directed: bool },
+    /// The intersection.
+    Intersection { multi: bool, directed: bool },
+}
+
+impl OnLists {
+    // Its answer on two graphs.
+    fn answer(self, alloc: Global, first: &Source<'_>, second: &Source<'_>) -> Result<Graph, Panic>
+        ensures { IsAnswerOf (of_graphs (on_lists self) first.now second.now) result }
+    {
+        match self {
+            OnLists::Union { multi, directed } => gunion_of(alloc, first, second, multi, directed),
+            OnLists::Intersection { multi, directed } => {
+                intersection_of(alloc, first, second, multi, directed)
+            }
         }
     }
 }
@@ -51,6 +76,30 @@ pub(crate) enum Operand {
     Built(Graph),
     /// A generator's, by its accepted parameters.
     Listed(Local),
+}
+
+impl Operand {
+    // What its lists have in common, where it is a board with no side that wraps around. `None` where it may be another graph.
+    fn flat_lists(&self, alloc: Global) -> Option<FlatLists<'_>>
+        ensures { IfSome result (λ b. graph_held self.now
+            ≡ graph_described (described_by (board_vector_graph b))) }
+    {
+        match self {
+            Operand::Listed(Local::Board(board)) => board.flat_lists(alloc),
+            _ => None,
+        }
+    }
+
+    // The graph, which is built now where it was not.
+    fn graph(self, alloc: Global) -> Result<Graph, Panic>
+        ensures ok { IfOk result (λ g. g ≡ graph_held self) }
+        ensures memory { IsOkUnless result Panic.NoRoom }
+    {
+        match self {
+            Operand::Built(graph) => Ok(graph),
+            Operand::Listed(local) => local.graph(alloc),
+        }
+    }
 }
 
 /// The graph of a generator, as an operand.
@@ -65,107 +114,88 @@ pub(crate) fn generated(alloc: Global, generator: &Generator) -> Result<Operand,
     Ok(Operand::Listed(local))
 }
 
-/// The answer of an operation on two operands (GB_BASIC, gunion and intersection), which are then dropped. The lists of a
-/// board with no side that wraps around are read with no graph built.
+/// The answer of an operation on an operand, which is then dropped. The lists of a board with no side that wraps around are
+/// read with no graph built.
 ///
-/// The refusal of the second; or `NoRoom` when out of memory, and nothing else.
-pub(crate) fn answer_of(
+/// The refusal of the operation, or `NoRoom` when out of memory.
+pub(crate) fn answer_of_one(
     alloc: Global,
-    operation: ListOperation,
-    first: Operand,
-    second: Result<Operand, Panic>,
-    multi: bool,
+    operation: OnList,
+    operand: Operand,
+) -> Result<Graph, Panic>
+    ensures { IsAnswerOf (of_graph (on_list operation) (graph_held operand)) result }
+{
+    if let Some(lists) = operand.flat_lists(alloc) {
+        return operation.answer(alloc, &Source::flat(&lists));
+    }
+    let graph = operand.graph(alloc)?;
+    operation.answer(alloc, &Source::built(&graph))
+}
+
+/// The line graph of an operand, which is then dropped. Where it is not directed the operand is built: whether it consists of
+/// edges is told by its records.
+///
+/// The refusal of the operation, or `NoRoom` when out of memory.
+pub(crate) fn lines_of_operand(
+    alloc: Global,
+    operand: Operand,
     directed: bool,
 ) -> Result<Graph, Panic>
+    ensures { IsAnswerOf (of_graph (Lines directed) (graph_held operand)) result }
+{
+    if directed {
+        return answer_of_one(alloc, OnList::DirectedLines, operand);
+    }
+    let graph = operand.graph(alloc)?;
+    lines(alloc, &graph, false)
+}
+
+/// The answer of an operation on two operands, which are then dropped.
+///
+/// The refusal of the second comes first.
+pub(crate) fn answer_of(
+    alloc: Global,
+    operation: OnLists,
+    first: Operand,
+    second: Result<Operand, Panic>,
+) -> Result<Graph, Panic>
     ensures ok { IfOk second (λ o. IsAnswerOf
-        (of_graphs (on_lists operation multi directed) (graph_held first) (graph_held o)) result) }
+        (of_graphs (on_lists operation) (graph_held first) (graph_held o)) result) }
     ensures refused { IfErr second (λ p. result ≡ Err p) }
 {
     let second = second?;
-    answer_both(alloc, operation, &first, &second, multi, directed)
+    answer_of_two(alloc, operation, first, second)
 }
 
 // The answer on two operands.
-fn answer_both(
+fn answer_of_two(
     alloc: Global,
-    operation: ListOperation,
-    first: &Operand,
-    second: &Operand,
-    multi: bool,
-    directed: bool,
+    operation: OnLists,
+    first: Operand,
+    second: Operand,
 ) -> Result<Graph, Panic>
-    ensures { IsAnswerOf (of_graphs (on_lists operation multi directed) (graph_held first.now)
-        (graph_held second.now)) result }
+    ensures { IsAnswerOf (of_graphs (on_lists operation) (graph_held first) (graph_held second))
+        result }
 {
-    let local = match first {
-        Operand::Built(graph) => {
-            return answer_with(
-                alloc,
-                operation,
-                &Source::built(graph),
-                second,
-                multi,
-                directed,
-            );
-        }
-        Operand::Listed(local) => local,
-    };
-    match flat_lists(alloc, local) {
-        Some(lists) => answer_with(
-            alloc,
-            operation,
-            &Source::flat(&lists),
-            second,
-            multi,
-            directed,
-        ),
-        None => {
-            let graph = local.graph(alloc)?;
-            answer_with(
-                alloc,
-                operation,
-                &Source::built(&graph),
-                second,
-                multi,
-                directed,
-            )
-        }
+    if let Some(lists) = first.flat_lists(alloc) {
+        return answer_with(alloc, operation, &Source::flat(&lists), second);
     }
+    let graph = first.graph(alloc)?;
+    answer_with(alloc, operation, &Source::built(&graph), second)
 }
 
 // The answer on a graph that is read and an operand.
 fn answer_with(
     alloc: Global,
-    operation: ListOperation,
+    operation: OnLists,
     first: &Source<'_>,
-    second: &Operand,
-    multi: bool,
-    directed: bool,
+    second: Operand,
 ) -> Result<Graph, Panic>
-    ensures { IsAnswerOf (of_graphs (on_lists operation multi directed) first.now
-        (graph_held second.now)) result }
+    ensures { IsAnswerOf (of_graphs (on_lists operation) first.now (graph_held second)) result }
 {
-    let local = match second {
-        Operand::Built(graph) => {
-            return operation.answer(alloc, first, &Source::built(graph), multi, directed);
-        }
-        Operand::Listed(local) => local,
-    };
-    match flat_lists(alloc, local) {
-        Some(lists) => operation.answer(alloc, first, &Source::flat(&lists), multi, directed),
-        None => {
-            let graph = local.graph(alloc)?;
-            operation.answer(alloc, first, &Source::built(&graph), multi, directed)
-        }
+    if let Some(lists) = second.flat_lists(alloc) {
+        return operation.answer(alloc, first, &Source::flat(&lists));
     }
-}
-
-// What the lists of a board with no side that wraps around have in common. `None` where it may be another graph.
-fn flat_lists(alloc: Global, local: &Local) -> Option<FlatLists<'_>>
-    ensures { IfSome result (λ b. described local.now ≡ described_by (board_vector_graph b)) }
-{
-    match local {
-        Local::Board(board) => board.flat_lists(alloc),
-        _ => None,
-    }
+    let graph = second.graph(alloc)?;
+    operation.answer(alloc, first, &Source::built(&graph))
 }

@@ -1,11 +1,8 @@
-use Rattle.std.proofs.Common.{◌≡◌, ℕ, ◌<◌, length, All}
-use Rattle.sgb_graph.specs.Graphs.{chain_of}
+use Rattle.std.proofs.Common.{◌≡◌, ℕ, drop, length}
 use Rattle.sgb_ops.proofs.Marks.{mark_at}
 use Rattle.sgb_ops.proofs.complements.mark_tips.Given as goal
 
--- with the marks of the arcs that are to come, those of the whole list are there
-abbrev pub invariant-loop-link : goal.invariant-loop-link
-invariant-loop-link l =
-    (length l.marks ≡ length l.graph.vertices)
-    × All (λ link. link.tip < length l.graph.vertices) l.link-iterator
-    × ((w : ℕ) → mark_at l.link-iterator l.mark l.marks w ≡ mark_at (chain_of l.graph l.u) l.mark l.fn.marks w)
+-- with the marks of those that are to come, all are there
+abbrev pub invariant-loop-tip : goal.invariant-loop-tip
+invariant-loop-tip l =
+    (length l.marks ≡ length l.fn.marks) × ((w : ℕ) → mark_at (drop l.tip-index l.tips) l.mark l.marks w ≡ mark_at l.tips l.mark l.fn.marks w)

@@ -65,7 +65,7 @@ evaluate-returns-in-Generator-clause-value t c =
 pub evaluate-returns-in_ok-operand-in-Complement-clause-value : goal.evaluate-returns-in_ok-operand-in-Complement-clause-value
 evaluate-returns-in_ok-operand-in-Complement-clause-value t c =
     let a = c.in-Complement in
-    rw a.is (λ stdin gives. value_one (λ g. complement_of g a.copy a.self_loops a.directed) (stdin c.args.input.now) _ a.graph.value _ _ c.deref.ensures (c.in_ok-operand-in-Complement.ensures.value stdin gives) c.complement.ensures)
+    rw a.is (λ stdin gives. value_one (λ g. complement_of g a.copy a.self_loops a.directed) (stdin c.args.input.now) _ a.graph.value _ _ c.deref.ensures (c.in_ok-operand-in-Complement.ensures.ok stdin gives) c.answer_of_one.ensures)
 
 pub evaluate-returns-in-Gunion-clause-value : goal.evaluate-returns-in-Gunion-clause-value
 evaluate-returns-in-Gunion-clause-value t c =
@@ -95,11 +95,11 @@ evaluate-returns-in-Intersection-clause-refused t c =
 
 pub evaluate-returns-in_ok-operand-in-Complement-clause-left : goal.evaluate-returns-in_ok-operand-in-Complement-clause-left
 evaluate-returns-in_ok-operand-in-Complement-clause-left t c =
-    if_ok c.complement.result _ (c.in_ok-operand-in-Complement.ensures.left ∙ ap (left_by c.args.more c.args.input.now) c.deref.ensures ∙ ap (left_by c.args.more c.args.input.now) (sym c.in-Complement.is))
+    if_ok c.answer_of_one.result _ (c.in_ok-operand-in-Complement.ensures.left ∙ ap (left_by c.args.more c.args.input.now) c.deref.ensures ∙ ap (left_by c.args.more c.args.input.now) (sym c.in-Complement.is))
 
 pub evaluate-returns-in_ok-operand-in-Lines-clause-left : goal.evaluate-returns-in_ok-operand-in-Lines-clause-left
 evaluate-returns-in_ok-operand-in-Lines-clause-left t c =
-    if_ok c.lines.result _ (c.in_ok-operand-in-Lines.ensures.left ∙ ap (left_by c.args.more c.args.input.now) c.deref-in-Lines.ensures ∙ ap (left_by c.args.more c.args.input.now) (sym c.in-Lines.is))
+    if_ok c.lines_of_operand.result _ (c.in_ok-operand-in-Lines.ensures.left ∙ ap (left_by c.args.more c.args.input.now) c.deref-in-Lines.ensures ∙ ap (left_by c.args.more c.args.input.now) (sym c.in-Lines.is))
 
 pub evaluate-returns-in_ok-left-in-Product-clause-left : goal.evaluate-returns-in_ok-left-in-Product-clause-left
 evaluate-returns-in_ok-left-in-Product-clause-left t c =
@@ -110,7 +110,7 @@ evaluate-returns-in_ok-left-in-Product-clause-left t c =
 pub evaluate-returns-in_ok-operand-in-Lines-clause-value : goal.evaluate-returns-in_ok-operand-in-Lines-clause-value
 evaluate-returns-in_ok-operand-in-Lines-clause-value t c =
     let a = c.in-Lines in
-    rw a.is (λ stdin gives. value_one (λ g. line_graph_of g a.directed) (stdin c.args.input.now) _ a.graph.value _ _ c.deref-in-Lines.ensures (c.in_ok-operand-in-Lines.ensures.value stdin gives) c.lines.ensures)
+    rw a.is (λ stdin gives. value_one (λ g. line_graph_of g a.directed) (stdin c.args.input.now) _ a.graph.value _ _ c.deref-in-Lines.ensures (c.in_ok-operand-in-Lines.ensures.ok stdin gives) c.lines_of_operand.ensures)
 
 pub evaluate-returns-in_ok-left-in-Product-clause-value : goal.evaluate-returns-in_ok-left-in-Product-clause-value
 evaluate-returns-in_ok-left-in-Product-clause-value t c =
@@ -232,7 +232,7 @@ by_lists-returns-clause-value t c = λ stdin gives.
     let e = expression_of c.args.second.now in
     let same = value_on _ _ _ _ _ stdin e c.more_with.ensures c.in_ok-left.ensures.left in
     let v : Result GraphData Panic = value_of (stdin c.args.input.now) e in
-    lists_answered (stdin c.args.input.now) (expression_of c.args.first.now) e (graph_held c.in_ok-left.left) c.operand-right.result c.answer_of.result (on_lists c.args.operation c.args.multi c.args.directed)
+    lists_answered (stdin c.args.input.now) (expression_of c.args.first.now) e (graph_held c.in_ok-left.left) c.operand-right.result c.answer_of.result (on_lists c.args.operation)
     (c.in_ok-left.ensures.ok stdin gives)
     (subst (λ (w : Result GraphData Panic). IfOk c.operand-right.result (λ o. w ≡ Ok (graph_held o))) same (c.operand-right.ensures.ok stdin gives))
     (subst (λ (w : Result GraphData Panic). IfErr c.operand-right.result (λ p. IsValue w (Err p))) same (c.operand-right.ensures.err stdin gives))

@@ -1,7 +1,6 @@
 use Rattle.std.proofs.Common.{◌≡◌, ◌+◌, ◌<◌, ◌≤◌, ℕ, length, slice_index, sym, ap, subst, refl, ◌∙◌, arith, flat_map}
-use Rattle.sgb_graph.specs.Graphs.{chain_of}
-use Rattle.sgb_ops.specs.inner.Complement.{complement_events_from}
-use Rattle.sgb_ops.proofs.Marks.{mark_at-le, lent_back}
+use Rattle.sgb_ops.specs.inner.Complement.{complement_events_from, has_arc}
+use Rattle.sgb_ops.proofs.Marks.{mark_le, lent_back}
 use Rattle.sgb_ops.proofs.Places.{place_added, places_added}
 use Rattle.sgb_ops.proofs.complements.Wanted.add_arcs.Goals as goal
 
@@ -12,11 +11,11 @@ loop-u-preserved c =
     let u = c.loop-u.u in
     let old = c.deref_mut.result.now in
     let same : old ≡ c.loop-u.marks.items = c.deref_mut.ensures.value in
-    let new = c.mark_tips.new.marks in
+    let new = c.mark_arcs.new.marks in
     let size : length new ≡ c.loop-u.marks.len = omega (arith, c.loop-u.marks.ok.0) in
     let back = lent_back c.loop-u.marks.len new _ size in
     let bound : (w : ℕ) → w < length g.vertices → slice_index new w ≤ u + 1 =
-    λ w h. subst (λ m. m ≤ u + 1) (sym (c.mark_tips.ensures w h)) (mark_at-le (chain_of g u) u old w (subst (λ ms. slice_index ms w ≤ u) (sym same) (c.loop-u.invariant.2 w h))) in (
+    λ w h. subst (λ m. m ≤ u + 1) (sym (c.in_ok-mark_arcs.ensures.ok w h)) (mark_le (has_arc g u w) u (slice_index old w) (subst (λ ms. slice_index ms w ≤ u) (sym same) (c.loop-u.invariant.2 w h))) in (
       place_added wanted.directed c.args.built.now c.loop-u.built (flat_map (complement_events_from g wanted.copy wanted.self_loops wanted.directed)) (length g.vertices) u c.add_arcs_from.new.built _ (omega arith) c.loop-u.invariant.0 c.in_ok-add_arcs_from.ensures.ok refl,
       ap length back ∙ size ∙ c.loop-u.marks.ok.0 ∙ c.loop-u.invariant.1,
       (λ w h. subst (λ ms. slice_index ms w ≤ u + 1) (sym back) (bound w h)),

@@ -1,9 +1,9 @@
-use Rattle.sgb_vec.proofs.Common.{rules, ◌<◌, get_or, arith, drop_more}
+use Rattle.sgb_vec.proofs.Common.{rules, ◌≡◌, ◌<◌, ◌+◌, ◌∷◌, true, ap, drop, get_or, subst, arith, drop_more}
 use Rattle.sgb_graph.specs.Growth.{AddsEvents}
 use Rattle.sgb_graph.specs.Graphs.{GraphData}
 use Rattle.sgb_graph.proofs.AddedEvents.{AddsUpTo, up_to-more, up_to-none}
 use Rattle.sgb_ops.specs.Lines.{line_events}
-use Rattle.sgb_ops.specs.inner.Lines.{no_line, events_to}
+use Rattle.sgb_ops.specs.inner.Lines.{no_line}
 use Rattle.sgb_ops.proofs.LineEvents.{events_from}
 use Rattle.sgb_ops.proofs.LineRuns.{ends_read, few_from, run_events}
 use Rattle.sgb_ops.proofs.line_graphs.arcs.add_arcs.Goals as goal
@@ -20,4 +20,13 @@ pub loop-i-init : goal.loop-i-init
 loop-i-init c = search (rules, line_events, GraphData, AddsUpTo, up_to-none)
 
 pub loop-i-preserved : goal.loop-i-preserved
-loop-i-preserved c = search (rules, no_line, ends_read, drop_more, AddsEvents, run_events, up_to-more, events_to, events_from, line_events)
+loop-i-preserved c =
+    let lines = c.args.lines.now in
+    let i = c.loop-i.i in
+    let line = get_or lines i no_line in
+    let below : line.to < c.args.n = (c.requires.within i no_line c.loop-i-test.true).1 in
+    let next : drop i lines ≡ line ∷ drop (i + 1) lines = drop_more lines i no_line (omega arith) in
+    let first = ends_read c.args.n (line.to + 1) lines c.in_ok-ends.ends.items c.index.result.now (omega (arith, below)) c.in_ok-ends.ensures.size c.in_ok-ends.ensures.ends c.index.ensures in
+    let end = ends_read c.args.n line.to lines c.in_ok-ends.ends.items c.index-in-loop-i.result.now (omega (arith, below)) c.in_ok-ends.ensures.size c.in_ok-ends.ensures.ends c.index-in-loop-i.ensures in
+    let added = subst (AddsEvents true c.loop-i.built c.add_arcs_to.new.built) (run_events c.args.n lines i line c.index.result.now c.index-in-loop-i.result.now c.requires.descending first end) c.in_ok-add_arcs_to.ensures.ok in
+    up_to-more true c.args.built.now c.loop-i.built c.add_arcs_to.new.built _ (events_from true lines (i + 1) (drop (i + 1) lines)) _ _ c.loop-i.invariant (ap (events_from true lines i) next) added

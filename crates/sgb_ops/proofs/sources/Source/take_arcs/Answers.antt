@@ -10,24 +10,18 @@ use Rattle.sgb_ops.proofs.EventsWithin.{TipBelow}
 use Rattle.sgb_ops.proofs.ListedEvents.{listed_tips}
 use Rattle.sgb_ops.proofs.sources.Source.take_arcs.Goals as goal
 
-pub returns-in_ok-push_links_of-in-Flat-clause-ok : goal.returns-in_ok-push_links_of-in-Flat-clause-ok
-returns-in_ok-push_links_of-in-Flat-clause-ok c =
+pub returns-in_ok-push_links_of-in-Flat : goal.returns-in_ok-push_links_of-in-Flat
+returns-in_ok-push_links_of-in-Flat c =
     let g = graph_described (described_by (board_vector_graph c.in-Flat.lists.now)) in
     let same : g ≡ c.args.self.now = ap graph_kept (sym c.in-Flat.is) ∙ c.self.view_is in
     let below = subst (λ (h : GraphData). c.args.v < length h.vertices) (sym same) c.requires.vertex in
+    let links = taken c.args.directed g c.args.v in
     let read =
-    arcs_read c.args.directed g c.args.v c.size.result c.clear-in-Flat.new.self.items c.push_listed.new.events.items c.deref.result.now c.clear.new.self.items c.push_links_of.new.arcs.items
-    c.size.ensures.tips below c.size.ensures.count c.clear-in-Flat.ensures.items c.in_ok-push_listed-in-Flat.ensures.ok c.deref.ensures.value c.clear.ensures.items c.in_ok-push_links_of-in-Flat.ensures.ok in
-    subst (λ (h : GraphData). map bare c.push_links_of.new.arcs.items ≡ map bare (taken c.args.directed h c.args.v)) same
-    (ap (map bare) read ∙ bare_twice (taken c.args.directed g c.args.v))
-
-pub returns-in_ok-push_links_of-in-Flat-clause-tips : goal.returns-in_ok-push_links_of-in-Flat-clause-tips
-returns-in_ok-push_links_of-in-Flat-clause-tips c =
-    let g = graph_described (described_by (board_vector_graph c.in-Flat.lists.now)) in
-    let same : g ≡ c.args.self.now = ap graph_kept (sym c.in-Flat.is) ∙ c.self.view_is in
-    let below = subst (λ (h : GraphData). c.args.v < length h.vertices) (sym same) c.requires.vertex in
-    let read =
-    arcs_read c.args.directed g c.args.v c.size.result c.clear-in-Flat.new.self.items c.push_listed.new.events.items c.deref.result.now c.clear.new.self.items c.push_links_of.new.arcs.items
-    c.size.ensures.tips below c.size.ensures.count c.clear-in-Flat.ensures.items c.in_ok-push_listed-in-Flat.ensures.ok c.deref.ensures.value c.clear.ensures.items c.in_ok-push_links_of-in-Flat.ensures.ok in
-    subst (λ (h : GraphData). All (TipBelow (length h.vertices)) c.push_links_of.new.arcs.items) same
-    (subst (All (TipBelow (length g.vertices))) (sym read) (bare_tips (length g.vertices) (taken c.args.directed g c.args.v) (listed_tips c.args.directed g c.args.v c.size.ensures.tips below)))
+    arcs_read c.args.v links c.put_listed.new.events.items c.deref.result.now c.clear.new.self.items c.push_links_of.new.arcs.items
+    c.in_ok-put_listed-in-Flat.ensures.ok c.deref.ensures.value c.clear.ensures.items c.in_ok-push_links_of-in-Flat.ensures.ok in
+    record {
+      ok = subst (λ (h : GraphData). map bare c.push_links_of.new.arcs.items ≡ map bare (taken c.args.directed h c.args.v)) same (ap (map bare) read ∙ bare_twice links);
+      tips = subst (λ (h : GraphData). All (TipBelow (length h.vertices)) c.push_links_of.new.arcs.items) same
+          (subst (All (TipBelow (length g.vertices))) (sym read) (bare_tips (length g.vertices) links (listed_tips c.args.directed g c.args.v c.put_listed.ensures.tips below)));
+      memory = tt;
+    }

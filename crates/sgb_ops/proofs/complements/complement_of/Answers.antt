@@ -3,7 +3,7 @@ use Rattle.sgb_graph.specs.Vertices.{names_of}
 use Rattle.sgb_ops.specs.Complement.{complement_events}
 use Rattle.sgb_ops.specs.inner.Compounds.{complement_id}
 use Rattle.sgb_ops.proofs.Results.{made}
-use Rattle.sgb_ops.proofs.complements.complement.Goals as goal
+use Rattle.sgb_ops.proofs.complements.complement_of.Goals as goal
 
 pub returns : goal.returns
 returns c =
