@@ -16,6 +16,12 @@ use sgb_file::Sink;
 use sgb_graph::{Graph, Id, Link};
 use sgb_requests::{Fault, Resume};
 
+// Lists are long where vertices have more arcs than this, on the mean.
+const LONG_LIST: u64 = 16;
+
+// So many records take more memory than is near a processor.
+const MANY_RECORDS: usize = 2_097_152;
+
 /// Writes the listing of a graph: the head, and a block for each vertex; or, where the answer begins further on,
 /// the blocks from there.
 ///
@@ -104,11 +110,19 @@ fn write_blocks<W: Sink>(
 {
     let end = graph.n();
     let start = from.min(u64::from(end)) as u32;
+    let looks_ahead = pays_to_read_ahead(graph);
     for v in start..end {
-        graph.read_ahead(v);
+        if looks_ahead {
+            graph.read_ahead(v);
+        }
         push_block(graph, v, page, out)?;
     }
     put_page(page, out)
+}
+
+// Whether lists are so long, or the records so many, that it takes less time to look at several lists side by side first.
+fn pays_to_read_ahead(graph: &Graph) -> bool {
+    graph.m() / LONG_LIST > u64::from(graph.n()) || graph.records_len() > MANY_RECORDS
 }
 
 // Hands the block of a vertex to a page: its name, and a line for each of its arcs.
