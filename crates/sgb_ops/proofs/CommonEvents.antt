@@ -1,5 +1,5 @@
 -- The events of an intersection, as they are found one by one.
-use Rattle.sgb_vec.proofs.Common.{rules, ◌≡◌, ◌<◌, ◌+◌, ◌-◌, ◌==◌, ℕ, min, ℤ, Bool, true, false, List, [], ◌∷◌, ◌++◌, map, take, length, Option, Some, None, refl, sym, ◌∙◌, append_assoc, arith, All, flat_map, nat_lt, if◌then◌else◌, enumerate_from, cases_Bool, cond_both, ltb-true, nat_tests, length-append, take_at, All-nil, All-cons, All-append, length-filter, int_max}
+use Rattle.sgb_vec.proofs.Common.{rules, ◌≡◌, ◌<◌, ◌+◌, ◌==◌, ℕ, min, ℤ, Bool, true, false, List, [], ◌∷◌, ◌++◌, map, take, length, Option, refl, sym, ◌∙◌, append_assoc, arith, All, flat_map, nat_lt, if◌then◌else◌, enumerate_from, cases_Bool, cond_both, ltb-true, nat_tests, length-append, take_at, All-nil, All-cons, All-append, length-filter, int_max}
 use Rattle.sgb_graph.specs.Graphs.{GraphData}
 use Rattle.sgb_graph.specs.Events.{Event, HasEndsBelow}
 use Rattle.sgb_graph.specs.declared.fields.Link.{Link}

@@ -1,5 +1,5 @@
 -- The lines of a graph of edges: one for each edge, and each has its way back.
-use Rattle.sgb_vec.proofs.Common.{rules, ◌≡◌, ◌≢◌, ◌+◌, ◌*◌, ◌/◌, ◌≤◌, ◌<◌, ◌==◌, ℕ, zero, suc, min, Bool, true, false, not, cond, nat_lt, List, [], ◌∷◌, map, reverse, length, refl, sym, ap, ◌∙◌, arith, All, All-weaker, Ok, Err, filter, slice_get, if◌then◌else◌, enumerate_from, list_all, range_with_len, option_map_or, and_from, cond_both, eq-eqb, lt-ltb, le-ltb, nat_tests, length-append, length-map, length-reverse, AllPass-from_list_all, list_all-from_AllPass, list_all-map, slice_get-map}
+use Rattle.sgb_vec.proofs.Common.{rules, ◌≡◌, ◌≢◌, ◌+◌, ◌*◌, ◌/◌, ◌≤◌, ◌<◌, ◌==◌, ℕ, zero, suc, min, Bool, true, false, not, cond, nat_lt, List, [], ◌∷◌, map, reverse, length, refl, sym, ap, ◌∙◌, arith, All, All-weaker, Ok, Err, filter, slice_get, if◌then◌else◌, enumerate_from, list_all, option_map_or, and_from, cond_both, eq-eqb, lt-ltb, le-ltb, nat_tests, length-append, length-map, length-reverse, AllPass-from_list_all, list_all-from_AllPass, list_all-map, slice_get-map}
 use Rattle.sgb_vec.proofs.Lists.{All-reverse, filter-all, filter-none, range-within}
 use Rattle.sgb_vec.specs.Limits.{most_vertices}
 use Rattle.sgb_vec.specs.Results.{and_then}

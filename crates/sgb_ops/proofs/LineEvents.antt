@@ -1,16 +1,11 @@
 -- The lines of a graph and the events between them, as they are found one by one.
-use Rattle.sgb_vec.proofs.Common.{rules, ◌≡◌, ◌<◌, ◌≤◌, ◌+◌, ℕ, suc, Bool, List, [], ◌∷◌, ◌++◌, map, reverse, length, refl, sym, ap, ◌∙◌, arith, Result, Ok, Err, IfOk, IsOkUnless, All, flat_map, range_with_len, enumerate_from, reverse-append, All-nil, All-cons, All-map, All-weaker}
+use Rattle.sgb_vec.proofs.Common.{rules, ◌≡◌, ◌<◌, ◌≤◌, ◌+◌, ℕ, suc, Bool, List, [], ◌∷◌, ◌++◌, map, reverse, length, refl, sym, ap, ◌∙◌, arith, All, flat_map, range_with_len, enumerate_from, reverse-append, All-nil, All-cons, All-map, All-weaker}
 use Rattle.sgb_graph.specs.Graphs.{GraphData}
 use Rattle.sgb_graph.specs.Events.{Event}
 use Rattle.sgb_graph.specs.declared.fields.Link.{Link}
-use Rattle.sgb_ops.specs.Lines.{accepted_lines, line_events, line_graph_of, lines_of_graph}
-use Rattle.sgb_ops.specs.inner.Lines.{LineWithin, events_to, line_of, lines_for, names_of_lines}
-use Rattle.sgb_graph.specs.Vertices.{names_of, order_of}
-use Rattle.sgb_graph.specs.Descriptions.{IsAnswerOf, IsGraphOf}
-use Rattle.sgb_graph.specs.Made.{plain}
-use Rattle.sgb_ops.specs.inner.Compounds.{lines_id}
-use Rattle.sgb_vec.specs.declared.panics.Panic.{Panic}
-use Rattle.sgb_vec.specs.declared.panics.Panic.TheVariants.{NoRoom}
+use Rattle.sgb_ops.specs.Lines.{lines_of_graph}
+use Rattle.sgb_ops.specs.inner.Lines.{LineWithin, events_to, line_of, lines_for}
+use Rattle.sgb_graph.specs.Vertices.{order_of}
 use Rattle.sgb_ops.specs.Taken.{taken}
 use Rattle.sgb_ops.specs.declared.line_graphs.line.Line.{Line}
 use Rattle.sgb_ops.specs.inner.Sources.{HasTips, bare}
@@ -65,9 +60,3 @@ numbers_below n j (other ∷ others) few =
 -- the events from the lines that are left, which have the numbers from i on
 abbrev pub events_from : Bool → List Line → ℕ → List Line → List Event
 events_from directed lines i left = flat_map (λ p. events_to directed p.0 p.1 (lines_for directed lines p.0)) (enumerate_from i left)
-
--- the line graph on the lines, once they are accepted
-pub lines_made : (g : GraphData) (d : Bool) (lines : List Line) (r : Result GraphData Panic) → accepted_lines g d (lines_of_graph g d) ≡ Ok lines
-    → IfOk r (λ x. IsGraphOf (plain d (line_events d lines) (names_of_lines (names_of g) d lines) (lines_id g.id d)) x) → IsOkUnless r NoRoom → IsAnswerOf (line_graph_of g d) r
-lines_made g d lines (Ok x) accepted ok memory = rw accepted ok
-lines_made g d lines (Err e) accepted ok memory = rw accepted memory

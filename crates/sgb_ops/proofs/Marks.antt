@@ -1,5 +1,5 @@
 -- Marks at the vertices that a list leads to.
-use Rattle.sgb_vec.proofs.Common.{rules, ◌≡◌, ℕ, ◌+◌, ◌<◌, ◌≤◌, ◌==◌, Bool, cond, List, ◌∷◌, ◌++◌, length, take, set, get_or, ◌∙◌, arith, list_any, cases_Bool, cond_both, nat_tests, get_or-set_same, get_or-set_other, take-append-le, take_all}
+use Rattle.sgb_vec.proofs.Common.{◌≡◌, ℕ, ◌+◌, ◌<◌, ◌≤◌, Bool, cond, List, ◌∷◌, ◌++◌, length, take, set, get_or, ◌∙◌, arith, cases_Bool, cond_both, nat_tests, get_or-set_same, get_or-set_other, take-append-le, take_all}
 use Rattle.sgb_ops.proofs.CopiedArcs.{is_among}
 
 -- what stands at w: the mark where it is one of these, else what these marks have

@@ -1,9 +1,9 @@
 //! The line graph of a graph, which has a vertex for each arc or edge (GB_BASIC, lines).
 //!
 //! The events are added one by one: no list of them is made. Room for the names is taken at once, and for the records.
-ghost use Rattle.std.specs.Prelude.{◌≡◌, false, true, ◌≤◌, length, All, OnOk, IfOk, IsOkUnless};
+ghost use Rattle.std.specs.Prelude.{◌≡◌, false, true, ◌≤◌, length, All, Ok, OnOk, IfOk, IsOkUnless};
 ghost use Rattle.sgb_vec.specs.Limits.{most_vertices};
-ghost use Rattle.sgb_graph.specs.Descriptions.{IsAnswerOf, IsGraphOf};
+ghost use Rattle.sgb_graph.specs.Descriptions.{IsAnswerOf};
 ghost use Rattle.sgb_graph.specs.Made.{plain};
 ghost use Rattle.sgb_graph.specs.Vertices.{names_of};
 ghost use Rattle.sgb_graph.specs.Growth.{AddsEvents, HasPlainArcs};
@@ -76,11 +76,9 @@ fn graph_of_lines(
     requires within { All (LineWithin (length graph.now.vertices)) lines.now }
     requires descending { DescendFrom (length graph.now.vertices) lines.now }
     requires up { directed ≡ false → All LeadsUp lines.now }
-    ensures ok { IfOk result (λ g. IsGraphOf
-        (plain directed (line_events directed lines.now)
-        (names_of_lines (names_of graph.now) directed lines.now) (lines_id graph.now.id directed))
-        g) }
-    ensures memory { IsOkUnless result Panic.NoRoom }
+    ensures { IsAnswerOf (Ok (plain directed (line_events directed lines.now)
+        (names_of_lines (names_of graph.now) directed lines.now) (lines_id graph.now.id directed)))
+        result }
 {
     let names = names_of_lines(alloc, graph, directed, lines)?;
     let records = records_of_lines(alloc, graph.n(), directed, lines);

@@ -133,7 +133,6 @@ fn have_ways_back(graph: &Graph) -> bool
         (taken false graph.now v)) (places_of graph.now) }
 {
     for v in 0..graph.n() {
-        graph.read_ahead(v);
         if !have_ways_back_from(graph, v) {
             return false;
         }

@@ -6,8 +6,8 @@ use Rattle.sgb_ops.specs.inner.Lines.{names_of_lines}
 use Rattle.sgb_ops.proofs.Results.{made}
 use Rattle.sgb_ops.proofs.line_graphs.graph_of_lines.Goals as goal
 
-pub returns-clause-ok : goal.returns-clause-ok
-returns-clause-ok c =
+pub returns : goal.returns
+returns c =
     let g = c.args.graph.now in
     let d = c.args.directed in
     let lines = c.args.lines.now in

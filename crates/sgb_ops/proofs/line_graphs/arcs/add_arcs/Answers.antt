@@ -1,4 +1,4 @@
-use Rattle.sgb_vec.proofs.Common.{rules, ◌≡◌, ◌<◌, ◌+◌, ◌∷◌, true, ap, drop, get_or, subst, arith, drop_more}
+use Rattle.sgb_vec.proofs.Common.{rules, ◌≡◌, ◌<◌, ◌+◌, ◌∷◌, drop, get_or, arith, drop_more}
 use Rattle.sgb_graph.specs.Growth.{AddsEvents}
 use Rattle.sgb_graph.specs.Graphs.{GraphData}
 use Rattle.sgb_graph.proofs.AddedEvents.{AddsUpTo, up_to-more, up_to-none}
@@ -28,5 +28,4 @@ loop-i-preserved c =
     let next : drop i lines ≡ line ∷ drop (i + 1) lines = drop_more lines i no_line (omega arith) in
     let first = ends_read c.args.n (line.to + 1) lines c.in_ok-ends.ends.items c.index.result.now (omega (arith, below)) c.in_ok-ends.ensures.size c.in_ok-ends.ensures.ends c.index.ensures in
     let end = ends_read c.args.n line.to lines c.in_ok-ends.ends.items c.index-in-loop-i.result.now (omega (arith, below)) c.in_ok-ends.ensures.size c.in_ok-ends.ensures.ends c.index-in-loop-i.ensures in
-    let added = subst (AddsEvents true c.loop-i.built c.add_arcs_to.new.built) (run_events c.args.n lines i line c.index.result.now c.index-in-loop-i.result.now c.requires.descending first end) c.in_ok-add_arcs_to.ensures.ok in
-    up_to-more true c.args.built.now c.loop-i.built c.add_arcs_to.new.built _ (events_from true lines (i + 1) (drop (i + 1) lines)) _ _ c.loop-i.invariant (ap (events_from true lines i) next) added
+    search (rules, next, first, end, AddsEvents, run_events, up_to-more, events_from, line_events)
