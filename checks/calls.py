@@ -33,6 +33,7 @@ CALLS = [
     "Names::push",
     "Graph::new_arc",
     "Graph::new_edge",
+    "Graph::set_vertex_ints",
     "Graph::reserve",
     "Parts::add_vertex",
     "Parts::add_vertex_with_ints",
