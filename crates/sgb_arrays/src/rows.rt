@@ -22,7 +22,7 @@ pub struct Rows {
 }
 
 impl Rows {
-    // No lists, and room for those of so many vertices, with so many arcs.
+    // No lists, and room for those of so many vertices; for so many arcs too, where it can be had.
     pub(crate) fn new(alloc: Global, vertices: usize, arcs: usize) -> Result<Rows, Panic>
         ensures starts { IfOk result (λ rows. rows.starts.items ≡ 0 ∷ []) }
         ensures tips { IfOk result (λ rows. rows.tips.items ≡ []) }
@@ -31,8 +31,11 @@ impl Rows {
     {
         let mut starts = Vec::with_capacity(alloc, vertices.saturating_add(1))?;
         starts.push(0)?;
-        let tips = Vec::with_capacity(alloc, arcs)?;
-        let lengths = Vec::with_capacity(alloc, arcs)?;
+        // Without room they take it as they come: whoever asks for too much is not out of memory for that.
+        let mut lengths = Vec::new(alloc);
+        let _room = lengths.reserve(arcs);
+        let mut tips = Vec::new(alloc);
+        let _room = tips.reserve(arcs);
         Ok(Rows {
             starts,
             tips,
