@@ -28,8 +28,7 @@ EXPRESSIONS = {
     "board(2,-251,0,0,1,0,0)": MANY_SIDES,
     "board(3,": BAD,
 }
-# of these, the last two find that they need more room when a part of the listing stands: on the first page, and after it
-# was written
+# with other words; the last ones are listed with no head, of a board whose starts want a sort too
 OTHERS = {
     ("queen",): None,
     ("flip", "flip(-314159,0,5,1000)"): None,
@@ -40,13 +39,14 @@ OTHERS = {
     ("list", "complete(2)", "--after", "0", "--skip", "1"): USAGE,
     ("list", "board(5,5,0,0,-2,0,0)", "--skip", "0"): None,
     ("list", "simplex(400,2,400,400,0,0,0)", "--skip", "0"): None,
+    ("list", "board(9,5,0,0,-4,1,0)", "--skip", "0"): None,
 }
 
 
 def memory(words, given, fault):
     def checks(runs, tally):
-        """Each call for memory refused, and each with all after it: the answer in full, or code 1 and a prefix of it. On
-        a device that is full it is code 1 where the call came before the first write, else a write fault."""
+        """Each call for memory refused, and each with all after it: the answer in full, or code 1 and nothing written. On
+        a device that is full it is code 1 too, and a write fault where the answer comes in full."""
         full = runs.run(words, given, orders={})
         calls = runs.library.events().calls
         is_usual = (full.status, full.err) == (fault or (0, b"")) and bool(full.out) == (fault is None)
@@ -57,13 +57,12 @@ def memory(words, given, fault):
                 orders = {"first": number, "last": last}
                 got = runs.run(words, given, orders=orders)
                 what = (*words, "without call", str(number), *(["and all after it"] if last == ENDLESS else []))
-                is_code_1 = (got.status, got.err) == code(1) and full.out.startswith(got.out)
                 events = runs.library.events()
+                is_code_1 = (got.status, got.err) == code(1) and events.outputs == 0
                 tally.check(events.refused > 0 and (is_code_1 or said(got) == said(full)), what, "gave", said(got))
                 with opened("/dev/full", os.O_WRONLY) as device:
                     there = runs.run(words, given, out=device, orders=orders)
-                fails = events.early > 0 if is_code_1 else got.out
-                wanted = WRITE_FAULT if fails else (got.status, got.err)
+                wanted = WRITE_FAULT if got.out else (got.status, got.err)
                 tally.same((*what, "on a full device"), (there.status, there.err), wanted)
 
     return checks

@@ -19,9 +19,8 @@ struct page {
        after `readable` bytes, and gives at most `step` of them at once */
     unsigned long first, last, readable, step;
     /* what happened: calls for memory, those refused, the most bytes that one asked for; calls of write for standard
-       output and standard error, those for standard output before the first call was refused, and those after one of them
-       failed */
-    unsigned long calls, refused, most, outputs, errors, early, late;
+       output and standard error, and those after one of them failed */
+    unsigned long calls, refused, most, outputs, errors, late;
     char executable[2048];
 };
 
@@ -49,7 +48,7 @@ static int is_refused(size_t size) {
     p->calls++;
     if (size > p->most) p->most = size;
     if (p->calls < p->first || p->calls > p->last) return 0;
-    if (p->refused++ == 0) p->early = p->outputs;
+    p->refused++;
     errno = ENOMEM;
     return 1;
 }

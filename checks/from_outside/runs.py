@@ -92,8 +92,8 @@ class Library:
     """checks/from_outside/preloaded.c, preloaded: its page of orders, and of what happened."""
 
     ORDERS = struct.Struct("4Q")
-    EVENTS = struct.Struct("7Q")
-    Events = collections.namedtuple("Events", "calls refused most outputs errors early late")
+    EVENTS = struct.Struct("6Q")
+    Events = collections.namedtuple("Events", "calls refused most outputs errors late")
 
     def __init__(self, folder):
         self.path = os.path.join(folder, "outside.so")
@@ -102,16 +102,16 @@ class Library:
         executable = os.environ.get("OUTSIDE_PROGRAM", PROGRAM)
         place = os.path.join(folder, "page")
         with open(place, "wb") as file:
-            file.write(bytes(88) + os.fsencode(os.path.realpath(executable)).ljust(2048, b"\0"))
+            file.write(bytes(80) + os.fsencode(os.path.realpath(executable)).ljust(2048, b"\0"))
         with open(place, "r+b") as file:
             self.page = mmap.mmap(file.fileno(), 0)
         self.environment = dict(os.environ, LD_PRELOAD=self.path, OUTSIDE=place)
 
     def order(self, first=0, last=0, readable=ENDLESS, step=ENDLESS):
-        self.page[:88] = self.ORDERS.pack(first, last, readable, step) + bytes(56)
+        self.page[:80] = self.ORDERS.pack(first, last, readable, step) + bytes(48)
 
     def events(self):
-        return self.Events._make(self.EVENTS.unpack(self.page[32:88]))
+        return self.Events._make(self.EVENTS.unpack(self.page[32:80]))
 
 
 class DidNotEnd(Exception):

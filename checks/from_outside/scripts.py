@@ -81,14 +81,10 @@ AGREED = [
 
 COUNTED = 1000  # arcs of a list that are counted at most
 
-# lists of one vertex: an expression, a vertex, the vectors on its list, the entries of each
-LISTS = [
-    ("board(2999999,0,0,0,-4,1,0)", 0, 2 * 2_999_998, 1),
-    ("board(2999999,0,0,0,-4,1,0)", 2_999_998, 2 * 2_999_998, 1),
-]
-
-# and those of which none is kept, with so many arcs
+# lists of one vertex, with so many arcs; none is kept
 SHORT = [
+    ("board(2999999,0,0,0,-4,1,0)", 0, 2 * 2_999_998),
+    ("board(2999999,0,0,0,-4,1,0)", 2_999_998, 2 * 2_999_998),
     ("board(3000000,0,0,0,-1,0,0)", 2_999_999, 2_999_999),
     ("board(3000000,0,0,0,-1,1,0)", 2_999_999, 2 * 2_999_999),
     ("simplex(3,1,-199,0,0,0,0)", math.comb(200, 3) - 1, 3 * 197),
@@ -210,28 +206,15 @@ def blocks(program):
 
 def lists(program):
     def checks(runs, tally):
-        """What a listing keeps is as large as the pages say: by the address space in which a list is made or is not."""
+        """A listing keeps no list, as the pages say: by the address space in which the arcs of one vertex come."""
         shell = Shell(runs, program, "lists")
 
         def arcs(expression, vertex, bytes_):
             command = f"ulimit -v {bytes_ // 1024}; sgb list '{expression}' --skip {vertex}"
             return int(shell.run(f"({command}) | head -n {COUNTED + 1} | grep -c '^  -> '")[1])
 
-        for expression, vertex, vectors, entries in LISTS:
-            size = vectors * (4 * entries + 4)
-            tally.same((expression, "in too little"), arcs(expression, vertex, size), 0)
-            room = 2 * (size + 8 * vectors * expression.startswith("board")) + 8_000_000
-            tally.same((expression, "in enough"), arcs(expression, vertex, room), min(vectors, COUNTED))
         for expression, vertex, count in SHORT:
             tally.same((expression, "in 8 MB"), arcs(expression, vertex, 8 << 20), min(count, COUNTED))
-        with open(os.path.join(TOP, "docs/ERRORS.md"), encoding="utf-8") as file:
-            text = re.sub("[\n `]+", " ", file.read())
-        found = re.search(r"board\(2999999,0,0,0,-4,1,0\) , where it goes around twice, has lists of ([0-9,]+) vectors, which take ([0-9.]+) MB", text)
-        numbers = found and (int(found[1].replace(",", "")), float(found[2]))
-        vectors = 2 * 2_999_998
-        tally.same(("docs/ERRORS.md", "board(2999999,0,0,0,-4,1,0)"), numbers, (vectors, round(16 * vectors / 1e6)))
-        command = 'examples/parts/memory.py "board(2999999,0,0,0,-4,1,0)"'
-        tally.same(command, shell.run(command), (0, f"{math.ceil((2 * 16 * vectors + 50_000_000) / 1e6)}\n", ""))
 
     return checks
 

@@ -8,7 +8,6 @@ use Rattle.sgb_graph.specs.Graphs.{GraphData}
 use Rattle.sgb_graph.specs.Made.{graph_described}
 use Rattle.sgb_graph.specs.Vertices.{names_of}
 use Rattle.sgb_file.specs.Devices.{AppendsUnlessFailed, Change}
-use Rattle.sgb_gen.specs.declared.params.BoardParams.{BoardParams}
 use Rattle.sgb_expr.specs.Expression.{expression_of}
 use Rattle.sgb_expr.specs.declared.expressions.Expr.{Expr}
 use Rattle.sgb_expr.specs.declared.expressions.Expr.TheVariants as expr
@@ -18,23 +17,19 @@ use Rattle.sgb_requests.specs.Faults.{fault_line, status_of}
 use Rattle.sgb_requests.specs.declared.faults.Fault.{Fault}
 use Rattle.sgb_requests.specs.declared.faults.Fault.TheVariants as fault
 use Rattle.sgb_requests.specs.declared.requests.Request.{Request}
-use Rattle.sgb_requests.specs.declared.requests.Request.TheVariants as request
 use Rattle.sgb_requests.specs.declared.requests.Resume.{Resume}
 use Rattle.sgb_requests.specs.declared.requests.Resume.TheVariants as resumes
 use Rattle.sgb_gen.specs.Generators.{IsAcceptedAtOnce, IsGeneratorRefused, sort_made, sort_of}
-use Rattle.sgb_gen.specs.Sorts.{of_simplex, of_subsets}
+use Rattle.sgb_gen.specs.Sorts.{of_board, of_simplex, of_subsets}
 use Rattle.sgb_values.specs.FirstRefusals.{IsRefusedFirst}
-use Rattle.sgb.specs.Certain.{IsCertain, IsListedAtOnce, IsPast, IsRefusedAtOnce, NeedsNoMemory, TakesMemoryFirst}
+use Rattle.sgb.specs.Certain.{IsCertain, IsListedAtOnce, IsPast, IsRefusedAtOnce, NeedsNoMemory}
 use Rattle.sgb.specs.Outcomes.{answer_of, left_out, outcome_of, reads_input}
 use Rattle.sgb.specs.Runs.{IsGiven, Left}
 use Rattle.sgb_gen.specs.Generators.{IsLocalOf}
 use Rattle.sgb_gen.specs.Generators.{described, generator_value, made}
 use Rattle.sgb_gen.specs.declared.locals.Local.{Local}
 use Rattle.sgb_gen.specs.declared.locals.Local.TheVariants as local
-use Rattle.sgb_gen.specs.Boards.{BoardData, KeepsNoList, accepted_board, board_vector_graph}
-use Rattle.sgb_gen.specs.VectorGraphs.{described_by}
-use Rattle.sgb_graph.specs.Descriptions.{Description}
-use Rattle.sgb_vec.specs.Results.{and_then}
+use Rattle.sgb_gen.specs.Boards.{BoardData}
 use Rattle.sgb.specs.inner.Certain.{HasListingAtOnce, HasNamesAtOnce}
 use Rattle.sgb.specs.Writing.{Effect, IsEndedFrom}
 use Rattle.sgb.proofs.Endings.{no_line, nothing_put}
@@ -87,45 +82,30 @@ pub listing_refused : (f : Generator) (resume : Resume) (p : Panic) → ((code :
 listing_refused f resume p refused accepted (inl h) = accepted (listed_accepted f resume h)
 listing_refused f resume p refused accepted (inr h) = names_refused f p refused accepted (inr h)
 
--- of a simplex memory runs out before the head alone, so not where there is none
-headless : {T S : Type 0} (resume other : Resume) (old new : S) (r : Result T Fault) → IfErr r (λ g. g ≡ fault.Panic NoRoom → (resume ≡ other) × (new ≡ old)) → resume ≢ other
-    → IfErr r (λ g. g ≢ fault.Panic NoRoom)
-headless resume other old new (Ok x) simplex apart = tt
-headless resume other old new (Err f) simplex apart = λ none. apart (simplex none).0
+-- of a simplex memory runs out for the head alone, so not where there is none
+pub headless : {T : Type 0} (resume other : Resume) (r : Result T Fault) → IfErr r (λ g. g ≡ fault.Panic NoRoom → resume ≡ other) → resume ≢ other → IfErr r (λ g. g ≢ fault.Panic NoRoom)
+headless resume other (Ok x) simplex apart = tt
+headless resume other (Err f) simplex apart = λ none. apart (simplex none)
 
--- its listing begins nowhere, or no list is made for it
-pub listing_begun : {T S : Type 0} (f : Generator) (resume : Resume) (l : Local) (old new : S) (r : Result T Fault) → IsLocalOf (generator_value f) (Ok l) → sort_of l ≡ sort_made f
+-- its listing begins nowhere, or takes no memory
+pub listing_begun : {T : Type 0} (f : Generator) (resume : Resume) (l : Local) (r : Result T Fault) → IsLocalOf (generator_value f) (Ok l) → sort_of l ≡ sort_made f
     → ((code : Panic) → IsGeneratorRefused f code → Ok l ≡ Err code)
     → (IsPast (names_of (graph_described (described l))) resume → IfErr r (λ g. g ≢ fault.Panic NoRoom))
     → (sort_of l ≡ of_subsets → IfErr r (λ g. g ≢ fault.Panic NoRoom))
-    → (sort_of l ≡ of_simplex → IfErr r (λ g. g ≡ fault.Panic NoRoom → (resume ≡ resumes.Whole) × (new ≡ old)))
+    → (sort_of l ≡ of_simplex → IfErr r (λ g. g ≡ fault.Panic NoRoom → resume ≡ resumes.Whole))
     → HasListingAtOnce f resume → IfErr r (λ g. g ≢ fault.Panic NoRoom)
-listing_begun (generator.Board p) resume l old new r is sort refused past subsets simplex (inl from) = past (from (graph_described (described l)) (grind (arith)))
-listing_begun (generator.Simplex p) resume l old new r is sort refused past subsets simplex (inl h) = headless resume resumes.Whole old new r (simplex sort) h.1
-listing_begun (generator.Subsets p) resume l old new r is sort refused past subsets simplex (inl h) = subsets sort
-listing_begun f resume l old new r is sort refused past subsets simplex (inr h) =
+listing_begun (generator.Board p) resume l r is sort refused past subsets simplex (inl from) = past (from (graph_described (described l)) (grind (arith)))
+listing_begun (generator.Simplex p) resume l r is sort refused past subsets simplex (inl h) = headless resume resumes.Whole r (simplex sort) h.1
+listing_begun (generator.Subsets p) resume l r is sort refused past subsets simplex (inl h) = subsets sort
+listing_begun f resume l r is sort refused past subsets simplex (inr h) =
     let none = refused h.0 h.1 in
     absurd cc
 
--- the board of parameters that are accepted
-board_accepted : (r : Result BoardData Panic) (d : Description) → and_then r (λ b. Ok (described_by (board_vector_graph b))) ≡ Ok d → (b : BoardData) × (r ≡ Ok b)
-board_accepted (Ok b) d is = (b, refl)
-board_accepted (Err p) d is = absurd cc
-
--- where memory runs out for what is listed, the output is as it was, but for a board that keeps lists
-pub listing_untouched : {T S : Type 0} (f : Generator) (resume : Resume) (l : Local) (old new : S) (r : Result T Fault) → IsLocalOf (generator_value f) (Ok l) → sort_of l ≡ sort_made f
-    → ((p : BoardParams) (b : BoardData) → f ≡ generator.Board p → accepted_board p ≡ Ok b → ◌≡◌ {A = Result Local Panic} (Ok l) (Ok (local.Board b)))
-    → (sort_of l ≡ of_subsets → IfErr r (λ g. g ≢ fault.Panic NoRoom))
-    → (sort_of l ≡ of_simplex → IfErr r (λ g. g ≡ fault.Panic NoRoom → (resume ≡ resumes.Whole) × (new ≡ old)))
-    → ((b : BoardData) → l ≡ local.Board b → KeepsNoList b → IfErr r (λ g. g ≡ fault.Panic NoRoom → new ≡ old))
-    → ((p : BoardParams) (b : BoardData) → f ≡ generator.Board p → accepted_board p ≡ Ok b → KeepsNoList b) → IfErr r (λ g. g ≡ fault.Panic NoRoom → new ≡ old)
-listing_untouched (generator.Board p) resume l old new r is sort same subsets simplex board keeps =
-    let (b, accepted) = board_accepted (accepted_board p) (described l) is in
-    board b (let e = same p b refl accepted in cc) (keeps p b refl accepted)
-listing_untouched (generator.Simplex p) resume l old new (Ok x) is sort same subsets simplex board keeps = tt
-listing_untouched (generator.Simplex p) resume l old new (Err f) is sort same subsets simplex board keeps = λ none. (simplex sort none).1
-listing_untouched (generator.Subsets p) resume l old new (Ok x) is sort same subsets simplex board keeps = tt
-listing_untouched (generator.Subsets p) resume l old new (Err f) is sort same subsets simplex board keeps = λ none. absurd (subsets sort none)
+-- what is no board is listed as it is visited
+pub other_sort : (l : Local) → ((b : BoardData) → l ≢ local.Board b) → sort_of l ≢ of_board
+other_sort (local.Board b) other same = other b refl
+other_sort (local.Simplex s) other same = absurd cc
+other_sort (local.Subsets s) other same = absurd cc
 
 -- what never runs out of memory does nothing where it does
 pub never : {T : Type 0} (P : Type 0) (r : Result T Fault) → IfErr r (λ f. f ≢ fault.Panic NoRoom) → IfErr r (λ f. f ≡ fault.Panic NoRoom → P)
@@ -148,12 +128,12 @@ head_asked true some = refl
 head_asked false some = absurd (some refl)
 
 -- and it is where the answer is not resumed
-pub whole_asked : {T : Type 0} (P : Type 0) (resume : Resume) (head : Bool) (r : Result T Fault) → (resume ≢ resumes.Whole → head ≡ false) → IfErr r (λ f. f ≢ fault.Write → (head ≡ true) × P)
-    → IfErr r (λ f. f ≡ fault.Panic NoRoom → (resume ≡ resumes.Whole) × P)
-whole_asked P resume head (Ok x) resumed left = tt
-whole_asked P resumes.Whole head (Err f) resumed left = λ none. (refl, (left (λ write. absurd cc)).1)
-whole_asked P (resumes.Skip k) head (Err f) resumed left = λ none. absurd (true≢false (sym (left (λ write. absurd cc)).0 ∙ resumed (λ whole. absurd cc)))
-whole_asked P (resumes.After name) head (Err f) resumed left = λ none. absurd (true≢false (sym (left (λ write. absurd cc)).0 ∙ resumed (λ whole. absurd cc)))
+pub whole_asked : {T : Type 0} (resume : Resume) (head : Bool) (r : Result T Fault) → (resume ≢ resumes.Whole → head ≡ false) → IfErr r (λ f. f ≢ fault.Write → head ≡ true)
+    → IfErr r (λ f. f ≡ fault.Panic NoRoom → resume ≡ resumes.Whole)
+whole_asked resume head (Ok x) resumed left = tt
+whole_asked resumes.Whole head (Err f) resumed left = λ none. refl
+whole_asked (resumes.Skip k) head (Err f) resumed left = λ none. absurd (true≢false (sym (left (λ write. absurd cc)) ∙ resumed (λ whole. absurd cc)))
+whole_asked (resumes.After name) head (Err f) resumed left = λ none. absurd (true≢false (sym (left (λ write. absurd cc)) ∙ resumed (λ whole. absurd cc)))
 
 -- and what was left as it was is
 pub exit_untouched : {T S : Type 0} (s : S) (r : Result T Fault) → IfErr r (λ f. f ≡ fault.Panic NoRoom → s ≡ s)
@@ -171,11 +151,6 @@ names_of_generator e f is (inr h) = inr (h.code, rw is at (h.refused []))
 pub listing_of_generator : (e : Expr) (f : Generator) (resume : Resume) → e ≡ expr.Generator f → ((f : Generator) × (e ≡ expr.Generator f) × IsListedAtOnce f resume) ⊎ IsRefusedAtOnce (expression_of e) → HasListingAtOnce f resume
 listing_of_generator e f resume is (inl h) = inl (subst (λ f. IsListedAtOnce f resume) (same_generator h.0 f (sym h.1 ∙ is)) h.2)
 listing_of_generator e f resume is (inr h) = inr (h.code, rw is at (h.refused []))
-
--- an expression that is no board that keeps lists is of no such generator
-pub board_of_generator : (e : Expr) (f : Generator) → e ≡ expr.Generator f → ((p : BoardParams) (b : BoardData) → e ≡ expr.Generator (generator.Board p) → accepted_board p ≡ Ok b → KeepsNoList b)
-    → (p : BoardParams) (b : BoardData) → f ≡ generator.Board p → accepted_board p ≡ Ok b → KeepsNoList b
-board_of_generator e f is keeps p b same accepted = keeps p b (is ∙ ap expr.Generator same) accepted
 
 -- ---- graphs
 
@@ -200,11 +175,6 @@ pub at_once_unmade : {T : Type 0} (input : List ℕ) (e : Expr) (g : GraphData) 
 at_once_unmade input e g r made h = search rules
 
 -- ---- runs
-
--- the listing that a request is for is of no board that keeps lists
-pub board_of_request : (r : Request) (e : Expr) (resume : Resume) → r ≡ request.List e resume → TakesMemoryFirst r
-    → (p : BoardParams) (b : BoardData) → e ≡ expr.Generator (generator.Board p) → accepted_board p ≡ Ok b → KeepsNoList b
-board_of_request r e resume is first p b same accepted = first p resume b (is ∙ ap (λ x. request.List x resume) same) accepted
 
 -- a request whose answer takes no memory reads no input
 pub certain_unread : (r : Request) → NeedsNoMemory r → reads_input r ≡ false

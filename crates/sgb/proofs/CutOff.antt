@@ -1,5 +1,5 @@
 -- Texts written part by part, until a part is cut off.
-use Rattle.std.proofs.Common.{arith, rules, ◌≡◌, ◌≢◌, ◌⊎◌, ◌++◌, inl, Bool, ℕ, List, Option, Result, Ok, Err, IfErr, false}
+use Rattle.std.proofs.Common.{arith, rules, ◌≡◌, ◌++◌, Bool, ℕ, List, Option, Result, Ok, Err, IfErr, false}
 use Rattle.std.specs.Result.{IsErrAnd}
 use Rattle.std.proofs.lemmas.Result.{err_from_is_err_and}
 use Rattle.std.specs.Io.KnownBytes.{Appends}
@@ -46,16 +46,3 @@ exit_unwritten text a failed r p exit memory sound = grind (arith, err_from_is_e
 -- the exit of a `?` with the fault of a write
 pub exit_write : {T : Type 0} (r : Result T Fault) (f : Fault) → IsErrAnd r (λ g. g ≡ f) → f ≡ fault.Write → IfErr r (λ g. g ≡ fault.Write)
 exit_write r f exit is = grind (arith, err_from_is_err_and)
-
--- the exit of a `?` where a text was cut off by a write alone
-pub exit_uncut : {T S : Type 0} (old new : S) (text : List ℕ) (a b : Option (List ℕ)) (r : Result T Fault) (f : Fault) → IsErrAnd r (λ g. g ≡ f) → (f ≢ fault.Write → new ≡ old)
-    → IfErr r (λ g. g ≢ fault.Write → (new ≡ old) ⊎ ((more : List ℕ) × Appends a b (text ++ more)))
-exit_uncut old new text a b r f exit left =
-    let p = err_from_is_err_and r exit in
-    rw (p.1, p.2) (λ other. inl (left other))
-
--- after a whole text, the next one is written or cut off
-pub begun_by : {T S : Type 0} (old new : S) (a b c : Option (List ℕ)) (failed : Bool) (xs ys : List ℕ) (r : Result T Fault) → Appends a b xs
-    → IsWritten ys (record { before = b; after = c; failed = failed }) r
-    → IfErr r (λ f. f ≢ fault.Write → (new ≡ old) ⊎ ((more : List ℕ) × Appends a c (xs ++ more)))
-begun_by old new a b c failed xs ys r p q = grind (arith, Appends-trans)

@@ -1,5 +1,5 @@
 -- What is answered whatever memory there is: requests of which it holds, and of which it does not.
-use Rattle.std.specs.Prelude.{◌≡◌, ◌≤◌, ◌⊎◌, ℕ, ℤ, pos, negsuc, Bool, true, false, List, [], length, Some, Result, Ok, Err, refl}
+use Rattle.std.specs.Prelude.{◌≡◌, ◌≤◌, ℕ, ℤ, pos, negsuc, Bool, true, false, List, [], length, Some, Result, Ok, Err, refl}
 use Rattle.std.proofs.Common.{arith, ap, inl, inr, subst}
 use Rattle.std.proofs.lemmas.Bool.{leb-true}
 use Rattle.std.specs.Fmt.{digits}
@@ -24,7 +24,7 @@ use Rattle.sgb_expr.specs.Expression.{Stdin, expression_of}
 use Rattle.sgb_expr.specs.declared.expressions.Expr.TheVariants as expr
 use Rattle.sgb_requests.specs.declared.requests.Request.TheVariants as request
 use Rattle.sgb_requests.specs.declared.requests.Resume.TheVariants as resume
-use Rattle.sgb.specs.Certain.{IsCertain, IsListedAtOnce, IsPast, IsRefusedAtOnce, NeedsNoMemory, TakesMemoryFirst}
+use Rattle.sgb.specs.Certain.{IsCertain, IsListedAtOnce, IsPast, IsRefusedAtOnce, NeedsNoMemory}
 use Rattle.sgb.specs.FlipAnswers.{number_lines}
 use Rattle.sgb.specs.Runs.{Left}
 
@@ -116,17 +116,3 @@ other_status is = let e : ◌≡◌ {A = ℕ} 1 0 = (is tt refl (Err Bad)).exit 
 -- where the output has failed nothing is said
 pub failed_output : IsCertain (request.Flip (record { start = pos 1; skip = pos 5; count = pos 0; m = pos 0 })) (nothing_written true 3)
 failed_output needs sound stdin = absurd cc
-
--- ---- memory that is taken before something is written
-
-pub saved_after : TakesMemoryFirst (request.Save expr.Stdin)
-saved_after p resume b is accepted = absurd cc
-
--- a board that wraps around keeps lists while it is listed
-pub lists_kept : TakesMemoryFirst (request.List (expr.Generator (generator.Board (squares (pos 1)))) resume.Whole) → ⊥
-unfolding repeated
-lists_kept first = kept (first (squares (pos 1)) resume.Whole _ refl refl).0
-  where
-    kept : (false ≡ true) ⊎ (pos 1 ≡ pos 0) → ⊥
-    kept (inl is) = absurd cc
-    kept (inr is) = absurd cc

@@ -1,10 +1,10 @@
 -- What writing a text leaves in a sink, and how the answer to a request ends: what holds, and what nearly does.
-use Rattle.std.specs.Prelude.{◌≡◌, ◌++◌, ℕ, Bool, true, false, List, [], Some, Ok, Err, codes, refl}
+use Rattle.std.specs.Prelude.{◌≡◌, ℕ, Bool, true, false, List, Some, Ok, Err, codes, refl}
 use Rattle.std.proofs.Common.{inl, inr}
 use Rattle.sgb_vec.specs.declared.panics.Panic.TheVariants.{NoRoom}
 use Rattle.sgb_file.specs.Devices.{Change, MemSinkState}
 use Rattle.sgb_requests.specs.declared.faults.Fault.TheVariants as fault
-use Rattle.sgb.specs.Writing.{Effect, IsCutOff, IsEnded, IsEndedBy, IsEndedFrom, IsLeftOrBegun, IsUntouched, IsWhole, IsWritten, effect}
+use Rattle.sgb.specs.Writing.{Effect, IsCutOff, IsEnded, IsEndedBy, IsEndedFrom, IsUntouched, IsWhole, IsWritten, effect}
 
 -- a sink that told an `a` and then `ab`
 abbrev told : Bool → Change
@@ -74,17 +74,6 @@ other_bytes is = let e : Some (codes "ab") ≡ Some (codes "a") = is.told in abs
 
 pub failed_sink : IsUntouched (taken (codes "a") (codes "a") (told_alike true)) → ⊥
 failed_sink is = let e : true ≡ false = is.sound in absurd cc
-
--- as it was, whatever it tells; or it took a `b`, or a `b` and more
-pub left_or_begun :
-    IsLeftOrBegun (codes "b") (taken (codes "a") (codes "a") (told true)) × IsLeftOrBegun (codes "b") (took_b false)
-    × IsLeftOrBegun (codes "b") (taken (codes "a") (codes "abc") (record { before = Some (codes "a"); after = Some (codes "abc"); failed = true }))
-left_or_begun = (inl refl, inr ([], refl), inr (codes "c", refl))
-
--- it took less
-pub not_begun : IsLeftOrBegun (codes "b") (taken (codes "a") (codes "ab") (told_alike false)) → ⊥
-not_begun (inl same) = absurd cc
-not_begun (inr (more, is)) = let e : codes "a" ≡ codes "ab" ++ more = is in absurd cc
 
 -- ---- the ends of answers
 

@@ -2,8 +2,7 @@
 use Rattle.std.specs.Prelude.{◌≡◌, ◌≢◌, ◌≤◌, ◌⊎◌, ℕ, false, List, length, Result, Ok, Err}
 use Rattle.sgb_vec.specs.declared.panics.Panic.{Panic}
 use Rattle.sgb_graph.specs.Graphs.{GraphData}
-use Rattle.sgb_gen.specs.Boards.{BoardData, KeepsNoList, accepted_board, board}
-use Rattle.sgb_gen.specs.declared.params.BoardParams.{BoardParams}
+use Rattle.sgb_gen.specs.Boards.{board}
 use Rattle.sgb_graph.specs.Vertices.{names_of}
 use Rattle.sgb_expr.specs.Expression.{Expression, expression_of}
 use Rattle.sgb_expr.specs.StdinUses.{has_stdin}
@@ -52,9 +51,3 @@ NeedsNoMemory (request.Flip p) = Unit {0}
 -- a request whose answer takes no memory was answered in full where the output is sound: its output, or its refusal's line and status
 abbrev pub IsCertain : {S : Type 0} → Request → Left S → Type 0
 IsCertain r l = NeedsNoMemory r → l.out.told.failed ≡ false → (stdin : Result GraphData Panic) → IsGiven (outcome_of (answer_of r stdin)) l
-
--- a request whose answer takes all of its memory before something is written: each but for the listing of a board that keeps
--- lists
-abbrev pub TakesMemoryFirst : Request → Type 0
-TakesMemoryFirst r =
-    (p : BoardParams) (resume : Resume) (b : BoardData) → r ≡ request.List (expr.Generator (generator.Board p)) resume → accepted_board p ≡ Ok b → KeepsNoList b

@@ -1,5 +1,5 @@
 -- What writing a text leaves in a sink, and how the answer to a request ends.
-use Rattle.std.specs.Prelude.{◌≡◌, ◌⊎◌, ℕ, ◌++◌, Bool, true, false, List, [], Option, Result, Ok, Err}
+use Rattle.std.specs.Prelude.{◌≡◌, ◌⊎◌, ℕ, Bool, true, false, List, Option, Result, Ok, Err}
 use Rattle.std.specs.Bool.{MatchBool}
 use Rattle.std.specs.Io.KnownBytes.{Appends}
 use Rattle.sgb_vec.specs.declared.panics.Panic.TheVariants.{NoRoom}
@@ -41,10 +41,6 @@ pub record IsUntouched {S : Type 0} (out : Effect S) : Type 0 where
   pub same : out.new ≡ out.old
   pub told : out.told.after ≡ out.told.before
   pub sound : out.told.failed ≡ false
-
--- a sink is as it was, or of the bytes that it tells it took this text at least
-abbrev pub IsLeftOrBegun : {S : Type 0} → List ℕ → Effect S → Type 0
-IsLeftOrBegun text out = (out.new ≡ out.old) ⊎ ((more : List ℕ) × Appends out.told.before out.told.after (text ++ more))
 
 -- the request was answered, or cut off, or refused with the sink untouched, by its own fault or out of memory
 abbrev pub IsEnded : {T S : Type 0} → Result (List ℕ) Fault → Effect S → Result T Fault → Type 0

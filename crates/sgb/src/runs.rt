@@ -8,15 +8,13 @@ ghost use Rattle.sgb_vec.specs.declared.panics.Panic.TheVariants.{Early, NoRoom}
 ghost use Rattle.sgb_expr.specs.Expression.{expression_of};
 ghost use Rattle.sgb_file.specs.Saving.{text_of_graph};
 ghost use Rattle.sgb_graph.specs.Vertices.{names_of};
-ghost use Rattle.sgb.specs.Certain.{IsCertain, IsListedAtOnce, IsRefusedAtOnce, NeedsNoMemory, TakesMemoryFirst};
+ghost use Rattle.sgb.specs.Certain.{IsCertain, IsListedAtOnce, IsRefusedAtOnce, NeedsNoMemory};
 ghost use Rattle.sgb.specs.inner.Certain.{HasListingAtOnce, HasNamesAtOnce};
 ghost use Rattle.sgb.specs.Outcomes.{IsAnswered, answer_from, list_answer, names_answer, queen_moves, queen_title, reads_input};
 ghost use Rattle.sgb.specs.Inputs.{LosesAtMost};
 ghost use Rattle.sgb.specs.Runs.{IsRunOn};
 ghost use Rattle.sgb.specs.Texts.{blocks, head};
-ghost use Rattle.sgb_gen.specs.Boards.{BoardData, KeepsNoList, accepted_board};
 ghost use Rattle.sgb_gen.specs.Generators.{IsAcceptedAtOnce, generator_value, made};
-ghost use Rattle.sgb_gen.specs.declared.params.BoardParams.{BoardParams};
 ghost use Rattle.sgb_values.specs.Values.{IsValueOn, most_input, value_of};
 ghost use Rattle.sgb.specs.Writing.{IsEnded, effect};
 // For the search alone.
@@ -38,10 +36,9 @@ use sgb_values::graph_from;
 use std::alloc::Global;
 
 /// Answers a request: writes its output to `out`, or the line of a fault to `errors`, and returns the exit status. The
-/// answer is that of the definitions, unless `out` fails (3, a prefix of the output) or memory runs out (1, a prefix of
-/// the output). An answer that is given in full ends with one flush of `out`, which then holds nothing back. A request
-/// that is refused, or whose input fails, leaves `out` as it was, with no put and no flush; and so does one for which memory
-/// runs out, but for the listing of a board that keeps lists, of which a prefix may be written then.
+/// answer is that of the definitions, unless `out` fails (3, a prefix of the output) or memory runs out (1, and no output).
+/// An answer that is given in full ends with one flush of `out`, which then holds nothing back. A request that is refused,
+/// whose input fails, or for which memory runs out, leaves `out` as it was, with no put and no flush.
 ///
 /// `source` is standard input. It is read, once and whole, only if the request's expression has `stdin`, and before all
 /// else; where it fails nothing is written (3). Of more than 2^30 bytes only so many and one more are read.
@@ -66,8 +63,8 @@ pub fn run<R: Source, W: Sink, E: Sink>(
       err = change E.written E.has_failed errors.old errors.new;
       status = result;
     }) }
-    // A refusal leaves the output as it was, and so does want of memory, but for the listing of a board that keeps lists.
-    ensures untouched { TakesMemoryFirst request.now → result ≡ 1 → out.new ≡ out.old }
+    // A refusal leaves the output as it was, and so does want of memory.
+    ensures untouched { result ≡ 1 → out.new ≡ out.old }
     ensures flushed { result ≡ 0 → W.held out.new ≡ [] }
     // What the request asks for is never that memory runs out: code 1 is the machine's alone.
     ensures apart { (input : List ℕ) (answer : Result (List ℕ) Fault)
@@ -86,7 +83,7 @@ impl Answer for Request {
 
     ghost certain = { λ r. NeedsNoMemory r };
 
-    ghost prepared = { λ r. TakesMemoryFirst r };
+    ghost prepared = { λ _. Unit {0} };
 
     fn reads_input(&self) -> bool {
         reads_stdin(self)
@@ -122,8 +119,7 @@ fn write_answer<W: Sink>(
         (effect W.written W.has_failed out.old out.new) result }
     ensures certain { NeedsNoMemory request.now
         → IfErr result (λ f. f ≢ Fault.Panic NoRoom) }
-    ensures untouched { TakesMemoryFirst request.now
-        → IfErr result (λ f. f ≡ Fault.Panic NoRoom → out.new ≡ out.old) }
+    ensures untouched { IfErr result (λ f. f ≡ Fault.Panic NoRoom → out.new ≡ out.old) }
 {
     match request {
         Request::Names(expression, resume) => answer_names(alloc, expression, input, resume, out),
@@ -195,10 +191,7 @@ fn answer_list<W: Sink>(
         × IsListedAtOnce f resume.now)
         ⊎ IsRefusedAtOnce (expression_of expression.now)
         → IfErr result (λ f. f ≢ Fault.Panic NoRoom) }
-    ensures untouched { ((p : BoardParams) (b : BoardData)
-        → expression.now ≡ Expr.Generator (Generator.Board p)
-        → accepted_board p ≡ Ok b → KeepsNoList b)
-        → IfErr result (λ f. f ≡ Fault.Panic NoRoom → out.new ≡ out.old) }
+    ensures untouched { IfErr result (λ f. f ≡ Fault.Panic NoRoom → out.new ≡ out.old) }
 {
     if let Expr::Generator(generator) = expression {
         return answer_generator_list(alloc, generator, resume, out);
@@ -220,9 +213,7 @@ fn answer_generator_list<W: Sink>(
         (effect W.written W.has_failed out.old out.new) result }
     ensures certain { HasListingAtOnce generator.now resume.now
         → IfErr result (λ f. f ≢ Fault.Panic NoRoom) }
-    ensures untouched { ((p : BoardParams) (b : BoardData) → generator.now ≡ Generator.Board p
-        → accepted_board p ≡ Ok b → KeepsNoList b)
-        → IfErr result (λ f. f ≡ Fault.Panic NoRoom → out.new ≡ out.old) }
+    ensures untouched { IfErr result (λ f. f ≡ Fault.Panic NoRoom → out.new ≡ out.old) }
 {
     let local = local_of(alloc, generator)?;
     let mut links = Links::new(alloc);

@@ -1,12 +1,16 @@
 -- Moves from a vector, one length after another, and what is made of them.
-use Rattle.std.proofs.Common.{◌≡◌, ℕ, ◌+◌, ◌-◌, ◌<◌, ◌≤◌, ℤ, Bool, true, false, cond, List, [], ◌∷◌, ◌++◌, length, map, Option, Some, None, sym, ap, ◌∙◌, arith, append-nil, append_assoc}
+use Rattle.std.proofs.Common.{◌≡◌, ℕ, ◌+◌, ◌-◌, ◌<◌, ◌≤◌, ℤ, Bool, true, false, not, cond, List, [], ◌∷◌, ◌++◌, length, map, Option, Some, None, sym, ap, ◌∙◌, arith, append-nil, append_assoc}
+use Rattle.std.specs.Prelude.{◌==◌}
 use Rattle.std.specs.List.{filter, range_with_len}
 use Rattle.std.specs.Option.{option_map, option_map_or}
+use Rattle.std.proofs.lemmas.Bool.{eq-eqb, ne_eqb}
 use Rattle.std.proofs.lemmas.List.Elements.{length_all_zip}
+use Rattle.sgb_vec.specs.Boxes.{box}
 use Rattle.sgb_vec.specs.Lexicographic.{IsBelow}
 use Rattle.sgb_gen.specs.Boards.{BoardData}
 use Rattle.sgb_gen.specs.Moves.{sides_of, moves_from}
-use Rattle.sgb_gen.specs.VectorGraphs.{Move}
+use Rattle.sgb_gen.specs.VectorGraphs.{Move, vertex_among}
+use Rattle.sgb_gen.specs.inner.LocalBoards.{other_starts}
 use Rattle.sgb_gen.specs.inner.Moves.{destination, longest_move}
 use Rattle.sgb_gen.proofs.Reaches.{destination-below, move, moves_until, moves_from-until}
 
@@ -67,12 +71,56 @@ not_one p m ms left e h = ap (filter p) e ∙ ap (λ c. cond c (m ∷ filter p l
 pub one_that : {X : Type 0} (p : X → Bool) (m : X) (ms left : List X) → ms ≡ m ∷ left → p m ≡ true → filter p ms ≡ m ∷ filter p left
 one_that p m ms left e h = ap (filter p) e ∙ ap (λ c. cond c (m ∷ filter p left) (filter p left)) h
 
+-- ---- what is made of those that pass
+
+-- one that passes stands before the others
+passing_first : {Y : Type 0} (c : Bool) (y : Y) (ys : List Y) → cond c (y ∷ []) [] ++ ys ≡ cond c (y ∷ ys) ys
+passing_first c y ys = grind (arith)
+
+-- one element more, if it passes
+pub one_passing : {X Y : Type 0} (p : Y → Bool) (f : X → Y) (done new whole : List Y) (m : X) (ms left : List X) → done ++ filter p (map f ms) ≡ whole → ms ≡ m ∷ left → new ≡ done ++ cond (p (f m)) (f m ∷ []) []
+    → new ++ filter p (map f left) ≡ whole
+one_passing p f done new whole m ms left h e added =
+    ap (λ ys. ys ++ filter p (map f left)) added
+    ∙ append_assoc done (cond (p (f m)) (f m ∷ []) []) (filter p (map f left))
+    ∙ ap (λ ys. done ++ ys) (passing_first (p (f m)) (f m) (filter p (map f left)))
+    ∙ sym (ap (λ es. done ++ filter p (map f es)) e)
+    ∙ h
+
 -- a vertex where the piece leads is that of a vector
 pub led_to : (g : List ℕ → ℕ) (o : Option (List ℕ)) (v : ℕ) → option_map g o ≡ Some v → (y : List ℕ) × (o ≡ Some y) × (g y ≡ v)
 led_to g o v e = grind (arith)
 
 pub led_nowhere : (g : List ℕ → ℕ) (o : Option (List ℕ)) → option_map g o ≡ None → o ≡ None
 led_nowhere g o e = grind (arith)
+
+-- the start of a move to another vertex is one more, if it passes
+pub others_next : (b : BoardData) (t : List ℤ) (x : List ℕ) (u l v : ℕ) (p : ℕ × ℕ → Bool) (done new whole : List (ℕ × ℕ)) → l ≤ longest b → option_map (vertex_among (box b.sizes)) (leads b x t l) ≡ Some v → (v ≡ u → ⊥)
+    → done ++ filter p (other_starts (box b.sizes) u (moves_left b t x l)) ≡ whole → new ≡ done ++ cond (p (v, l)) ((v, l) ∷ []) []
+    → new ++ filter p (other_starts (box b.sizes) u (moves_left b t x (l + 1))) ≡ whole
+others_next b t x u l v p done new whole few goes other h added =
+    let far : Move → Bool = λ m. not (vertex_among (box b.sizes) m.to == u) in
+    let pairs : Move → ℕ × ℕ = λ m. (vertex_among (box b.sizes) m.to, m.len) in
+    let led = led_to (vertex_among (box b.sizes)) (leads b x t l) v goes in
+    let m = move x l led.0 in
+    let ms = moves_left b t x l in
+    let left = moves_left b t x (l + 1) in
+    let passes : far m ≡ true = ap (λ i. not (i == u)) led.2 ∙ ap not (ne_eqb v u other) in
+    one_passing p pairs done new whole m (filter far ms) (filter far left) h (one_that far m ms left (left-next b t x l led.0 few led.1) passes) (added ∙ ap (λ i. done ++ cond (p (i, l)) ((i, l) ∷ []) []) (sym led.2))
+
+-- one to the vertex itself is none
+pub others_same : (b : BoardData) (t : List ℤ) (x : List ℕ) (u l v : ℕ) → l ≤ longest b → option_map (vertex_among (box b.sizes)) (leads b x t l) ≡ Some v → v ≡ u
+    → other_starts (box b.sizes) u (moves_left b t x (l + 1)) ≡ other_starts (box b.sizes) u (moves_left b t x l)
+others_same b t x u l v few goes same =
+    let far : Move → Bool = λ m. not (vertex_among (box b.sizes) m.to == u) in
+    let led = led_to (vertex_among (box b.sizes)) (leads b x t l) v goes in
+    let fails = ap (λ i. not (i == u)) led.2 ∙ ap not (eq-eqb v u same) in
+    ap (map (λ (m : Move). (vertex_among (box b.sizes) m.to, m.len))) (sym (not_one far (move x l led.0) (moves_left b t x l) (moves_left b t x (l + 1)) (left-next b t x l led.0 few led.1) fails))
+
+-- none are left past the greatest length
+pub others_none : (b : BoardData) (t : List ℤ) (x : List ℕ) (u l : ℕ) (p : ℕ × ℕ → Bool) (done whole : List (ℕ × ℕ)) → longest b < l → done ++ filter p (other_starts (box b.sizes) u (moves_left b t x l)) ≡ whole → done ≡ whole
+others_none b t x u l p done whole past h =
+    sym (append-nil done) ∙ sym (ap (λ ms. done ++ filter p (other_starts (box b.sizes) u ms)) (left-none b t x l past)) ∙ h
 
 -- where the piece leads to has as many entries
 pub lands_width : (b : BoardData) (t : List ℤ) (x y : List ℕ) (l : ℕ) → IsBelow x b.sizes → leads b x t l ≡ Some y → length y ≡ length x

@@ -6,8 +6,6 @@ pub mod Bits
 pub mod Listings
 -- boards
 pub mod Boards
--- of which boards lists are kept
-pub mod KeptLists
 -- simplexes
 pub mod Simplexes
 -- subsets

@@ -104,6 +104,8 @@ pub mod MovesInOrder
 pub mod TouchingMoves
 -- where they start, sorted
 pub mod SortedStarts
+-- the starts of the edges that touch a vector, by the range that they are within
+pub mod StartRanges
 -- moves by a displacement that leads to later vectors
 pub mod OnwardMoves
 -- whether displacements lead onward, by the coordinates that they move

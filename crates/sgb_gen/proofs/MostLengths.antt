@@ -1,5 +1,5 @@
 -- How many lengths a piece moves at most by a displacement, from whichever vector.
-use Rattle.std.proofs.Common.{◌≡◌, ℕ, zero, suc, ◌+◌, ◌-◌, ◌*◌, ◌<◌, ◌≤◌, ℤ, pos, negsuc, ◌+ℤ◌, ◌*ℤ◌, nat_abs, Bool, true, false, cond, ltb, List, [], ◌∷◌, length, map, get_or, Option, Some, None, refl, sym, ap, subst, ◌∙◌, arith, true≢false}
+use Rattle.std.proofs.Common.{◌≡◌, ℕ, zero, suc, ◌+◌, ◌*◌, ◌<◌, ◌≤◌, ℤ, pos, negsuc, ◌+ℤ◌, ◌*ℤ◌, nat_abs, Bool, true, false, cond, ltb, List, [], ◌∷◌, length, get_or, Option, Some, None, sym, ap, subst, ◌∙◌, arith, true≢false}
 use Rattle.std.specs.List.{range_with_len}
 use Rattle.std.specs.Option.{option_map_or}
 use Rattle.std.proofs.lemmas.Bool.{cond-false, le-ltb}
@@ -12,9 +12,8 @@ use Rattle.sgb_vec.specs.Lexicographic.{IsBelow}
 use Rattle.sgb_vec.proofs.BoxPlaces.{Contains-from_IsBelow}
 use Rattle.sgb_gen.specs.Boards.{BoardData}
 use Rattle.sgb_gen.specs.MovedCoordinates.{parts_of}
-use Rattle.sgb_gen.specs.Moves.{Side, coordinate_on, in_front, is_bit_set, is_elsewhere, moves_from, place, sides_from_bit, sides_of, within_size}
+use Rattle.sgb_gen.specs.Moves.{coordinate_on, in_front, is_bit_set, is_elsewhere, moves_from, place, sides_from_bit, sides_of, within_size}
 use Rattle.sgb_gen.specs.Runs.{arc_along, arcs_along}
-use Rattle.sgb_gen.specs.VectorGraphs.{Move}
 use Rattle.sgb_gen.specs.inner.BoardCounts.{stops_at, stops_on}
 use Rattle.sgb_gen.specs.inner.LocalBoards.{move_arc}
 use Rattle.sgb_gen.specs.inner.Moves.{destination, longest_move}

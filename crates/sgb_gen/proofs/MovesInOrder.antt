@@ -51,7 +51,7 @@ move_there sides piece t y z l leads =
     made_there (λ k. option_map (λ x. move y k x) (place sides y t k)) (reach sides piece y t) l (move y l z) leads.0 (ap (option_map (λ x. move y l x)) leads.1)
 
 -- the lengths of moves are among those that are tried, and rise with them
-all_until : (Q : ℕ → Type 0) (x : List ℕ) (leads : ℕ → Option (List ℕ)) (ls : List ℕ) → All Q ls → All (λ m. Q m.len) (moves_until x leads ls)
+pub all_until : (Q : ℕ → Type 0) (x : List ℕ) (leads : ℕ → Option (List ℕ)) (ls : List ℕ) → All Q ls → All (λ m. Q m.len) (moves_until x leads ls)
 all_until Q x leads [] h = All-nil (λ (m : Move). Q m.len)
 all_until Q x leads (l ∷ ls) h = next (leads l) (all_until Q x leads ls (All-tail Q l ls h))
   where

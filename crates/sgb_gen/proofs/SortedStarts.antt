@@ -1,29 +1,25 @@
 -- The starts of the moves that touch a vector, sorted.
-use Rattle.std.proofs.Common.{◌≡◌, ℕ, suc, ◌+◌, ◌<◌, ℤ, Bool, true, false, not, ◌&&◌, List, [], ◌∷◌, length, get_or, ap, ap₂, subst, ◌∙◌, arith, rules}
+use Rattle.std.proofs.Common.{◌≡◌, ℕ, suc, ◌+◌, ◌<◌, ℤ, Bool, true, false, not, ◌&&◌, List, [], ◌∷◌, length, get_or, sym, ap, ap₂, subst, ◌∙◌, true≢false, arith, rules}
 use Rattle.std.specs.Prelude.{◌==◌}
 use Rattle.std.specs.List.{All, AllPairs, Contains, IsDistinct, filter}
 use Rattle.std.specs.List.Sorted.{IsPermutation, IsSorted}
-use Rattle.std.specs.Ordering.{is_lt, nat_cmp, ordering_then}
-use Rattle.std.specs.declared.cmp.Ordering.{Ordering}
+use Rattle.std.specs.Ordering.{is_lt}
 use Rattle.std.proofs.Math.Bool.{and-false}
 use Rattle.std.proofs.lemmas.Bool.{cases_eq, cases_lt, eq-eqb, ne_eqb, not-true}
-use Rattle.std.proofs.lemmas.List.Elements.{All-from_recursion, All-map, All-nil, All-cons, All-weaker, filter_passes, recursion_from_All}
+use Rattle.std.proofs.lemmas.List.Elements.{All-from_recursion, All-map, All-nil, All-cons, All-filter, All-weaker, filter_passes, recursion_from_All}
 use Rattle.std.proofs.lemmas.List.Kept.{AllPairs-cons, AllPairs-filter}
 use Rattle.std.proofs.lemmas.List.Sorted.{All-permutation, Contains-permutation}
 use Rattle.std.proofs.lemmas.Map.Keys.{IsDistinct-IsPermutation}
 use Rattle.sgb_vec.specs.Boxes.{box}
 use Rattle.sgb_gen.specs.Boards.{BoardData}
 use Rattle.sgb_gen.specs.inner.LocalBoards.{other_starts, own_starts, starts_of}
+use Rattle.sgb_gen.specs.inner.Starts.{pair_cmp}
 use Rattle.sgb_gen.specs.Moves.{moves_from, opposite, sides_of}
 use Rattle.sgb_gen.specs.VectorGraphs.{Move, vertex_among}
 use Rattle.sgb_gen.proofs.MovesInOrder.{lengths_rise}
-use Rattle.sgb_vec.proofs.Lists.{AllPairs-append, AllPairs-first, AllPairs-follows, AllPairs-map, AllPairs-none, AllPairs-others, eqb-turned}
+use Rattle.sgb_vec.proofs.Lists.{AllPairs-append, AllPairs-first, AllPairs-follows, AllPairs-map, AllPairs-none, AllPairs-others, Contains-passing, eqb-turned}
 use Rattle.sgb_gen.proofs.OrderedLists.{before_trans}
-use Rattle.sgb_gen.proofs.TouchingMoves.{IsEarlier, first_less, in_order_same, pair, second_less, starts_touch, touching, touching_found}
-
--- the order of pairs of numbers
-abbrev pub pair_cmp : ℕ × ℕ → ℕ × ℕ → Ordering
-pair_cmp p q = ordering_then (nat_cmp p.0 q.0) (nat_cmp p.1 q.1)
+use Rattle.sgb_gen.proofs.TouchingMoves.{IsEarlier, first_less, in_order_same, pair, same_in_order, second_less, starts_touch, touching, touching_found, touching_rise}
 
 -- two pairs are the same
 abbrev same_pair : ℕ × ℕ → ℕ × ℕ → Bool
@@ -101,9 +97,34 @@ module _ (b : BoardData) (t : List ℤ) (x : List ℕ) (there : Contains (box b.
   pub rising_starts : (ps : List (ℕ × ℕ)) → IsPermutation (starts_of (sides_of b.sizes b.wrap) b.piece (box b.sizes) x t) ps → AllPairs IsEarlier ps → ps ≡ touching b t x there
   rising_starts ps changed rise = search (rules, in_order_same, All-permutation, touching, starts_touch, All-weaker, Contains-permutation, touching_found, sides_of)
 
-  -- sorted, they rise
-  pub sorted_starts : (ps : List (ℕ × ℕ)) → IsPermutation (starts_of (sides_of b.sizes b.wrap) b.piece (box b.sizes) x t) ps → IsSorted pair_cmp ps → ps ≡ touching b t x there
-  sorted_starts ps changed sorted =
+  -- those that pass, in an order in which they rise, are the touching ones that pass
+  passing_rising : (p : ℕ × ℕ → Bool) (ps : List (ℕ × ℕ)) → IsPermutation (filter p (starts_of (sides_of b.sizes b.wrap) b.piece (box b.sizes) x t)) ps → AllPairs IsEarlier ps → ps ≡ filter p (touching b t x there)
+  passing_rising p ps changed rise =
       let starts = starts_of (sides_of b.sizes b.wrap) b.piece (box b.sizes) x t in
-      let distinct = pairs_of_distinct ps (IsDistinct-IsPermutation same_pair same_turned starts ps changed (distinct_of starts starts_distinct)) in
-      rising_starts ps changed (sorted_rise ps sorted distinct)
+      let moves = touching b t x there in
+      same_in_order ps (filter p moves) rise (AllPairs-filter IsEarlier p moves (touching_rise b t x there))
+      (All-permutation (Contains (filter p moves)) (filter p starts) ps changed
+      (λ k d within. Contains-passing p moves (get_or (filter p starts) k d) (filter_passes p starts k d within) (All-filter p (Contains moves) starts (starts_touch b t x there) k d within)))
+      (λ k d within.
+      Contains-permutation (filter p starts) ps (get_or (filter p moves) k d) changed
+      (Contains-passing p starts (get_or (filter p moves) k d) (filter_passes p moves k d within) (All-filter p (Contains starts) moves (touching_found b t x there) k d within)))
+
+  -- so they are where they are sorted
+  pub passing_sorted : (p : ℕ × ℕ → Bool) (ps : List (ℕ × ℕ)) → IsPermutation (filter p (starts_of (sides_of b.sizes b.wrap) b.piece (box b.sizes) x t)) ps → IsSorted pair_cmp ps → ps ≡ filter p (touching b t x there)
+  passing_sorted p ps changed sorted =
+      let some = filter p (starts_of (sides_of b.sizes b.wrap) b.piece (box b.sizes) x t) in
+      let apart = AllPairs-filter (λ q r. same_pair q r ≡ false) p (starts_of (sides_of b.sizes b.wrap) b.piece (box b.sizes) x t) starts_distinct in
+      let distinct = pairs_of_distinct ps (IsDistinct-IsPermutation same_pair same_turned some ps changed (distinct_of some apart)) in
+      passing_rising p ps changed (sorted_rise ps sorted distinct)
+
+  -- of those of one vertex and one length there is one at most
+  pub passing_one : (p : ℕ × ℕ → Bool) (v l : ℕ) → ((s : ℕ × ℕ) → p s ≡ true → (s.0 ≡ v) × (s.1 ≡ l)) → 1 < length (filter p (starts_of (sides_of b.sizes b.wrap) b.piece (box b.sizes) x t)) → ⊥
+  passing_one p v l one many =
+      let starts = starts_of (sides_of b.sizes b.wrap) b.piece (box b.sizes) x t in
+      let some = filter p starts in
+      let first = get_or some 0 (0, 0) in
+      let second = get_or some 1 (0, 0) in
+      let is_first = one first (filter_passes p starts 0 (0, 0) (omega (arith, many))) in
+      let is_second = one second (filter_passes p starts 1 (0, 0) many) in
+      let other : same_pair first second ≡ false = AllPairs-filter (λ q r. same_pair q r ≡ false) p starts starts_distinct 0 1 (0, 0) (omega arith) many in
+      true≢false (sym (ap₂ (λ c d. c && d) (eq-eqb first.0 second.0 (is_first.0 ∙ sym is_second.0)) (eq-eqb first.1 second.1 (is_first.1 ∙ sym is_second.1))) ∙ other)

@@ -45,6 +45,23 @@ pub second_less : (p q : ℕ × ℕ) → p.0 ≡ q.0 → p.1 < q.1 → IsEarlier
 second_less p q same less =
     before_at (pair p) (pair q) 1 (λ i h. let zero : i ≡ 0 = omega (arith, h) in subst (λ j. get_or (pair p) j 0 ≡ get_or (pair q) j 0) (sym zero) same) less (omega arith) (omega arith)
 
+-- ---- starts in order
+
+unpaired : (ps qs : List (ℕ × ℕ)) → map pair ps ≡ map pair qs → ps ≡ qs
+unpaired [] [] e = refl
+unpaired (p ∷ ps) (q ∷ qs) e = grind (arith, unpaired ps qs (ap (λ vs. drop 1 vs) e))
+unpaired _ _ e = absurd cc
+
+paired : (ps qs : List (ℕ × ℕ)) → All (Contains qs) ps → All (Contains (map pair qs)) (map pair ps)
+paired ps qs h = All-map (Contains (map pair qs)) pair ps (λ k d within. Contains-image pair qs (get_or ps k d) (h k d within))
+
+-- lists that rise and have the same members are the same
+pub same_in_order : (ps qs : List (ℕ × ℕ)) → AllPairs IsEarlier ps → AllPairs IsEarlier qs → All (Contains qs) ps → All (Contains ps) qs → ps ≡ qs
+same_in_order ps qs rise_p rise_q has found =
+    unpaired ps qs (rising_same (map pair ps) (map pair qs) (AllPairs-map IsBefore pair ps rise_p) (AllPairs-map IsBefore pair qs rise_q) (paired ps qs has) (paired qs ps found))
+
+-- ---- the moves
+
 -- where a move of a length leads is its destination
 pub leads_there : (sides : List Side) (piece : ℤ) (t : List ℤ) (y : List ℕ) (l : ℕ) (z : List ℕ) → IsBelow y (map (λ s. s.size) sides) → LeadsTo sides piece y t l z → destination sides piece y t l ≡ Some z
 leads_there sides (pos p) t y l z below leads = leads.1
@@ -217,13 +234,5 @@ module _ (b : BoardData) (t : List ℤ) (x : List ℕ) (there : Contains (box b.
 
   -- ---- so these are the starts in order
 
-  unpaired : (ps qs : List (ℕ × ℕ)) → map pair ps ≡ map pair qs → ps ≡ qs
-  unpaired [] [] e = refl
-  unpaired (p ∷ ps) (q ∷ qs) e = grind (arith, unpaired ps qs (ap (λ vs. drop 1 vs) e))
-  unpaired _ _ e = absurd cc
-
-  paired : (ps qs : List (ℕ × ℕ)) → All (Contains qs) ps → All (Contains (map pair qs)) (map pair ps)
-  paired ps qs h = All-map (Contains (map pair qs)) pair ps (λ k d within. Contains-image pair qs (get_or ps k d) (h k d within))
-
   pub in_order_same : (ps : List (ℕ × ℕ)) → AllPairs IsEarlier ps → All (Contains touching) ps → All (Contains ps) touching → ps ≡ touching
-  in_order_same ps rise has found = search (rules, unpaired, touching, rising_same, pair, AllPairs-map, touching_rise, paired, IsBefore)
+  in_order_same ps rise has found = same_in_order ps touching rise touching_rise has found

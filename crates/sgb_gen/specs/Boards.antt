@@ -1,5 +1,5 @@
 -- The graphs of boards [GB_BASIC, board].
-use Rattle.std.specs.Prelude.{◌≡◌, ◌⊎◌, ◌≤◌, ◌/◌, ◌==◌, ℕ, ℤ, pos, nat_abs, nat_lt, Bool, true, List, [], ◌∷◌, ◌++◌, length, map, Result, Ok, Err, codes, if◌then◌else◌}
+use Rattle.std.specs.Prelude.{◌==◌, ℕ, ℤ, pos, nat_abs, nat_lt, Bool, List, [], ◌∷◌, ◌++◌, length, map, Result, Ok, Err, codes, if◌then◌else◌}
 use Rattle.std.specs.Fmt.{signed_decimal}
 use Rattle.sgb_vec.specs.Boxes.{box, box_of}
 use Rattle.sgb_vec.specs.Results.{and_then}
@@ -8,7 +8,6 @@ use Rattle.sgb_vec.specs.declared.panics.Panic.{Panic}
 use Rattle.sgb_vec.specs.declared.panics.Panic.TheVariants.{VeryBad}
 use Rattle.sgb_graph.specs.Descriptions.{Description}
 use Rattle.sgb_graph.specs.IdTexts.{flag_text}
-use Rattle.sgb_gen.specs.Displacements.{displacements}
 use Rattle.sgb_gen.specs.declared.params.BoardParams.{BoardParams}
 use Rattle.sgb_gen.specs.Limits.{most_piece}
 use Rattle.sgb_gen.specs.VectorGraphs.{Move, VectorGraph, call_text, described_by}
@@ -44,12 +43,6 @@ moves_of_board b = board_moves (sides_of b.sizes b.wrap) b.piece (box b.sizes) (
 -- its graph, as one of vectors: its vertices are those of the box of its sizes
 abbrev pub board_vector_graph : BoardData → VectorGraph
 board_vector_graph b = record { id = board_id b; directed = b.directed; vectors = box b.sizes; moves = moves_of_board b }
-
--- where it is listed no list is kept: its graph is directed, or no side wraps around; and its displacements have at most 65,536
--- entries
-abbrev pub KeepsNoList : BoardData → Type 0
-KeepsNoList b =
-    ((b.directed ≡ true) ⊎ (b.wrap ≡ pos 0)) × (length (displacements (nat_abs b.piece) (length b.sizes)) ≤ 65_536 / length b.sizes)
 
 -- the graph of board(n1,n2,n3,n4,piece,wrap,directed), or why it is refused
 abbrev pub board : BoardParams → Result Description Panic

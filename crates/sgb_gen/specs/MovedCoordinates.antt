@@ -1,5 +1,5 @@
 -- Displacements by the coordinates that they move: where these lead alone, since all others stay.
-use Rattle.std.specs.Prelude.{ℕ, zero, suc, ◌+◌, ℤ, pos, negsuc, ◌+ℤ◌, ◌*ℤ◌, List, [], ◌∷◌, get_or, set, Option, unwrap_or}
+use Rattle.std.specs.Prelude.{ℕ, zero, ◌+◌, ℤ, pos, ◌+ℤ◌, ◌*ℤ◌, List, [], ◌∷◌, get_or, set, Option, unwrap_or}
 use Rattle.sgb_gen.specs.Moves.{is_bit_set, coordinate_on}
 
 -- the coordinates that a displacement moves whose entries are those from number k on: their numbers, and how far

@@ -1,5 +1,5 @@
 -- The graphs of simplexes [GB_BASIC, simplex].
-use Rattle.std.specs.Prelude.{ℕ, ◌+◌, ◌-◌, nat_lt, ℤ, Bool, ◌&&◌, List, [], ◌∷◌, ◌++◌, length, map, filter, slice_index, slice_set, sum, Result, Ok, codes}
+use Rattle.std.specs.Prelude.{ℕ, ◌+◌, ◌-◌, nat_lt, ℤ, Bool, ◌&&◌, List, [], ◌∷◌, ◌++◌, length, map, filter, slice_index, slice_set, Result, Ok, codes}
 use Rattle.std.specs.Fmt.{signed_decimal}
 use Rattle.std.specs.List.{flat_map, range_with_len}
 use Rattle.sgb_vec.specs.Results.{and_then}

@@ -1,5 +1,5 @@
 -- The graph of a family of vectors: what the graphs of board, simplex and subsets have in common [GB_BASIC].
-use Rattle.std.specs.Prelude.{ℕ, ℤ, pos, Bool, List, [], ◌∷◌, ◌++◌, map, replicate, slice_index, codes, nat_eq}
+use Rattle.std.specs.Prelude.{ℕ, pos, Bool, List, [], ◌∷◌, ◌++◌, map, replicate, slice_index, codes, nat_eq}
 use Rattle.std.specs.List.{Contains, position_or_len, join_with_byte}
 use Rattle.std.specs.Cmp.Lexicographic.{pointwise}
 use Rattle.sgb_vec.specs.Names.{name_of_vector}

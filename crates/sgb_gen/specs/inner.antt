@@ -14,6 +14,8 @@ pub mod ArcSinks
 pub mod LocalArcs
 -- the list of a vector of a board, by displacements
 pub mod LocalBoards
+-- the starts of the edges that touch a vector, in ranges
+pub mod Starts
 -- the list of a vector of a simplex, by pairs of places
 pub mod LocalSimplexes
 -- the list of a vector of subsets, by a walk

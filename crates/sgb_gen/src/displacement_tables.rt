@@ -1,8 +1,8 @@
 //! Displacements that are kept, for walks that are made again and again.
 //!
-//! At most 65,536 entries are kept, each also turned round, and with each coordinate that moves its number: a few
-//! megabytes at most.
-ghost use Rattle.std.specs.Prelude.{◌≡◌, ◌<◌, ◌≤◌, ◌/◌, length, max, nat_abs, slice_get, Some, All, IfNone, IfOk, IfSome, IsOkUnless};
+//! Each is also kept turned round, and with each coordinate that moves its number: of 65,536 entries that takes a few
+//! megabytes.
+ghost use Rattle.std.specs.Prelude.{◌≡◌, ◌<◌, ◌≤◌, length, nat_abs, slice_get, Some, All, IfOk, IfSome, IsOkUnless};
 ghost use Rattle.sgb_vec.specs.Limits.{most_dimensions};
 ghost use Rattle.sgb_gen.specs.Limits.{most_piece};
 ghost use Rattle.sgb_gen.specs.Moves.{opposite};
@@ -13,7 +13,7 @@ use sgb_vec::Panic;
 use std::alloc::Global;
 use std::marker::Model;
 
-// At most so many entries of displacements are kept.
+// A table that a listing can do without has at most so many entries of displacements.
 const MOST_ENTRIES: usize = 65_536;
 
 /// A displacement and its opposite. Contracts see the displacement.
@@ -99,26 +99,38 @@ impl DisplacementTable {
         requires small { All (λ t. All (λ e. nat_abs e ≤ most_piece) t) left }
         ensures { IfSome result (λ d. d ≡ left) }
     {
-        match DisplacementTable::made(alloc, width, left) {
+        match DisplacementTable::made(alloc, MOST_ENTRIES / width.max(1), left) {
             Ok(table) => table,
             Err(_no_room) => None,
         }
     }
 
-    /// The same. `None` where they have more than 65,536 entries, and nothing else.
+    /// These displacements, whatever their number.
     ///
     /// `NoRoom` when out of memory, and nothing else.
-    pub(crate) fn made(
+    pub(crate) fn whole(alloc: Global, left: Displacements) -> Result<DisplacementTable, Panic>
+        requires small { All (λ t. All (λ e. nat_abs e ≤ most_piece) t) left }
+        ensures table { IfOk result (λ d. d ≡ left) }
+        ensures memory { IsOkUnless result Panic.NoRoom }
+    {
+        match DisplacementTable::made(alloc, usize::MAX, left)? {
+            Some(table) => Ok(table),
+            None => Err(Panic::NoRoom),
+        }
+    }
+
+    // These displacements, where they are no more than `most`.
+    //
+    // `NoRoom` when out of memory, and nothing else.
+    fn made(
         alloc: Global,
-        width: usize,
+        most: usize,
         left: Displacements,
     ) -> Result<Option<DisplacementTable>, Panic>
         requires small { All (λ t. All (λ e. nat_abs e ≤ most_piece) t) left }
         ensures table { IfOk result (λ o. IfSome o (λ d. d ≡ left)) }
-        ensures many { IfOk result (λ o. IfNone o (65_536 / max width 1 < length left)) }
         ensures memory { IsOkUnless result Panic.NoRoom }
     {
-        let most = MOST_ENTRIES / width.max(1);
         let mut turned = Displacement::new();
         let mut parts = Parts::new();
         let mut left = left;

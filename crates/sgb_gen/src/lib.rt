@@ -27,6 +27,10 @@ mod locals;
 mod moves;
 // The generators' parameters.
 mod params;
+// Ranges of the starts of moves.
+mod start_ranges;
+// Starts of moves in a range, and their order.
+mod starts;
 // A unit of a vector that goes to a higher place.
 mod shifts;
 // The short names of some boards and subsets.

@@ -9,6 +9,7 @@ ghost use Rattle.sgb_gen.specs.LocalLists.{LinksData, LocalArc};
 ghost use Rattle.sgb_gen.specs.inner.LocalArcs.{rows_turned};
 
 use crate::arc_sinks::ArcSink;
+use crate::starts::Starts;
 use sgb_vec::Panic;
 use std::alloc::Global;
 use std::marker::Model;
@@ -171,22 +172,20 @@ impl Links {
         turn_from(tips, lens, first, start, width);
     }
 
-    // Hands out room for the starts of moves, which is empty; its memory comes from where that of the links does.
-    pub(crate) fn take_starts(&mut self) -> Vec<(u32, u32)>
-        ensures empty { result.items ≡ [] }
+    // Hands out room for the starts of moves; its memory comes from where that of the links does.
+    pub(crate) fn take_starts(&mut self) -> Result<Starts, Panic>
         ensures same { self.new ≡ self.old }
+        ensures memory { IsOkUnless result Panic.NoRoom }
     {
         let none = Vec::new(*self.lens.allocator());
-        let mut starts = replace(&mut self.starts, none);
-        starts.clear();
-        starts
+        Starts::new(replace(&mut self.starts, none))
     }
 
     // Takes that room back.
-    pub(crate) fn keep_starts(&mut self, starts: Vec<(u32, u32)>)
+    pub(crate) fn keep_starts(&mut self, starts: Starts)
         ensures { self.new ≡ self.old }
     {
-        self.starts = starts;
+        self.starts = starts.into_room();
     }
 }
 

@@ -2,9 +2,9 @@
 //!
 //! Proofs of listings speak of a graph of vectors (`VectorGraph`), and of no generator. That of a board is listed by
 //! `BoardLists`, which makes a table only in `prepare`: names, sizes and where a listing begins take no memory; or by an
-//! `OrderedBoard`, which has its table, so that nothing after it wants memory. That moves have their ends among the
+//! `OrderedBoard`, which has its table, whatever its size, so that nothing after it wants memory. That moves have their ends among the
 //! vectors is a clause of `family` and no law: its proof would have to stand with the definitions.
-ghost use Rattle.std.specs.Prelude.{◌≡◌, ◌⊎◌, ◌≤◌, ◌^◌, length, map, slice_get, All, Contains, IfErr, IfNone, IfOk, IfSome, IsOk, OnOk, IsOkUnless, Some};
+ghost use Rattle.std.specs.Prelude.{◌≡◌, ◌⊎◌, ◌≤◌, ◌^◌, length, map, pos, slice_get, true, All, Contains, IfErr, IfNone, IfOk, IfSome, IsOk, OnOk, IsOkUnless, Some};
 ghost use Rattle.sgb_graph.specs.Graphs.{chain_of};
 ghost use Rattle.sgb_graph.specs.Made.{graph_described};
 ghost use Rattle.sgb_gen.specs.ArcSinks.{AreGiven};
@@ -36,6 +36,9 @@ pub trait Listed<'a> {
 
     // Which generator it is from.
     ghost sort: { Self → Sort };
+
+    // The length of a list is told without it, where 64 bits hold it.
+    ghost counted: { Self → Type 0 };
 
     /// The vectors that are the vertices.
     fn family(&self) -> &'a Self::Members
@@ -77,10 +80,10 @@ pub trait Listed<'a> {
         ensures sort { sort self.new ≡ sort self.old };
 
     /// Hands the arcs of the vertex of `x` to a sink, one by one, in the order of its list in the graph. Of a simplex, of subsets
-    /// and of an `OrderedBoard` no list is kept, and no memory is taken but by the sink; nor of a `BoardLists` that is prepared,
-    /// where its arcs are had in order with no sort. Another board's list is made in `links` first.
+    /// and of an `OrderedBoard` no list is kept, and no memory is wanted but by the sink; nor is a list kept of a `BoardLists` that
+    /// is prepared, where its displacements are in a table. Another board's list is made in `links` first.
     ///
-    /// The sink's fault, inside; or `NoRoom` when out of memory for a board's list, and nothing else: the sink was then handed
+    /// The sink's fault, inside; or `NoRoom` when out of memory for a `BoardLists`, and nothing else: the sink was then handed
     /// nothing.
     fn give_arcs<K: ArcSink<R, S>, R, S>(
         &mut self,
@@ -103,12 +106,12 @@ pub trait Listed<'a> {
         ensures sort { sort self.new ≡ sort self.old };
 
     /// How many arcs are on the list of the vertex of `x`, where they are told without it, as a run asks: of a board that is
-    /// prepared, where its arcs are had in order with no sort, and of undirected subsets. Of an `OrderedBoard` they are, where 64
-    /// bits hold the number. No memory is taken.
+    /// prepared, where its arcs are had in order with no sort, and of undirected subsets. Of an `OrderedBoard` they are where its
+    /// graph is directed, or no side wraps around, and 64 bits hold the number. No memory is taken.
     fn count_at(&self, x: &[u32]) -> Option<u64>
         requires { Contains (graph self.now).vectors x.now }
         ensures count { IfSome result (λ m. m ≡ length (list_in (graph self.now) x.now)) }
-        ensures ordered { sort self.now ≡ of_ordered_board
+        ensures counted { counted self.now
             → IfNone result (2 ^ 64 ≤ length (list_in (graph self.now) x.now)) };
 
     /// The list of the vertex of `x` run by run, where it can be had so, of a board alone: no list is then made. No memory is
@@ -151,6 +154,8 @@ impl<'a> Listed<'a> for BoardLists<'a> {
 
     ghost sort = { λ _. of_board };
 
+    ghost counted = { λ _. ⊥ };
+
     fn family(&self) -> &'a BoxFamily {
         self.board.family()
     }
@@ -179,8 +184,11 @@ impl<'a> Listed<'a> for BoardLists<'a> {
         room: &mut R,
         out: &mut S,
     ) -> Result<Result<(), K::Fault>, Panic> {
-        if let Some(table) = self.table_in_order() {
-            return Ok(self.board.give_kept(x, table, sink, room, out));
+        let mut starts = links.take_starts()?;
+        let given = self.give_kept(x, &mut starts, sink, room, out);
+        links.keep_starts(starts);
+        if let Some(given) = given {
+            return Ok(given);
         }
         BoardLists::arcs_at(self, x, links)?;
         Ok(links.give(sink, room, out))
@@ -215,6 +223,8 @@ impl<'a> Listed<'a> for OrderedBoard<'a> {
     ghost graph = { board_vector_graph };
 
     ghost sort = { λ _. of_ordered_board };
+
+    ghost counted = { λ b. (b.directed ≡ true) ⊎ (b.wrap ≡ pos 0) };
 
     fn family(&self) -> &'a BoxFamily {
         self.board.family()
@@ -275,6 +285,8 @@ impl<'a> Listed<'a> for &'a Simplex {
 
     ghost sort = { λ _. of_simplex };
 
+    ghost counted = { λ _. ⊥ };
+
     fn family(&self) -> &'a SumFamily {
         (**self).family()
     }
@@ -333,6 +345,8 @@ impl<'a> Listed<'a> for &'a Subsets {
     ghost graph = { λ s. subsets_vector_graph s.now };
 
     ghost sort = { λ _. of_subsets };
+
+    ghost counted = { λ _. ⊥ };
 
     fn family(&self) -> &'a SumFamily {
         (**self).family()

@@ -1,17 +1,15 @@
 //! The listing of a generator's graph, written from its vectors: one list of arcs after another, and no graph is built.
-//! The arcs of a simplex, of subsets and of most boards are handed to the page one by one (`ArcLines`), so no list of theirs
-//! is kept.
+//! The arcs are handed to the page one by one (`ArcLines`), so no list is kept. What a board wants of memory is taken before
+//! something is written (`OrderedBoard`).
 //!
-//! The head is put before the first list is made, which takes time and memory in a great graph; the program's
-//! `Buffered` holds it until the first page comes. Where memory runs out for a list the page is not put any more: a
-//! listing that is cut off there ends with its head or with a page. A put after that fault could fail, and turn its
-//! status.
+//! The head is put before the first list, which takes time in a great graph; the program's `Buffered` holds it until the first
+//! page comes.
 ghost use Rattle.std.specs.Prelude.{◌≡◌, ◌≢◌, ◌≤◌, ◌+◌, [], ◌++◌, false, true, drop, length, option_map, Contains, IfErr, IfSome, IsOk, IsOkUnless, OnOk};
 ghost use Rattle.std.specs.List.{flat_map};
 ghost use Rattle.sgb_file.specs.Devices.{change};
 ghost use Rattle.sgb_vec.specs.Boxes.{box};
 ghost use Rattle.sgb_vec.specs.Limits.{most_dimensions};
-ghost use Rattle.sgb_gen.specs.Boards.{BoardData, KeepsNoList, board_vector_graph};
+ghost use Rattle.sgb_gen.specs.Boards.{board_vector_graph};
 ghost use Rattle.sgb_gen.specs.VectorGraphs.{described_by};
 ghost use Rattle.sgb_graph.specs.Made.{graph_described};
 ghost use Rattle.sgb_requests.specs.declared.faults.Fault.TheVariants as fault;
@@ -24,7 +22,7 @@ ghost use Rattle.sgb.specs.inner.Remaining.{IsRest};
 ghost use Rattle.sgb.specs.inner.Texts.{most_line_bytes};
 ghost use Rattle.sgb.specs.Texts.{head};
 ghost use Rattle.sgb_vec.specs.declared.panics.Panic.TheVariants.{NoRoom};
-ghost use Rattle.sgb.specs.Writing.{IsLeftOrBegun, IsWritten, effect};
+ghost use Rattle.sgb.specs.Writing.{IsWritten};
 // For the search alone.
 ghost use Rattle.std.specs.Prelude.{IfOk};
 
@@ -41,12 +39,11 @@ use sgb_vec::{Family, Panic, Vectors};
 
 /// Writes the listing of a generator's graph, one arc list after another: the head where `head` asks for it, and a
 /// block for each vertex after that of the vector `after`, or for all. No flush. All memory that it takes is from where
-/// that of `links` comes: room for one list after another, which `links` keeps, and of a board its displacements, of a
+/// that of `links` comes: of a board its displacements, and a room for starts that want a sort, which it can do without; of a
 /// simplex the counts for the head, about a megabyte at most. What `links` holds afterwards is open.
 ///
-/// `after` is a vector of the family. `Write` where the sink failed, `Panic(NoRoom)` when out of memory; a prefix is then
-/// written. Where memory runs out that is nothing, or the whole head at least. Subsets take no memory, and a simplex only
-/// before its head.
+/// `after` is a vector of the family. `Write` where the sink failed; a prefix is then written. `Panic(NoRoom)` when out of
+/// memory, which leaves `out` as it was. Subsets take no memory, and a simplex only for its head.
 pub fn list_family<W: Sink>(
     local: &Local,
     head: bool,
@@ -59,14 +56,10 @@ pub fn list_family<W: Sink>(
     ensures written { IsWritten (family_text (graph_described (described local.now)) head
         (left_out_after (vectors_of local.now) (option_map (λ x. x.now) after.entry)))
         (change W.written W.has_failed out.old out.new) result }
-    ensures head { IfErr result (λ f. f ≢ Fault.Write → IsLeftOrBegun
-        (head_if head (graph_described (described local.now)))
-        (effect W.written W.has_failed out.old out.new)) }
+    ensures untouched { IfErr result (λ f. f ≢ Fault.Write → out.new ≡ out.old) }
     ensures subsets { sort_of local.now ≡ of_subsets → IfErr result (λ f. f ≡ Fault.Write) }
-    ensures simplex { sort_of local.now ≡ of_simplex → IfErr result (λ f. f ≢ Fault.Write
-        → (head ≡ true) × (out.new ≡ out.old)) }
-    ensures board { (b : BoardData) → local.now ≡ Local.Board b → KeepsNoList b
-        → IfErr result (λ f. f ≢ Fault.Write → out.new ≡ out.old) }
+    ensures simplex { sort_of local.now ≡ of_simplex
+        → IfErr result (λ f. f ≢ Fault.Write → head ≡ true) }
 {
     if let Local::Board(board) = local {
         return list_board(board, head, after, links, out);
@@ -74,7 +67,7 @@ pub fn list_family<W: Sink>(
     local.visit(FamilyListing { head, after, links }, out)
 }
 
-// The same of a board. Where it keeps no list, what the table wants of memory is told before something is written.
+// The same of a board. What it wants of memory is told before something is written.
 fn list_board<W: Sink>(
     board: &Board,
     head: bool,
@@ -88,18 +81,10 @@ fn list_board<W: Sink>(
         (family_text (graph_described (described_by (board_vector_graph board.now))) head
         (left_out_after (box board.now.sizes) (option_map (λ x. x.now) after.entry)))
         (change W.written W.has_failed out.old out.new) result }
-    ensures head { IfErr result (λ f. f ≢ Fault.Write → IsLeftOrBegun
-        (head_if head (graph_described (described_by (board_vector_graph board.now))))
-        (effect W.written W.has_failed out.old out.new)) }
-    ensures untouched { KeepsNoList board.now
-        → IfErr result (λ f. f ≢ Fault.Write → out.new ≡ out.old) }
+    ensures untouched { IfErr result (λ f. f ≢ Fault.Write → out.new ≡ out.old) }
 {
-    if let Some(ordered) = board.in_order(links)? {
-        let mut ordered = ordered;
-        return list_vectors(&mut ordered, head, after, links, out);
-    }
-    let mut lists = board.lists(links);
-    list_vectors(&mut lists, head, after, links, out)
+    let mut ordered = board.in_order(links)?;
+    list_vectors(&mut ordered, head, after, links, out)
 }
 
 // The listing of a generator's graph, as `list_family` writes it.
@@ -123,11 +108,9 @@ impl<'l, W: Sink> Visitor<W> for FamilyListing<'l> {
         (family_text (graph_described (described_by g)) v.head
         (left_out_after g.vectors (option_map (λ x. x.now) v.after)))
         (change W.written W.has_failed old new) result
-        × IfErr result (λ f. f ≢ fault.Write → IsLeftOrBegun
-        (head_if v.head (graph_described (described_by g))) (effect W.written W.has_failed old new))
         × (sort ≡ of_subsets → IfErr result (λ f. f ≡ fault.Write))
-        × (sort ≡ of_simplex → IfErr result (λ f. f ≢ fault.Write
-        → (v.head ≡ true) × (new ≡ old))) };
+        × (sort ≡ of_simplex → IfErr result (λ f. f ≢ fault.Write → v.head ≡ true))
+        × (sort ≢ of_board → IfErr result (λ f. f ≢ fault.Write → new ≡ old)) };
 }
 
 impl<'a, 'l, L: Listed<'a>, W: Sink> Visit<'a, L, W> for FamilyListing<'l> {
@@ -151,23 +134,20 @@ pub(super) fn list_vectors<'a, L: Listed<'a>, W: Sink>(
         (family_text (graph_described (described_by (L.graph listed.old))) head
         (left_out_after (L.graph listed.old).vectors (option_map (λ x. x.now) after.entry)))
         (change W.written W.has_failed out.old out.new) result }
-    ensures head { IfErr result (λ f. f ≢ Fault.Write → IsLeftOrBegun
-        (head_if head (graph_described (described_by (L.graph listed.old))))
-        (effect W.written W.has_failed out.old out.new)) }
     // Where there is no head and no vector is left no memory is taken.
     ensures end { head ≡ false → drop (left_out_after (L.graph listed.old).vectors
         (option_map (λ x. x.now) after.entry)) (L.graph listed.old).vectors ≡ []
         → IfErr result (λ f. f ≢ Fault.Panic NoRoom) }
     ensures subsets { L.sort listed.old ≡ of_subsets → IfErr result (λ f. f ≡ Fault.Write) }
-    ensures simplex { L.sort listed.old ≡ of_simplex → IfErr result (λ f. f ≢ Fault.Write
-        → (head ≡ true) × (out.new ≡ out.old)) }
+    ensures simplex { L.sort listed.old ≡ of_simplex
+        → IfErr result (λ f. f ≢ Fault.Write → head ≡ true) }
     ensures untouched { L.sort listed.old ≢ of_board
         → IfErr result (λ f. f ≢ Fault.Write → out.new ≡ out.old) }
 {
     let vectors = vectors_after(listed.family(), after);
     let mut page = Page::new();
     push_head_if(head, listed, links, &mut page)?;
-    // The head is put before the first list, which in a great graph takes time and memory. Of an empty page nothing is put.
+    // The head is put before the first list, which in a great graph takes time. Of an empty page nothing is put.
     put_page(&mut page, out)?;
     write_blocks(listed, vectors, links, &mut page, out)
 }

@@ -1,11 +1,11 @@
 //! The answer to a request for the listing of a generator's graph.
 //!
-//! Where a board keeps no list, its table of displacements is made before something is written, so that want of memory is told
-//! then or never (`OrderedBoard`).
+//! A board's table of displacements is made before something is written, and its arcs are handed out in order with no list kept
+//! (`OrderedBoard`): so want of memory is told then or never.
 ghost use Rattle.std.specs.Prelude.{◌≡◌, ◌≢◌, false, IfErr};
 ghost use Rattle.sgb_graph.specs.Made.{graph_described};
 ghost use Rattle.sgb_graph.specs.Vertices.{names_of};
-ghost use Rattle.sgb_gen.specs.Boards.{BoardData, KeepsNoList, board_vector_graph};
+ghost use Rattle.sgb_gen.specs.Boards.{board_vector_graph};
 ghost use Rattle.sgb_gen.specs.Generators.{described, sort_of};
 ghost use Rattle.sgb_gen.specs.Sorts.{of_board, of_simplex, of_subsets};
 ghost use Rattle.sgb_gen.specs.VectorGraphs.{described_by};
@@ -39,10 +39,9 @@ pub(crate) fn write_local_list<W: Sink>(
         → IfErr result (λ f. f ≢ Fault.Panic NoRoom) }
     ensures subsets { sort_of local.now ≡ of_subsets
         → IfErr result (λ f. f ≢ Fault.Panic NoRoom) }
-    ensures simplex { sort_of local.now ≡ of_simplex → IfErr result (λ f.
-        f ≡ Fault.Panic NoRoom → (resume.now ≡ Resume.Whole) × (out.new ≡ out.old)) }
-    ensures board { (b : BoardData) → local.now ≡ Local.Board b → KeepsNoList b
-        → IfErr result (λ f. f ≡ Fault.Panic NoRoom → out.new ≡ out.old) }
+    ensures simplex { sort_of local.now ≡ of_simplex
+        → IfErr result (λ f. f ≡ Fault.Panic NoRoom → resume.now ≡ Resume.Whole) }
+    ensures untouched { IfErr result (λ f. f ≡ Fault.Panic NoRoom → out.new ≡ out.old) }
 {
     if let Local::Board(board) = local {
         return write_board_list(board, resume, links, out);
@@ -64,19 +63,14 @@ fn write_board_list<W: Sink>(
     ensures past { IsPast
         (names_of (graph_described (described_by (board_vector_graph board.now)))) resume.now
         → IfErr result (λ f. f ≢ Fault.Panic NoRoom) }
-    ensures untouched { KeepsNoList board.now
-        → IfErr result (λ f. f ≡ Fault.Panic NoRoom → out.new ≡ out.old) }
+    ensures untouched { IfErr result (λ f. f ≡ Fault.Panic NoRoom → out.new ≡ out.old) }
 {
     if is_past(board.family(), resume) {
         let mut lists = BoardLists::new(board);
         return ListAnswer { resume, links }.visit(&mut lists, out);
     }
-    if let Some(ordered) = board.in_order(links)? {
-        let mut ordered = ordered;
-        return ListAnswer { resume, links }.visit(&mut ordered, out);
-    }
-    let mut lists = BoardLists::new(board);
-    ListAnswer { resume, links }.visit(&mut lists, out)
+    let mut ordered = board.in_order(links)?;
+    ListAnswer { resume, links }.visit(&mut ordered, out)
 }
 
 // The answer to a request for the listing of a generator's graph: the head, and a block for each vertex; or, where it
@@ -102,8 +96,7 @@ impl<'l, W: Sink> Visitor<W> for ListAnswer<'l> {
         × (IsPast (names_of (graph_described (described_by g))) v.resume.now
         → IfErr result (λ f. f ≢ fault.Panic NoRoom))
         × (sort ≡ of_subsets → IfErr result (λ f. f ≢ fault.Panic NoRoom))
-        × (sort ≡ of_simplex → IfErr result (λ f. f ≡ fault.Panic NoRoom
-        → (v.resume.now ≡ Whole) × (new ≡ old)))
+        × (sort ≡ of_simplex → IfErr result (λ f. f ≡ fault.Panic NoRoom → v.resume.now ≡ Whole))
         × (sort ≢ of_board → IfErr result (λ f. f ≡ fault.Panic NoRoom → new ≡ old)) };
 }
 

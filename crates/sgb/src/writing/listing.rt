@@ -9,7 +9,7 @@ ghost use Rattle.sgb.specs.Writing.{IsEnded, IsWritten, effect};
 ghost use Rattle.sgb.specs.inner.Pages.{IsPaged, page_bytes};
 ghost use Rattle.sgb.specs.inner.Texts.{most_line_bytes};
 
-use super::arc_lines::{begin_arc, end_arc};
+use super::arc_lines::{begin_arc, end_arc, push_name};
 use super::pages::{Page, make_room, put_page};
 use super::vertices::{push_name_line, vertices_left_out};
 use sgb_file::Sink;
@@ -150,7 +150,7 @@ fn push_arc<W: Sink>(graph: &Graph, link: Link, page: &mut Page, out: &mut W) ->
 {
     make_room(page, out)?;
     begin_arc(page);
-    page.push_text(graph.name(link.tip).bytes());
+    push_name(page, graph.name(link.tip).bytes());
     end_arc(page, link.len);
     Ok(())
 }

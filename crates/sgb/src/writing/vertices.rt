@@ -10,6 +10,7 @@ ghost use Rattle.sgb.specs.Texts.{name_line, name_lines};
 ghost use Rattle.sgb.specs.Writing.{IsEnded, IsWritten, effect};
 ghost use Rattle.sgb.specs.inner.Pages.{IsPaged};
 
+use super::arc_lines::push_name;
 use super::pages::{Page, make_room, put_page};
 use sgb_file::Sink;
 use sgb_graph::Graph;
@@ -51,6 +52,7 @@ fn write_name_lines<W: Sink>(graph: &Graph, from: u64, out: &mut W) -> Result<()
 }
 
 /// Hands the line of a vertex to a page: its name and a newline.
+#[inline(always)]
 pub(super) fn push_name_line<W: Sink>(
     graph: &Graph,
     v: u32,
@@ -64,7 +66,7 @@ pub(super) fn push_name_line<W: Sink>(
     ensures fault { IfErr result (λ f. f ≡ Fault.Write) }
 {
     make_room(page, out)?;
-    page.push_text(graph.name(v).bytes());
+    push_name(page, graph.name(v).bytes());
     page.push_text(b"\n");
     Ok(())
 }

@@ -1,5 +1,5 @@
 -- Graphs whose vertices are vectors, and which generator they are of, evaluated.
-use Rattle.std.specs.Prelude.{◌≡◌, ◌<◌, ℕ, zero, suc, pos, negsuc, false, List, [], ◌∷◌, Contains, refl}
+use Rattle.std.specs.Prelude.{◌≡◌, zero, suc, pos, false, [], ◌∷◌, refl}
 use Rattle.std.proofs.Common.{arith}
 use Rattle.sgb_vec.specs.Boxes.{box}
 use Rattle.sgb_vec.specs.Sums.{bounded_sums}

@@ -9,7 +9,6 @@ use Rattle.sgb_gen.specs.Generators.{IsAcceptedAtOnce, IsGeneratorRefused}
 use Rattle.sgb_gen.specs.Simplexes.{accepted_simplex}
 use Rattle.sgb_gen.specs.Subsets.{accepted_subsets}
 use Rattle.sgb_gen.specs.declared.params.BoardParams.{BoardParams}
-use Rattle.sgb_gen.specs.declared.params.Generator.{Generator}
 use Rattle.sgb_gen.specs.declared.params.Generator.TheVariants as generator
 use Rattle.sgb_gen.specs.declared.params.SimplexParams.{SimplexParams}
 use Rattle.sgb_gen.specs.declared.params.SubsetsParams.{SubsetsParams}

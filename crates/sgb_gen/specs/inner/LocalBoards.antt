@@ -1,5 +1,5 @@
 -- The list of one vector of a board, by displacements.
-use Rattle.std.specs.Prelude.{ℕ, pos, ℤ, ◌==◌, Bool, not, List, [], ◌∷◌, ◌++◌, map, filter, Option, Some, None, if◌then◌else◌}
+use Rattle.std.specs.Prelude.{ℕ, pos, ℤ, ◌==◌, ◌||◌, Bool, not, List, [], ◌∷◌, ◌++◌, map, filter, Option, Some, None, if◌then◌else◌}
 use Rattle.std.specs.List.{flat_map}
 use Rattle.sgb_gen.specs.Moves.{Side, moves_from, opposite}
 use Rattle.sgb_gen.specs.inner.Moves.{destination}
@@ -46,3 +46,8 @@ arcs_onward directed x moves = flat_map (arcs_by directed x) moves
 -- the moves by t, from each vector in order
 abbrev pub moves_by : List Side → ℤ → List (List ℕ) → List ℤ → List Move
 moves_by sides piece vectors t = flat_map (λ y. moves_from sides piece y t) vectors
+
+-- the edges by t that touch x, in order, by their starts and lengths
+abbrev pub touching_starts : List Side → ℤ → List (List ℕ) → List ℕ → List ℤ → List (ℕ × ℕ)
+touching_starts sides piece vectors x t =
+    map (λ m. (vertex_among vectors m.from, m.len)) (filter (λ m. same_vector m.from x || same_vector m.to x) (moves_by sides piece vectors t))

@@ -1,5 +1,5 @@
 -- How many places among the vectors of a box a displacement leads on.
-use Rattle.std.specs.Prelude.{◌≡◌, ◌<◌, ◌≤◌, ℕ, ℤ, pos, nat_abs, ◌+ℤ◌, ◌*ℤ◌, false, List, [], ◌∷◌, map}
+use Rattle.std.specs.Prelude.{◌≡◌, ◌<◌, ◌≤◌, ℕ, ℤ, pos, nat_abs, ◌+ℤ◌, ◌*ℤ◌, false, List, ◌∷◌, map}
 use Rattle.std.specs.List.{All}
 use Rattle.sgb_vec.specs.Boxes.{product_of}
 use Rattle.sgb_vec.specs.Limits.{most_vertices}

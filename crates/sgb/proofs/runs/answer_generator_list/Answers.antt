@@ -1,4 +1,4 @@
-use Rattle.sgb.proofs.CertainAnswers.{exit_panic, exit_untouched, listing_begun, listing_refused, listing_untouched}
+use Rattle.sgb.proofs.CertainAnswers.{exit_panic, exit_untouched, listing_begun, listing_refused}
 use Rattle.sgb.proofs.runs.answer_generator_list.Goals as goal
 
 pub returns-in_err-local-clause-certain : goal.returns-in_err-local-clause-certain
@@ -8,14 +8,8 @@ returns-in_err-local-clause-certain g c = λ needs.
 pub returns-clause-certain : goal.returns-clause-certain
 returns-clause-certain g c = λ needs.
     let listed = c.write_local_list.ensures in
-    listing_begun c.args.generator.now c.args.resume.now c.in_ok-local.local _ _ _ c.in_ok-local.ensures.value c.in_ok-local.ensures.sort c.in_ok-local.ensures.refused listed.past listed.subsets
+    listing_begun c.args.generator.now c.args.resume.now c.in_ok-local.local _ c.in_ok-local.ensures.value c.in_ok-local.ensures.sort c.in_ok-local.ensures.refused listed.past listed.subsets
     listed.simplex needs
 
 pub returns-in_err-local-clause-untouched : goal.returns-in_err-local-clause-untouched
-returns-in_err-local-clause-untouched g c = λ other. exit_untouched _ _
-
-pub returns-clause-untouched : goal.returns-clause-untouched
-returns-clause-untouched g c = λ keeps.
-    let listed = c.write_local_list.ensures in
-    listing_untouched c.args.generator.now c.args.resume.now c.in_ok-local.local _ _ _ c.in_ok-local.ensures.value c.in_ok-local.ensures.sort c.in_ok-local.ensures.board listed.subsets listed.simplex
-    listed.board keeps
+returns-in_err-local-clause-untouched g c = exit_untouched _ _

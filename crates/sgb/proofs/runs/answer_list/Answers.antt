@@ -1,6 +1,6 @@
 use Rattle.sgb_gen.specs.Generators.{generator_value, made}
 use Rattle.sgb_values.proofs.StdinValues.{generated_on}
-use Rattle.sgb.proofs.CertainAnswers.{at_once_other, at_once_unmade, exit_panic, exit_untouched, listing_of_generator, listing_of_graph, never, board_of_generator}
+use Rattle.sgb.proofs.CertainAnswers.{at_once_other, at_once_unmade, exit_panic, exit_untouched, listing_of_generator, listing_of_graph, never}
 use Rattle.sgb.proofs.Endings.{ended_value, refused_value}
 use Rattle.sgb.proofs.runs.answer_list.Goals as goal
 
@@ -31,10 +31,7 @@ returns-clause-certain g c = λ needs.
     at_once_unmade c.args.input.items c.args.expression.now _ _ c.in_ok-graph.ensures.refused (listing_of_graph c.args.expression.now c.args.resume.now c.in_default.not-Generator needs)
 
 pub returns-in_err-graph-clause-untouched : goal.returns-in_err-graph-clause-untouched
-returns-in_err-graph-clause-untouched g c = λ other. exit_untouched _ _
+returns-in_err-graph-clause-untouched g c = exit_untouched _ _
 
 pub returns-clause-untouched : goal.returns-clause-untouched
-returns-clause-untouched g c = λ other. never _ _ c.write_listing.ensures.certain
-
-pub returns-in-Generator-clause-untouched : goal.returns-in-Generator-clause-untouched
-returns-in-Generator-clause-untouched g c = λ other. c.answer_generator_list.ensures.untouched (board_of_generator _ _ c.in-Generator.is other)
+returns-clause-untouched g c = never _ _ c.write_listing.ensures.certain

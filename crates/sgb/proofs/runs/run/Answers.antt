@@ -20,3 +20,6 @@ returns-clause-certain g c =
 
 pub returns-clause-apart : goal.returns-clause-apart
 returns-clause-apart g c = answer_own c.args.request.now
+
+pub returns-clause-untouched : goal.returns-clause-untouched
+returns-clause-untouched g c = c.run_answer.ensures.untouched tt

@@ -6,7 +6,7 @@ use Rattle.sgb.specs.FlipAnswers.{flip_answer}
 use Rattle.sgb.specs.Outcomes.{answer_from, answer_of, list_answer, names_answer, queen_moves, queen_title}
 use Rattle.sgb.specs.Texts.{blocks, head}
 use Rattle.sgb_values.specs.Values.{value_of}
-use Rattle.sgb.proofs.CertainAnswers.{board_of_request, never}
+use Rattle.sgb.proofs.CertainAnswers.{never}
 use Rattle.sgb.proofs.StdinValues.{made_answered, plain_answered}
 use Rattle.sgb.proofs.runs.write_answer.Goals as goal
 
@@ -34,8 +34,5 @@ returns-in-Flip-clause-ended g c = search (rules, flip_answer, plain_answered, a
 pub returns-in-List-clause-certain : goal.returns-in-List-clause-certain
 returns-in-List-clause-certain g c = λ needs. c.answer_list.ensures.certain (rw c.in-List.is at needs)
 
-pub returns-in-List-clause-untouched : goal.returns-in-List-clause-untouched
-returns-in-List-clause-untouched g c = λ other. c.answer_list.ensures.untouched (board_of_request c.args.request.now _ _ c.in-List.is other)
-
 pub returns-in-Flip-clause-untouched : goal.returns-in-Flip-clause-untouched
-returns-in-Flip-clause-untouched g c = λ other. never _ _ c.write_flip.ensures.certain
+returns-in-Flip-clause-untouched g c = never _ _ c.write_flip.ensures.certain

@@ -1,5 +1,5 @@
-use Rattle.std.proofs.Common.{◌≡◌, ◌++◌, ◌∷◌, ◌+◌, ◌∙◌, [], drop, get_or, sym, ap, append_assoc, append-nil, arith, rules}
-use Rattle.std.proofs.lemmas.List.{at_drop_more, drop_all}
+use Rattle.std.proofs.Common.{◌≡◌, ◌++◌, ◌∷◌, ◌+◌, ◌∙◌, [], drop, get_or, sym, ap, append_assoc, arith}
+use Rattle.std.proofs.lemmas.List.{at_drop_more}
 use Rattle.sgb_gen.proofs.links.push_entries.Goals as goal
 
 pub loop-entry-preserved : goal.loop-entry-preserved

@@ -3,9 +3,10 @@
 //! They have their displacements in common, with their opposites. Where these are more than the table takes, or there
 //! is no memory, they are walked for each vertex. A body that built the whole graph would meet the contracts, which do
 //! not speak of room; the checks from outside see it (`great`).
-ghost use Rattle.std.specs.Prelude.{◌≡◌, [], ◌++◌, length, reverse, nat_abs, All, Contains, IfSome, OnOk, OnErr, IsOkUnless};
+ghost use Rattle.std.specs.Prelude.{◌≡◌, [], ◌++◌, length, reverse, nat_abs, All, Contains, IfNone, IfSome, OnOk, OnErr, IsOkUnless};
 ghost use Rattle.sgb_vec.specs.Boxes.{box};
 ghost use Rattle.sgb_vec.specs.Lexicographic.{IsBelow};
+ghost use Rattle.sgb_gen.specs.ArcSinks.{AreGiven};
 ghost use Rattle.sgb_gen.specs.Boards.{moves_of_board};
 ghost use Rattle.sgb_gen.specs.LocalLists.{list_at};
 ghost use Rattle.sgb_gen.specs.Moves.{sides_of};
@@ -16,8 +17,10 @@ ghost use Rattle.sgb_gen.specs.inner.StraightLists.{NeedsNoSort};
 use super::Board;
 use super::runs::{lead_onward, widest_of};
 use super::strides::strides_of;
+use crate::arc_sinks::ArcSink;
 use crate::displacement_tables::DisplacementTable;
 use crate::links::Links;
+use crate::starts::Starts;
 use sgb_vec::{Family, Panic, Vector};
 use std::marker::Model;
 
@@ -173,6 +176,36 @@ impl<'a> BoardLists<'a> {
         }
         match &self.table {
             Some(table) => Some(table),
+            None => None,
+        }
+    }
+
+    /// Hands the arcs of the vertex of `x` to a sink, by the displacements in the table, where there is one: `None` where there
+    /// is none. `starts` is what they are found with: what it holds does not count. No memory is wanted but by the sink.
+    pub(crate) fn give_kept<K: ArcSink<R, S>, R, S>(
+        &self,
+        x: &[u32],
+        starts: &mut Starts,
+        sink: &K,
+        room: &mut R,
+        out: &mut S,
+    ) -> Option<Result<(), K::Fault>>
+        requires member { Contains (box self.now.sizes) x.now }
+        requires width { K.width sink.now ≡ length x.now }
+        requires ready { K.ready sink.now room.old out.old }
+        ensures given { IfSome result (AreGiven (K.took sink.now) (K.cut sink.now) room.old out.old
+            (list_at self.now.directed (box self.now.sizes) (moves_of_board self.now) x.now)
+            room.new out.new) }
+        ensures ready { IfSome result (λ r. OnOk r (K.ready sink.now room.new out.new)) }
+        ensures none { IfNone result ((room.new ≡ room.old) × (out.new ≡ out.old)) }
+    {
+        match &self.table {
+            Some(table) => {
+                let given = self
+                    .board
+                    .give_kept(x, table, self.in_order, starts, sink, room, out);
+                Some(given)
+            }
             None => None,
         }
     }

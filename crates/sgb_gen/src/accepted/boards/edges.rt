@@ -1,25 +1,34 @@
 //! The arcs of a board's vector by the edges of one displacement, in the order of their starts.
 //!
-//! The starts are the vector itself and those where the opposite displacement leads: for a rider they are sorted.
-ghost use Rattle.std.specs.Prelude.{◌≡◌, ◌++◌, false, length, reverse, OnOk, IsOkUnless};
+//! The starts are the vector itself and those where the opposite displacement leads: for a rider they are sorted. Where
+//! there is no room for all of them, those at the later vertices are found, sorted and handed out first, and then the
+//! others: so no memory is wanted. A range of two starts or more can be cut in two, and there is room for one.
+ghost use Rattle.std.specs.Prelude.{◌≡◌, ◌<◌, ◌++◌, false, length, reverse, OnOk, IsOkUnless};
+ghost use Rattle.std.specs.Bool.{OnFalse, OnTrue};
+ghost use Rattle.std.specs.List.{filter};
 ghost use Rattle.sgb_vec.specs.Boxes.{box};
 ghost use Rattle.sgb_vec.specs.Lexicographic.{IsBelow};
-ghost use Rattle.sgb_gen.specs.inner.LocalBoards.{edge_arcs, own_starts, other_starts, starts_of, arcs_of_starts, arcs_onward, moves_by};
+ghost use Rattle.sgb_gen.specs.ArcSinks.{AreGiven};
+ghost use Rattle.sgb_gen.specs.inner.LocalBoards.{edge_arcs, own_starts, other_starts, arcs_of_starts, arcs_onward, moves_by};
 ghost use Rattle.sgb_gen.specs.Moves.{moves_from, sides_of, opposite};
 ghost use Rattle.sgb_gen.specs.inner.Moves.{destination};
+ghost use Rattle.sgb_gen.specs.inner.Starts.{arcs_within, is_within, starts_within};
 ghost use Rattle.sgb_gen.specs.VectorGraphs.{vertex_among};
 // For the search alone.
-ghost use Rattle.std.specs.Prelude.{◌<◌, ◌==◌, Some};
+ghost use Rattle.std.specs.Prelude.{◌==◌, Some};
 ghost use Rattle.sgb_gen.specs.inner.Moves.{longest_move};
 
 use super::Board;
+use crate::arc_sinks::ArcSink;
+use crate::kept_arcs::KeptArcs;
 use crate::links::Links;
+use crate::start_ranges::StartRange;
+use crate::starts::Starts;
 use crate::steps::{Step, either};
-use sgb_vec::{Panic, Vector};
+use sgb_vec::{Family, Panic, Vector};
 
 impl Board {
-    // Puts the arcs of `x` by the edges of the displacement `t` behind the others, the last of their starts
-    // first.
+    // Puts the arcs of `x` by the edges of the displacement `t` behind the others, the last of their starts first.
     pub(super) fn push_sorted(
         &self,
         x: &[u32],
@@ -41,149 +50,239 @@ impl Board {
             }) }
         ensures memory { IsOkUnless result Panic.NoRoom }
     {
-        let mut starts = links.take_starts();
-        self.add_starts(x, t, back, there, &mut starts)?;
-        starts.sort_unstable();
-        self.push_edges(x, t, back, starts.as_slice(), there, links)?;
+        let mut starts = links.take_starts()?;
+        let sink = KeptArcs::of(x.len());
+        let put = self.give_sorted(x, t, back, there, &mut starts, &sink, links, &mut ());
         links.keep_starts(starts);
-        Ok(())
+        put
     }
 
-    // Adds the vertices where the moves by `t` that touch `x` start, with their lengths: `x` itself, and those where the
-    // moves from `x` by the opposite of `t` lead.
-    fn add_starts(
+    // Hands out the arcs of `x` by the edges of the displacement `t`, whose opposite is `back`, the last of their starts first.
+    // `there` and `starts` are what they are found with: what these hold does not count.
+    pub(super) fn give_sorted<K: ArcSink<R, S>, R, S>(
         &self,
         x: &[u32],
         t: &Step,
         back: &Step,
         there: &mut Vector,
-        starts: &mut Vec<(u32, u32)>,
-    ) -> Result<(), Panic>
+        starts: &mut Starts,
+        sink: &K,
+        room: &mut R,
+        out: &mut S,
+    ) -> Result<(), K::Fault>
         requires below { IsBelow x.now self.now.sizes }
         requires dimensions { length t.now ≡ length self.now.sizes }
         requires back { back.now ≡ opposite t.now }
-        ensures ok { OnOk result (starts.new.items ≡ starts.old.items
-            ++ starts_of (sides_of self.now.sizes self.now.wrap) self.now.piece (box self.now.sizes)
-            x.now t.now) }
-        ensures memory { IsOkUnless result Panic.NoRoom }
+        requires width { K.width sink.now ≡ length x.now }
+        requires ready { K.ready sink.now room.old out.old }
+        ensures given { AreGiven (K.took sink.now) (K.cut sink.now) room.old out.old
+            (reverse (arcs_onward false x.now
+            (moves_by (sides_of self.now.sizes self.now.wrap) self.now.piece (box self.now.sizes)
+            t.now))) room.new out.new result }
+        ensures ready { OnOk result (K.ready sink.now room.new out.new) }
     {
         let u = self.vertex_of(x);
-        self.add_own(u, x, t, there, starts)?;
-        self.add_others(u, x, back, there, starts)?;
-        Ok(())
+        let range = StartRange {
+            low: 0,
+            high: self.family.size(),
+            from: 0,
+            to: self.longest_move(),
+        };
+        self.give_within(u, x, t, back, range, there, starts, sink, room, out)
     }
 
-    // Adds the moves from `x`, which is vertex `u`, by `t`.
-    fn add_own(
+    // Hands out those of the arcs of `x`, which is vertex `u`, whose starts are within a range.
+    fn give_within<K: ArcSink<R, S>, R, S>(
         &self,
         u: u32,
         x: &[u32],
         t: &Step,
+        back: &Step,
+        range: StartRange,
         there: &mut Vector,
-        starts: &mut Vec<(u32, u32)>,
-    ) -> Result<(), Panic>
+        starts: &mut Starts,
+        sink: &K,
+        room: &mut R,
+        out: &mut S,
+    ) -> Result<(), K::Fault>
         requires below { IsBelow x.now self.now.sizes }
         requires dimensions { length t.now ≡ length self.now.sizes }
-        ensures ok { OnOk result (starts.new.items ≡ starts.old.items
-            ++ own_starts u (moves_from (sides_of self.now.sizes self.now.wrap) self.now.piece x.now
-            t.now)) }
-        ensures memory { IsOkUnless result Panic.NoRoom }
+        requires back { back.now ≡ opposite t.now }
+        requires vertex { u ≡ vertex_among (box self.now.sizes) x.now }
+        requires width { K.width sink.now ≡ length x.now }
+        requires ready { K.ready sink.now room.old out.old }
+        ensures given { AreGiven (K.took sink.now) (K.cut sink.now) room.old out.old
+            (arcs_within self.now x.now t.now range) room.new out.new result }
+        ensures ready { OnOk result (K.ready sink.now room.new out.new) }
     {
-        for l in 1..=self.longest_move() {
-            if !self.lands(x, t, l, there) {
-                return Ok(());
-            }
-            starts.push((u, l))?;
+        if self.put_starts(u, x, t, back, range, there, starts) {
+            starts.sort();
+            return self.give_edges(u, x, &*t, &*back, starts, there, sink, room, out);
         }
-        Ok(())
+        let Some((earlier, later)) = range.halves() else {
+            return Ok(());
+        };
+        self.give_within(u, x, t, back, later, there, starts, sink, room, out)?;
+        self.give_within(u, x, t, back, earlier, there, starts, sink, room, out)
     }
 
-    // Adds the moves from other vertices to `x`, which is vertex `u`, by the opposite of `back`.
-    fn add_others(
+    // Makes `starts` those within a range where the moves by `t` start that touch `x`, with their lengths: `x` itself, which is
+    // vertex `u`, and those where the moves from `x` by the opposite of `t` lead. `false` where there is no room for all of them,
+    // which are two at least.
+    fn put_starts(
+        &self,
+        u: u32,
+        x: &[u32],
+        t: &Step,
+        back: &Step,
+        range: StartRange,
+        there: &mut Vector,
+        starts: &mut Starts,
+    ) -> bool
+        requires below { IsBelow x.now self.now.sizes }
+        requires dimensions { length t.now ≡ length self.now.sizes }
+        requires back { back.now ≡ opposite t.now }
+        requires vertex { u ≡ vertex_among (box self.now.sizes) x.now }
+        ensures all { OnTrue result (starts.new ≡ starts_within self.now x.now t.now range) }
+        ensures many { OnFalse result (1 < length (starts_within self.now x.now t.now range)) }
+    {
+        starts.clear();
+        if !self.put_own(u, x, t, range, there, starts) {
+            return false;
+        }
+        self.put_others(u, x, back, range, there, starts)
+    }
+
+    // Puts the moves from `x`, which is vertex `u`, by `t` behind the others, those within a range. `false` where there is no room
+    // for one of them: with the others there are two at least.
+    fn put_own(
+        &self,
+        u: u32,
+        x: &[u32],
+        t: &Step,
+        range: StartRange,
+        there: &mut Vector,
+        starts: &mut Starts,
+    ) -> bool
+        requires below { IsBelow x.now self.now.sizes }
+        requires dimensions { length t.now ≡ length self.now.sizes }
+        ensures all { OnTrue result (starts.new ≡ starts.old ++ filter (is_within range)
+            (own_starts u (moves_from (sides_of self.now.sizes self.now.wrap) self.now.piece x.now
+            t.now))) }
+        ensures many { OnFalse result (1 < length (starts.old ++ filter (is_within range)
+            (own_starts u (moves_from (sides_of self.now.sizes self.now.wrap) self.now.piece x.now
+            t.now)))) }
+    {
+        if !range.has_vertex(u) {
+            return true;
+        }
+        for l in 1..=self.longest_move() {
+            if !self.lands(x, t, l, there) {
+                return true;
+            }
+            if !starts.put(range, u, l) {
+                return false;
+            }
+        }
+        true
+    }
+
+    // Puts the moves from other vertices to `x`, which is vertex `u`, by the opposite of `back` behind the others, those within a
+    // range. `false` as above.
+    fn put_others(
         &self,
         u: u32,
         x: &[u32],
         back: &Step,
+        range: StartRange,
         there: &mut Vector,
-        starts: &mut Vec<(u32, u32)>,
-    ) -> Result<(), Panic>
+        starts: &mut Starts,
+    ) -> bool
         requires below { IsBelow x.now self.now.sizes }
         requires back { length back.now ≡ length self.now.sizes }
-        ensures ok { OnOk result (starts.new.items ≡ starts.old.items
-            ++ other_starts (box self.now.sizes) u
-            (moves_from (sides_of self.now.sizes self.now.wrap) self.now.piece x.now back.now)) }
-        ensures memory { IsOkUnless result Panic.NoRoom }
+        ensures all { OnTrue result (starts.new ≡ starts.old ++ filter (is_within range)
+            (other_starts (box self.now.sizes) u
+            (moves_from (sides_of self.now.sizes self.now.wrap) self.now.piece x.now back.now))) }
+        ensures many { OnFalse result (1 < length (starts.old ++ filter (is_within range)
+            (other_starts (box self.now.sizes) u
+            (moves_from (sides_of self.now.sizes self.now.wrap) self.now.piece x.now
+            back.now)))) }
     {
+        if range.is_of(u) {
+            return true;
+        }
         for l in 1..=self.longest_move() {
             let Some(v) = self.vertex_at(x, back, l, there) else {
-                return Ok(());
+                return true;
             };
-            if v != u {
-                starts.push((v, l))?;
+            if v == u {
+                continue;
+            }
+            if !starts.put(range, v, l) {
+                return false;
             }
         }
-        Ok(())
+        true
     }
 
-    // Puts the arcs by the edges that start at these vertices behind the others, those of the last start first.
-    fn push_edges<'s>(
+    // Hands out the arcs of `x`, which is vertex `u`, by the edges with these starts, those of the last start first.
+    fn give_edges<'s, K: ArcSink<R, S>, R, S>(
         &self,
+        u: u32,
         x: &[u32],
         t: &'s Step<'_>,
         back: &'s Step<'_>,
-        starts: &[(u32, u32)],
+        starts: &Starts,
         there: &mut Vector,
-        links: &mut Links,
-    ) -> Result<(), Panic>
+        sink: &K,
+        room: &mut R,
+        out: &mut S,
+    ) -> Result<(), K::Fault>
         requires below { IsBelow x.now self.now.sizes }
         requires dimensions { length t.now ≡ length self.now.sizes }
         requires back { length back.now ≡ length self.now.sizes }
-        requires width { length x.now ≡ links.old.width }
-        ensures ok { OnOk result (links.new
-            ≡ record links.old {
-              arcs = links.old.arcs
-                  ++ reverse (arcs_of_starts (sides_of self.now.sizes self.now.wrap)
-                  self.now.piece (vertex_among (box self.now.sizes) x.now) x.now t.now back.now
-                  starts.now);
-            }) }
-        ensures memory { IsOkUnless result Panic.NoRoom }
+        requires width { K.width sink.now ≡ length x.now }
+        requires ready { K.ready sink.now room.old out.old }
+        ensures given { AreGiven (K.took sink.now) (K.cut sink.now) room.old out.old
+            (reverse (arcs_of_starts (sides_of self.now.sizes self.now.wrap) self.now.piece u
+            x.now t.now back.now starts.now)) room.new out.new result }
+        ensures ready { OnOk result (K.ready sink.now room.new out.new) }
     {
-        let u = self.vertex_of(x);
         for k in (0..starts.len()).rev() {
-            let (v, l) = starts[k];
+            let (v, l) = starts.at(k);
             let step = either(v == u, t, back);
-            self.push_edge(x, &step, l, there, links)?;
+            self.give_edge(x, &step, l, there, sink, room, out)?;
         }
         Ok(())
     }
 
-    // Puts the arc of `x` by the edge of length `l` behind the others, both arcs where the edge leads to `x` itself.
-    pub(super) fn push_edge(
+    // Hands out the arc of `x` by the edge of length `l`, both arcs where the edge leads to `x` itself.
+    fn give_edge<K: ArcSink<R, S>, R, S>(
         &self,
         x: &[u32],
         t: &Step,
         l: u32,
         there: &mut Vector,
-        links: &mut Links,
-    ) -> Result<(), Panic>
+        sink: &K,
+        room: &mut R,
+        out: &mut S,
+    ) -> Result<(), K::Fault>
         requires below { IsBelow x.now self.now.sizes }
         requires dimensions { length t.now ≡ length self.now.sizes }
-        requires width { length x.now ≡ links.old.width }
-        ensures ok { OnOk result (links.new
-            ≡ record links.old {
-              arcs = links.old.arcs
-                  ++ edge_arcs x.now l (destination (sides_of self.now.sizes self.now.wrap)
-                  self.now.piece x.now t.now l);
-            }) }
-        ensures memory { IsOkUnless result Panic.NoRoom }
+        requires width { K.width sink.now ≡ length x.now }
+        requires ready { K.ready sink.now room.old out.old }
+        ensures given { AreGiven (K.took sink.now) (K.cut sink.now) room.old out.old
+            (edge_arcs x.now l (destination (sides_of self.now.sizes self.now.wrap)
+            self.now.piece x.now t.now l)) room.new out.new result }
+        ensures ready { OnOk result (K.ready sink.now room.new out.new) }
     {
         if !self.lands(x, t, l, there) {
             return Ok(());
         }
-        links.push(there.as_slice(), l)?;
-        if there.as_slice() == x {
-            links.push(x, l)?;
+        sink.put_arc(there.as_slice(), l, room, out)?;
+        if there.as_slice() != x {
+            return Ok(());
         }
-        Ok(())
+        sink.put_arc(x, l, room, out)
     }
 }

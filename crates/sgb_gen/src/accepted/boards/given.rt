@@ -1,9 +1,10 @@
 //! The arcs of a board's vector that are handed out one by one, by one displacement of a table after another: no list is
 //! kept.
 //!
-//! So it goes where the arcs by each displacement come in order with no sort, from whichever vector: then no memory is
-//! wanted after the table.
-ghost use Rattle.std.specs.Prelude.{◌≡◌, ◌+◌, ◌-◌, ◌≤◌, [], ◌∷◌, length, map, nat_abs, reverse, All, Contains, OnOk};
+//! Where the arcs by a displacement come in order with no sort they are handed out as they are found; else their starts are
+//! sorted, as many as there is room for (`give_sorted`). No memory is wanted after the table.
+ghost use Rattle.std.specs.Prelude.{◌≡◌, ◌+◌, ◌-◌, ◌≤◌, [], ◌∷◌, false, length, map, nat_abs, reverse, All, Contains, OnOk};
+ghost use Rattle.std.specs.Bool.{OnFalse, OnTrue};
 ghost use Rattle.std.specs.List.{range_with_len};
 ghost use Rattle.sgb_vec.specs.Boxes.{box};
 ghost use Rattle.sgb_vec.specs.Lexicographic.{IsBelow};
@@ -20,18 +21,22 @@ ghost use Rattle.sgb_gen.specs.inner.StraightLists.{IsInOrder, NeedsNoSort, arcs
 
 use super::Board;
 use crate::arc_sinks::ArcSink;
-use crate::displacement_tables::DisplacementTable;
+use crate::displacement_tables::{DisplacementTable, KeptPair};
 use crate::moves::{put_parts, put_vector};
+use crate::starts::Starts;
 use crate::steps::Step;
 use sgb_vec::{Family, Vector};
 
 impl Board {
-    /// Hands the arcs of the vertex of `x` to a sink, by the displacements in a table, where those by each of them are had in
-    /// order with no sort. No memory is taken but by the sink.
+    /// Hands the arcs of the vertex of `x` to a sink, by the displacements in a table: with no sort where the arcs by each of
+    /// them are had in order, as `in_order` tells. `starts` is what others are found with: what it holds does not count. No memory
+    /// is wanted but by the sink.
     pub(crate) fn give_kept<K: ArcSink<R, S>, R, S>(
         &self,
         x: &[u32],
         table: &DisplacementTable,
+        in_order: bool,
+        starts: &mut Starts,
         sink: &K,
         room: &mut R,
         out: &mut S,
@@ -39,7 +44,7 @@ impl Board {
         requires member { Contains (box self.now.sizes) x.now }
         requires table { table.now ≡ displacements_within (nat_abs self.now.piece)
             (entry_bounds (nat_abs self.now.piece) (sides_of self.now.sizes self.now.wrap)) }
-        requires sorted { All (NeedsNoSort self.now) table.now }
+        requires sorted { OnTrue in_order (All (NeedsNoSort self.now) table.now) }
         requires width { K.width sink.now ≡ length x.now }
         requires ready { K.ready sink.now room.old out.old }
         ensures given { AreGiven (K.took sink.now) (K.cut sink.now) room.old out.old
@@ -50,11 +55,57 @@ impl Board {
         let mut there = Vector::new();
         for k in (0..table.len()).rev() {
             let pair = table.at(k);
-            let back = pair.back();
-            let behind = self.lengths_back(x, &back);
-            self.give_by(x, &pair.ahead(), &back, behind, &mut there, sink, room, out)?;
+            self.give_pair(x, pair, in_order, &mut there, starts, sink, room, out)?;
         }
         Ok(())
+    }
+
+    // Hands out the arcs of `x` by the edges of a displacement: with no sort where `in_order` tells that none is wanted.
+    #[inline(always)]
+    fn give_pair<K: ArcSink<R, S>, R, S>(
+        &self,
+        x: &[u32],
+        pair: &KeptPair,
+        in_order: bool,
+        there: &mut Vector,
+        starts: &mut Starts,
+        sink: &K,
+        room: &mut R,
+        out: &mut S,
+    ) -> Result<(), K::Fault>
+        requires below { IsBelow x.now self.now.sizes }
+        requires dimensions { length pair.now ≡ length self.now.sizes }
+        requires sorted { OnTrue in_order (NeedsNoSort self.now pair.now) }
+        requires width { K.width sink.now ≡ length x.now }
+        requires ready { K.ready sink.now room.old out.old }
+        ensures given { AreGiven (K.took sink.now) (K.cut sink.now) room.old out.old
+            (reverse (arcs_onward self.now.directed x.now
+            (moves_by (sides_of self.now.sizes self.now.wrap) self.now.piece (box self.now.sizes)
+            pair.now))) room.new out.new result }
+        ensures ready { OnOk result (K.ready sink.now room.new out.new) }
+    {
+        let ahead = pair.ahead();
+        let back = pair.back();
+        let behind = self.lengths_back(x, &back);
+        if !self.has_order(&ahead, behind, in_order) {
+            return self.give_sorted(x, &ahead, &back, there, starts, sink, room, out);
+        }
+        self.give_by(x, &ahead, &back, behind, there, sink, room, out)
+    }
+
+    // Whether the arcs of a vector by the edges of `t` are had in order with no sort, where so many moves lead back from it:
+    // it is looked at where it is not known.
+    #[inline(always)]
+    fn has_order(&self, t: &Step, behind: u32, known: bool) -> bool
+        requires dimensions { length t.now ≡ length self.now.sizes }
+        requires known { OnTrue known (IsInOrder self.now t.now behind) }
+        ensures order { OnTrue result (IsInOrder self.now t.now behind) }
+        ensures edges { OnFalse result (self.now.directed ≡ false) }
+    {
+        if known {
+            return true;
+        }
+        self.is_in_order(t, behind)
     }
 
     // Hands out the arcs of `x` by the edges of the displacement `t`, whose opposite is `back`, where so many moves lead back

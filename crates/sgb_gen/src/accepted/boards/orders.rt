@@ -29,7 +29,7 @@ impl Board {
     }
 
     // Whether those by each of these displacements are.
-    fn all_in_order(&self, table: &DisplacementTable) -> bool
+    pub(super) fn all_in_order(&self, table: &DisplacementTable) -> bool
         requires { All (λ t. length t ≡ length self.now.sizes) table.now }
         ensures { OnTrue result (All (NeedsNoSort self.now) table.now) }
     {

@@ -139,10 +139,21 @@ impl Board {
         ensures leaper { OnTrue result (IsLeaper self.now) }
         ensures onward { OnTrue result (IfSome table.now (AreOnward (pos 0))) }
     {
+        match table {
+            Some(table) => self.leaps_onward(table),
+            None => false,
+        }
+    }
+
+    /// The same of a table that is there.
+    pub(super) fn leaps_onward(&self, table: &DisplacementTable) -> bool
+        ensures leaper { OnTrue result (IsLeaper self.now) }
+        ensures onward { OnTrue result (AreOnward (pos 0) table.now) }
+    {
         if self.piece <= 0 {
             return false;
         }
-        lead_onward(0, table)
+        all_lead_onward(0, table)
     }
 
     // Whether each coordinate of `x` has this much room on both sides.

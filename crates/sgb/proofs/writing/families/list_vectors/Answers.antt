@@ -4,7 +4,7 @@ use Rattle.sgb.specs.inner.Pages.{page_bytes}
 use Rattle.sgb.specs.inner.Texts.{most_line_bytes}
 use Rattle.sgb.proofs.CertainAnswers.{exit_certain, head_asked, write_alone}
 use Rattle.sgb.proofs.Endings.{all_err}
-use Rattle.sgb.proofs.CutOff.{begun_by, cut_more, exit_cut, exit_uncut, exit_unwritten, exit_write, written_after}
+use Rattle.sgb.proofs.CutOff.{cut_more, exit_cut, exit_unwritten, exit_write, written_after}
 use Rattle.sgb.proofs.LocalListings.{blocks_of_rest}
 use Rattle.sgb.proofs.writing.families.list_vectors.Goals as goal
 
@@ -12,10 +12,7 @@ pub push_head_if-requires : goal.push_head_if-requires
 push_head_if-requires g c = search (rules, most_line_bytes, page_bytes)
 
 pub returns-in_err-push_head_if-clause-written : goal.returns-in_err-push_head_if-clause-written
-returns-in_err-push_head_if-clause-written g c = search (rules, exit_unwritten, exit_uncut)
-
-pub returns-in_err-push_head_if-clause-head : goal.returns-in_err-push_head_if-clause-head
-returns-in_err-push_head_if-clause-head g c = search (rules, exit_unwritten, exit_uncut)
+returns-in_err-push_head_if-clause-written g c = search (rules, exit_unwritten)
 
 -- without a head nothing is out of memory before the blocks
 pub returns-in_err-push_head_if-clause-end : goal.returns-in_err-push_head_if-clause-end
@@ -29,17 +26,13 @@ returns-in_err-put_page-clause-written g c =
     let cut = rw (c.in_ok-push_head_if.ensures.text, c.new-page.ensures) at c.in_err-put_page.ensures.written in
     exit_cut _ _ _ _ c.from_residual-in_err-put_page.ensures.1 (cut_more _ _ _ _ cut)
 
-pub returns-in_err-put_page-clause-head : goal.returns-in_err-put_page-clause-head
-returns-in_err-put_page-clause-head g c =
-    exit_uncut _ _ _ _ _ _ _ c.from_residual-in_err-put_page.ensures.1 (λ other. absurd (other c.in_err-put_page.ensures.fault))
-
 -- nor of subsets
 pub returns-in_err-push_head_if-clause-subsets : goal.returns-in_err-push_head_if-clause-subsets
 returns-in_err-push_head_if-clause-subsets g c = λ same. absurd (true≢false (sym (c.in_err-push_head_if.ensures.subsets same)))
 
 pub returns-in_err-push_head_if-clause-simplex : goal.returns-in_err-push_head_if-clause-simplex
 returns-in_err-push_head_if-clause-simplex g c = λ same.
-    all_err _ c.from_residual.result (λ f other. (head_asked c.args.head (λ plain. absurd (true≢false (sym (c.in_err-push_head_if.ensures.none plain)))), refl))
+    all_err _ c.from_residual.result (λ f other. head_asked c.args.head (λ plain. absurd (true≢false (sym (c.in_err-push_head_if.ensures.none plain)))))
 
 pub returns-in_err-put_page-clause-subsets : goal.returns-in_err-put_page-clause-subsets
 returns-in_err-put_page-clause-subsets g c = λ same. exit_write _ _ c.from_residual-in_err-put_page.ensures.1 c.in_err-put_page.ensures.fault
@@ -47,7 +40,7 @@ returns-in_err-put_page-clause-subsets g c = λ same. exit_write _ _ c.from_resi
 pub returns-in_err-put_page-clause-simplex : goal.returns-in_err-put_page-clause-simplex
 returns-in_err-put_page-clause-simplex g c = λ same. write_alone _ _ (exit_write _ _ c.from_residual-in_err-put_page.ensures.1 c.in_err-put_page.ensures.fault)
 
--- where no list is kept what comes before the blocks is all that wants memory
+-- of what is no `BoardLists` what comes before the blocks is all that wants memory
 pub returns-in_err-push_head_if-clause-untouched : goal.returns-in_err-push_head_if-clause-untouched
 returns-in_err-push_head_if-clause-untouched g c = λ other. all_err _ c.from_residual.result (λ f none. refl)
 
@@ -62,7 +55,6 @@ returns g c =
     let put = rw (c.in_ok-push_head_if.ensures.text, c.new-page.ensures) at c.in_ok-put_page.ensures.written.output in
     record {
       written = rw (blocks_of_rest graph rise c.family.ensures.ends _ _ rest) (written_after _ _ _ _ _ _ _ put c.write_blocks.ensures.written);
-      head = begun_by _ _ _ _ _ _ _ _ _ put c.write_blocks.ensures.written;
       end = λ plain none. c.write_blocks.ensures.end (rest ∙ none);
       subsets = λ same. c.write_blocks.ensures.fault (λ board. absurd cc);
       simplex = λ same. write_alone _ _ (c.write_blocks.ensures.fault (λ board. absurd cc));

@@ -1,5 +1,4 @@
-use Rattle.std.proofs.Common.{◌≡◌, ◌∙◌, List, ℕ, Result, ap, map, sym, subst, rules}
-use Rattle.std.specs.Prelude.{IfSome}
+use Rattle.std.proofs.Common.{◌≡◌, ◌∙◌, List, ℕ, Result, ap, map, sym, subst}
 use Rattle.sgb_vec.specs.Boxes.{box}
 use Rattle.sgb_vec.specs.Names.{name_of_vector}
 use Rattle.sgb_graph.specs.Made.{graph_described}
@@ -27,7 +26,7 @@ ended_same b d resume out r same ended = subst (λ a. IsEnded (list_answer (grap
 
 -- past all vertices nothing is out of memory
 pub returns-then-is_past-clause-untouched : goal.returns-then-is_past-clause-untouched
-returns-then-is_past-clause-untouched g c = λ keeps.
+returns-then-is_past-clause-untouched g c =
     let (ended, past, subsets, simplex, other) = c.visit.ensures in
     let names = board_names c.args.board.now c.family.result.now c.family.ensures in
     never _ _ (past (subst (λ d. IsPast (names_of (graph_described (described_by (board_vector_graph d)))) c.args.resume.now) (sym c.new-lists.ensures)
@@ -49,13 +48,7 @@ returns-in_err-ordered-clause-past g c = λ past.
     let names = board_names c.args.board.now c.family.result.now c.family.ensures in
     absurd (c.if-is_past.ensures.before (subst (λ ns. IsPast ns c.args.resume.now) names past))
 
-pub returns-in-Some-clause-ended : goal.returns-in-Some-clause-ended
-returns-in-Some-clause-ended g c =
-    let (ended, past, subsets, simplex, other) = c.visit-in-Some.ensures in
-    let same : c.in-Some.ordered ≡ c.args.board.now = subst (λ o. IfSome o (λ b. b ≡ c.args.board.now)) c.in-Some.is c.in_ok-ordered.ensures.board in
-    ended_same _ _ c.args.resume.now _ _ same ended
-
 pub returns-clause-ended : goal.returns-clause-ended
 returns-clause-ended g c =
     let (ended, past, subsets, simplex, other) = c.visit-2.ensures in
-    ended_same _ _ c.args.resume.now _ _ c.new-lists-2.ensures ended
+    ended_same _ _ c.args.resume.now _ _ c.in_ok-ordered.ensures.board ended

@@ -7,6 +7,7 @@ use Rattle.sgb_gen.specs.declared.locals.Local.{Local}
 use Rattle.sgb_gen.specs.declared.locals.Local.TheVariants as local
 use Rattle.sgb_requests.specs.declared.faults.Fault.{Fault}
 use Rattle.sgb_requests.specs.declared.requests.Resume.{Resume}
+use Rattle.sgb.proofs.CertainAnswers.{other_sort}
 use Rattle.sgb.specs.Outcomes.{list_answer}
 use Rattle.sgb.specs.Writing.{Effect, IsEnded}
 use Rattle.sgb.proofs.writing.list_answers.write_local_list.Goals as goal
@@ -18,3 +19,6 @@ ended_same l m resume out r same ended = subst (λ a. IsEnded (list_answer (grap
 
 pub returns-in-Board-clause-ended : goal.returns-in-Board-clause-ended
 returns-in-Board-clause-ended g c = ended_same _ (local.Board c.in-Board.board) c.args.resume.now _ _ c.in-Board.is c.write_board_list.ensures.ended
+
+pub returns-clause-untouched : goal.returns-clause-untouched
+returns-clause-untouched g c = c.visit.ensures.4 (other_sort _ c.in_default.not-Board)

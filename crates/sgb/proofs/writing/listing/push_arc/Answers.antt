@@ -18,6 +18,6 @@ returns-clause-paged g c =
     let len = ap signed_decimal (to_z-of_z w64 c.args.link.len (search rules)) in
     let line = arc_line-parts (map (λ v. v.name) c.args.graph.now.vertices) c.args.link c.bytes.result.now _ (c.name.ensures ∙ ap Some (sym c.bytes.ensures.value)) len in
     record {
-      output = held_three _ _ _ _ _ (codes "  -> ") c.bytes.result.now _ _ _ _ c.in_ok-make_room.ensures.paged.output c.begin_arc.ensures.put c.push_text.ensures.put c.end_arc.ensures line;
+      output = held_three _ _ _ _ _ (codes "  -> ") c.bytes.result.now _ _ _ _ c.in_ok-make_room.ensures.paged.output c.begin_arc.ensures.put c.push_name.ensures.put c.end_arc.ensures line;
       sound = c.in_ok-make_room.ensures.paged.sound;
     }

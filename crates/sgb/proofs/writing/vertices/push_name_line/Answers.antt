@@ -16,5 +16,5 @@ returns-in_err-make_room g c = record {
 pub returns-clause-paged : goal.returns-clause-paged
 returns-clause-paged g c =
     let named = get_or_from_slice_get (names_of c.args.graph.now) c.args.v _ [] (c.name.ensures ∙ ap Some (sym c.bytes.ensures.value)) in
-    let output = held_two _ _ _ _ _ _ _ _ c.in_ok-make_room.ensures.paged.output c.push_text.ensures.put c.push_text-2.ensures.put in
+    let output = held_two _ _ _ _ _ _ _ _ c.in_ok-make_room.ensures.paged.output c.push_name.ensures.put c.push_text.ensures.put in
     rw named (record { output = output; sound = c.in_ok-make_room.ensures.paged.sound })

@@ -12,4 +12,5 @@ give-requires-clause-widths g c =
     subst (λ n. All (λ (a : LocalArc). length a.tip ≡ n) c.arcs_at.new.links.arcs) (sym c.requires.width) (widths_put (board_vector_graph b) (of_board b) {T = ℕ} (Ok 0) c.args.x.now _ c.requires.member c.in_ok-arcs_at.ensures.ok)
 
 pub returns-clause-given : goal.returns-clause-given
-returns-clause-given g c = given_as (g.met.K.ArcSink.laws c.args.sink.now) _ _ _ _ _ _ _ c.in_ok-arcs_at.ensures.ok c.give.ensures.given
+returns-clause-given g c =
+    rw (← c.in_default.ensures.none.0, ← c.in_default.ensures.none.1) (given_as (g.met.K.ArcSink.laws c.args.sink.now) _ _ _ _ _ _ _ c.in_ok-arcs_at.ensures.ok c.give.ensures.given)

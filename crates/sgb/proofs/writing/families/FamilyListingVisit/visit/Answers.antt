@@ -6,4 +6,4 @@ list_vectors-requires g c = rw c.prepare.ensures.same (λ k. ((refl, tt), (c.req
 
 pub returns : goal.returns
 returns g c =
-    rw (sym c.prepare.ensures.same, sym c.prepare.ensures.sort) (c.list_vectors.ensures.written, c.list_vectors.ensures.head, c.list_vectors.ensures.subsets, c.list_vectors.ensures.simplex)
+    rw (sym c.prepare.ensures.same, sym c.prepare.ensures.sort) (c.list_vectors.ensures.written, c.list_vectors.ensures.subsets, c.list_vectors.ensures.simplex, c.list_vectors.ensures.untouched)

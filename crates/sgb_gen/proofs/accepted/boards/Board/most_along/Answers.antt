@@ -1,4 +1,4 @@
-use Rattle.std.proofs.Common.{◌≡◌, ◌≤◌, ◌+◌, ◌*◌, ◌∙◌, ℕ, nat_abs, pos, get_or, ap, subst₂, sym, arith, rules}
+use Rattle.std.proofs.Common.{◌≡◌, ◌≤◌, ◌+◌, ◌*◌, nat_abs, pos, get_or, ap, subst₂, arith, rules}
 use Rattle.sgb_gen.proofs.MostLengths.{side_some, within_side}
 use Rattle.sgb_gen.proofs.accepted.boards.Board.most_along.Goals as goal
 

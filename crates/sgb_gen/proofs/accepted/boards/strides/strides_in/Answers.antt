@@ -1,4 +1,4 @@
-use Rattle.std.proofs.Common.{◌≡◌, ◌∙◌, ◌++◌, ◌∷◌, [], ℕ, ℤ, List, ap, pos, map, sym, arith, rules}
+use Rattle.std.proofs.Common.{◌∙◌, ap, rules}
 use Rattle.sgb_gen.specs.inner.Strides.{stride_of}
 use Rattle.sgb_gen.proofs.StrideTips.{strides_more}
 use Rattle.sgb_gen.proofs.accepted.boards.strides.strides_in.Goals as goal

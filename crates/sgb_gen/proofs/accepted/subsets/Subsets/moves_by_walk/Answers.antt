@@ -1,4 +1,4 @@
-use Rattle.std.proofs.Common.{◌≡◌, ◌∷◌, drop, refl, sym, ap, subst, ◌∙◌, arith, sum, rules}
+use Rattle.std.proofs.Common.{◌≡◌, ◌∷◌, drop, refl, sym, ap, subst, ◌∙◌, arith, rules}
 use Rattle.std.specs.List.{All, Contains}
 use Rattle.std.proofs.lemmas.List.Elements.{All-contains_itself, All-tail}
 use Rattle.sgb_vec.specs.Limits.{most_vertices}

@@ -1,4 +1,4 @@
-use Rattle.std.proofs.Common.{◌≡◌, ℤ, List, length, refl, ap, subst, sym, rules}
+use Rattle.std.proofs.Common.{length, refl, ap}
 use Rattle.sgb_gen.proofs.StrideTips.{table_wide}
 use Rattle.sgb_gen.proofs.accepted.boards.board_lists.BoardLists.prepare.Goals as goal
 
