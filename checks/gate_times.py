@@ -33,7 +33,7 @@ TICK = os.sysconf("SC_CLK_TCK")
 
 
 def processes():
-    """Of each process: its parent, and the seconds of a processor of it and of those that it has waited for."""
+    """Of each process: its parent, the seconds of a processor of it and of those that it has waited for, and when it began."""
     found = {}
     for pid in filter(str.isdigit, os.listdir("/proc")):
         try:
@@ -41,7 +41,7 @@ def processes():
                 fields = stat.read().rpartition(")")[2].split()
         except OSError:
             continue
-        found[int(pid)] = int(fields[1]), sum(map(int, fields[11:15])) / TICK
+        found[int(pid)] = int(fields[1]), sum(map(int, fields[11:15])) / TICK, int(fields[19])
     return found
 
 
@@ -76,25 +76,27 @@ class Watch(threading.Thread):
     def look(self):
         found = processes()
         below = collections.defaultdict(list)
-        for pid, (parent, _) in found.items():
+        for pid, (parent, _, _) in found.items():
             below[parent].append(pid)
         work = list(below[self.top])
         while work:
             pid = work.pop()
-            if pid not in self.tasks:
-                self.tasks[pid] = task_of(pid)
-            if self.tasks[pid]:
-                self.seconds[pid] = sum(found[one][1] for one in family(pid, below))
+            # a number is used again once its process has ended
+            one = pid, found[pid][2]
+            if one not in self.tasks:
+                self.tasks[one] = task_of(pid)
+            if self.tasks[one]:
+                self.seconds[one] = sum(found[other][1] for other in family(pid, below))
             else:
                 work += below[pid]
                 # before it is a check it may be a shell or a fork of rt
-                del self.tasks[pid]
+                del self.tasks[one]
 
     def sums(self):
         """The seconds of each task, and how many checks it is."""
         sums = collections.defaultdict(lambda: [0.0, 0])
-        for pid, seconds in list(self.seconds.items()):
-            one = sums[self.tasks[pid]]
+        for process, seconds in list(self.seconds.items()):
+            one = sums[self.tasks[process]]
             one[0], one[1] = one[0] + seconds, one[1] + 1
         return sums
 
