@@ -39,7 +39,7 @@ use sgb_vec::{Family, Panic, Vectors};
 
 /// Writes the listing of a generator's graph, one arc list after another: the head where `head` asks for it, and a
 /// block for each vertex after that of the vector `after`, or for all. No flush. All memory that it takes is from where
-/// that of `links` comes: of a board its displacements, and a room for starts that want a sort, which it can do without; of a
+/// that of `links` comes: of a board its displacements, and room for starts that want a sort, for one of them at least; of a
 /// simplex the counts for the head, about a megabyte at most. What `links` holds afterwards is open.
 ///
 /// `after` is a vector of the family. `Write` where the sink failed; a prefix is then written. `Panic(NoRoom)` when out of

@@ -65,7 +65,8 @@ impl<'a> Model for OrderedBoard<'a> {
 impl Board {
     /// The board, ready to hand out the arcs of its vertices one by one, with no list kept.
     ///
-    /// `NoRoom` when out of memory for its displacements, and nothing else. The memory is from where that of the links comes.
+    /// `NoRoom` when out of memory for its displacements, or for one start, and nothing else. The memory is from where that of the
+    /// links comes.
     pub fn in_order(&self, links: &Links) -> Result<OrderedBoard<'_>, Panic>
         ensures board { IfOk result (λ b. b ≡ self.now) }
         ensures memory { IsOkUnless result Panic.NoRoom }
