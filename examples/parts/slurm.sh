@@ -6,8 +6,8 @@
 #
 #   examples/parts/slurm.sh "board(30000,30000,0,0,1,0,0)" 100 part
 #
-# It asks for the memory that a task needs (memory.py, which wants Python): little for most graphs, more where a board has
-# very many displacements.
+# It asks for the memory that a task needs (memory.py, which wants Python): little for a generator's graph, more where one is
+# built.
 #
 # A task whose part is not whole fails, and its part has no name of its own then: called once more, only the parts that are
 # not there are made.

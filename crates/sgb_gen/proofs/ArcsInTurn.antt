@@ -1,9 +1,6 @@
 -- Arcs that are handed out one by one, part after part, until one is not taken.
-use Rattle.std.proofs.Common.{◌≡◌, ℕ, ◌+◌, List, [], ◌∷◌, ◌++◌, drop, Some, Result, Ok, Err, refl, sym, ap, subst, ◌∙◌, arith, append_assoc, append-nil}
-use Rattle.std.specs.List.{slice_get}
+use Rattle.std.proofs.Common.{◌≡◌, List, [], ◌++◌, Result, Ok, Err, refl, sym, ap, subst, ◌∙◌, append_assoc, append-nil}
 use Rattle.std.specs.Result.{IsErrAnd}
-use Rattle.std.proofs.lemmas.List.{drop_more}
-use Rattle.std.proofs.lemmas.Option.{get_or_from_slice_get, slice_get_within}
 use Rattle.sgb_gen.specs.ArcSinks.{AreGiven}
 use Rattle.sgb_gen.specs.LocalLists.{LocalArc}
 use Rattle.sgb_gen.specs.inner.ArcSinks.{AreTakenInTurn}
@@ -11,11 +8,6 @@ use Rattle.sgb_gen.specs.inner.ArcSinks.{AreTakenInTurn}
 -- of all arcs, these are left; the others were taken
 abbrev pub TakenSoFar : {R S : Type 0} → (R → S → List LocalArc → R → S → Type 0) → (all left : List LocalArc) → R → S → R → S → Type 0
 TakenSoFar took all left ra oa rb ob = (done : List LocalArc) × (done ++ left ≡ all) × took ra oa done rb ob
-
--- the arc at a place stands before those after it
-pub arcs-first : (arcs : List LocalArc) (i : ℕ) (arc : LocalArc) → slice_get arcs i ≡ Some arc → drop i arcs ≡ (arc ∷ []) ++ drop (i + 1) arcs
-arcs-first arcs i arc there =
-    drop_more arcs i arc (omega (arith, slice_get_within arcs i arc there)) ∙ ap (λ a. a ∷ drop (i + 1) arcs) (get_or_from_slice_get arcs i arc arc there)
 
 module _ {R S F : Type 0} {took : R → S → List LocalArc → R → S → Type 0} {cut : R → S → List LocalArc → R → S → F → Type 0} (turn : AreTakenInTurn took cut) where
   -- none were taken

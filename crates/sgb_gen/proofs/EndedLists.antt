@@ -8,11 +8,6 @@ use Rattle.sgb_gen.specs.LocalLists.{LinksData, LocalArc}
 use Rattle.sgb_gen.specs.inner.LocalSimplexes.{with_arcs}
 
 -- what was put whole is what the links hold in the end
-pub list_ended : {T : Type 0} (put result : Result T Panic) (made before after : LinksData) (arcs : List LocalArc) → result ≡ put
-    → OnOk put (before ≡ made) → OnOk put (after ≡ before) → made.arcs ≡ arcs → OnOk result (after.arcs ≡ arcs)
-list_ended x0 result made before after arcs same put kept are = grind (arith)
-
--- the same, by what was put
 pub list_ended_as : {T : Type 0} (put result : Result T Panic) (before after : LinksData) (arcs : List LocalArc) → result ≡ put → OnOk put (after ≡ before) → OnOk put (before.arcs ≡ arcs)
     → OnOk result (after.arcs ≡ arcs)
 list_ended_as put result before after arcs same kept are = grind (arith)
@@ -28,9 +23,3 @@ pub memory_told : {T : Type 0} (before mid : LinksData) (arcs : List LocalArc) (
     → AreGiven {R = LinksData} {S = ℕ} {F = Panic} (λ old _ given new _. new ≡ with_arcs old given) (λ _ _ _ _ _ f. f ≡ NoRoom) before 0 arcs mid 0 put → IsOkUnless put NoRoom
 memory_told before mid arcs (Ok x) given = tt
 memory_told before mid arcs (Err f) given = given
-
--- the same, where others stand before them
-pub kept_whole : {T : Type 0} (before mid : LinksData) (arcs : List LocalArc) (put : Result T Panic)
-    → AreGiven {R = LinksData} {S = ℕ} {F = Panic} (λ old _ given new _. new ≡ with_arcs old given) (λ _ _ _ _ _ f. f ≡ NoRoom) before 0 arcs mid 0 put → OnOk put (mid ≡ with_arcs before arcs)
-kept_whole before mid arcs (Ok x) given = given
-kept_whole before mid arcs (Err f) given = tt

@@ -21,7 +21,7 @@ use Rattle.sgb_gen.proofs.BoardWalks.{leads, led_to, left-all, left-next, left-n
 use Rattle.sgb_gen.proofs.Reaches.{move}
 use Rattle.sgb_gen.proofs.SortedStarts.{rising_starts}
 use Rattle.sgb_gen.proofs.TouchingMoves.{IsEarlier, first_less, onward_by_touching}
-use Rattle.sgb_gen.proofs.TurnedLinks.{edge_turned}
+use Rattle.sgb_gen.proofs.EdgesInTurn.{edge_turned}
 
 module _ (b : BoardData) (t : List ℤ) (x : List ℕ) (there : Contains (box b.sizes) x) (short : longest b ≡ 1) where
   -- the vertex of x

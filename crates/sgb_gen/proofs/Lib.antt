@@ -20,6 +20,10 @@ pub mod FirstEntries
 pub mod DisplacementLengths
 -- a walk over displacements, one after another
 pub mod DisplacementWalk
+pub mod DisplacementsBefore
+pub mod EarlierSignings
+pub mod EdgesInTurn
+pub mod EarlierVectors
 -- the bits of `wrap`
 pub mod WrapBits
 -- a place, coordinate by coordinate
@@ -89,7 +93,6 @@ pub mod CommonSizes
 -- arcs kept with their vectors
 pub mod LinkRows
 -- such arcs in the other order
-pub mod TurnedLinks
 -- the list of a vector, from the moves that touch it
 pub mod MoveLists
 -- the three generators' graphs as graphs of vectors
@@ -163,6 +166,7 @@ pub mod BoardCountsSides
 pub mod BoardCountsTotals
 -- when a step around a side is back
 pub mod TimesAround
+pub mod WalkedArcs
 -- bounds with one less at a place
 pub mod LoweredBounds
 -- the moves of a simplex counted by pairs of places

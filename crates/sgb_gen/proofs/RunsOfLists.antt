@@ -24,11 +24,6 @@ pub last_first : (b : BoardData) (x : List ℕ) (ts : List (List ℤ)) (t : List
     → arcs_by_all b x (ts ++ t ∷ []) ≡ reverse (arcs_onward b.directed x (moves_by (sides_of b.sizes b.wrap) b.piece (box b.sizes) t)) ++ arcs_by_all b x ts
 last_first b x ts t = grind (arith, flat_map-append, append-nil, reverse-append)
 
--- and those by the first of them last
-pub first_last : (b : BoardData) (x : List ℕ) (t : List ℤ) (ts : List (List ℤ))
-    → arcs_by_all b x (t ∷ ts) ≡ arcs_by_all b x ts ++ reverse (arcs_onward b.directed x (moves_by (sides_of b.sizes b.wrap) b.piece (box b.sizes) t))
-first_last b x t ts = grind (arith, flat_map-append, reverse-append)
-
 -- where there are arcs alone, those of a displacement are those ahead, the longest first; and there are none back
 pub directed_run : (b : BoardData) (x : List ℕ) (t : List ℤ) → b.directed ≡ true → IsBelow x b.sizes
     → reverse (arcs_onward b.directed x (moves_by (sides_of b.sizes b.wrap) b.piece (box b.sizes) t)) ≡ reverse (arcs_from b x t) ++ arcs_back b x (opposite t)

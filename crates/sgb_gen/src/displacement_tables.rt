@@ -2,18 +2,17 @@
 //!
 //! Each is also kept turned round, and with each coordinate that moves its number: of 65,536 entries that takes a few
 //! megabytes.
-ghost use Rattle.std.specs.Prelude.{◌≡◌, ◌<◌, ◌≤◌, length, nat_abs, slice_get, Some, All, IfOk, IfSome, IsOkUnless};
+ghost use Rattle.std.specs.Prelude.{◌≡◌, ◌<◌, ◌≤◌, length, nat_abs, slice_get, Some, All, IfSome};
 ghost use Rattle.sgb_vec.specs.Limits.{most_dimensions};
 ghost use Rattle.sgb_gen.specs.Limits.{most_piece};
 ghost use Rattle.sgb_gen.specs.Moves.{opposite};
 
 use crate::displacements::{Displacement, Displacements, put_opposite};
 use crate::steps::{KeptStep, Parts, Step};
-use sgb_vec::Panic;
 use std::alloc::Global;
 use std::marker::Model;
 
-// A table that a listing can do without has at most so many entries of displacements.
+// A table has at most so many entries of displacements.
 const MOST_ENTRIES: usize = 65_536;
 
 /// A displacement and its opposite. Contracts see the displacement.
@@ -99,55 +98,22 @@ impl DisplacementTable {
         requires small { All (λ t. All (λ e. nat_abs e ≤ most_piece) t) left }
         ensures { IfSome result (λ d. d ≡ left) }
     {
-        match DisplacementTable::made(alloc, MOST_ENTRIES / width.max(1), left) {
-            Ok(table) => table,
-            Err(_no_room) => None,
-        }
-    }
-
-    /// These displacements, whatever their number.
-    ///
-    /// `NoRoom` when out of memory, and nothing else.
-    pub(crate) fn whole(alloc: Global, left: Displacements) -> Result<DisplacementTable, Panic>
-        requires small { All (λ t. All (λ e. nat_abs e ≤ most_piece) t) left }
-        ensures table { IfOk result (λ d. d ≡ left) }
-        ensures memory { IsOkUnless result Panic.NoRoom }
-    {
-        match DisplacementTable::made(alloc, usize::MAX, left)? {
-            Some(table) => Ok(table),
-            None => Err(Panic::NoRoom),
-        }
-    }
-
-    // These displacements, where they are no more than `most`.
-    //
-    // `NoRoom` when out of memory, and nothing else.
-    fn made(
-        alloc: Global,
-        most: usize,
-        left: Displacements,
-    ) -> Result<Option<DisplacementTable>, Panic>
-        requires small { All (λ t. All (λ e. nat_abs e ≤ most_piece) t) left }
-        ensures table { IfOk result (λ o. IfSome o (λ d. d ≡ left)) }
-        ensures memory { IsOkUnless result Panic.NoRoom }
-    {
+        let most = MOST_ENTRIES / width.max(1);
         let mut turned = Displacement::new();
         let mut parts = Parts::new();
         let mut left = left;
         let mut kept = Vec::new(alloc);
         while let Some(t) = left.front() {
             if kept.len() >= most {
-                return Ok(None);
+                return None;
             }
-            let Some(pair) = KeptPair::new(alloc, t, &mut turned, &mut parts) else {
-                return Err(Panic::NoRoom);
-            };
+            let pair = KeptPair::new(alloc, t, &mut turned, &mut parts)?;
             let Ok(()) = kept.push(pair) else {
-                return Err(Panic::NoRoom);
+                return None;
             };
             let _some = left.advance();
         }
-        Ok(Some(DisplacementTable { kept }))
+        Some(DisplacementTable { kept })
     }
 
     /// How many displacements there are.

@@ -9,6 +9,8 @@ mod arc_sinks;
 mod displacement_tables;
 // A walk over the displacements of a piece.
 mod displacements;
+// The same from the last of them on.
+mod falling_displacements;
 // The generators.
 mod generators;
 // Such arcs that are kept in links.

@@ -3,12 +3,9 @@
 //! The vectors stand one after another, and each is handed out as a slice: a vector for each arc would be a thousand
 //! bytes. What all lists of a board have in common stands elsewhere (`BoardLists`): links serve for list after list,
 //! also of another board.
-ghost use Rattle.std.specs.Prelude.{◌≡◌, ◌<◌, pos, [], ◌∷◌, ◌++◌, ◌+◌, ◌*◌, ◌-◌, ◌≤◌, length, vec_capacity, vec_len, take, drop, reverse, slice_get, Some, All, OnOk, OnErr, IsOkUnless};
-ghost use Rattle.sgb_gen.specs.ArcSinks.{AreGiven};
+ghost use Rattle.std.specs.Prelude.{◌≡◌, ◌<◌, pos, [], ◌∷◌, ◌++◌, ◌+◌, ◌*◌, ◌≤◌, length, vec_capacity, vec_len, take, drop, slice_get, Some, OnOk, OnErr, IsOkUnless};
 ghost use Rattle.sgb_gen.specs.LocalLists.{LinksData, LocalArc};
-ghost use Rattle.sgb_gen.specs.inner.LocalArcs.{rows_turned};
 
-use crate::arc_sinks::ArcSink;
 use crate::starts::Starts;
 use sgb_vec::Panic;
 use std::alloc::Global;
@@ -91,26 +88,6 @@ impl Links {
         }
     }
 
-    // Hands the arcs to a sink, one by one.
-    pub(crate) fn give<K: ArcSink<R, S>, R, S>(
-        &self,
-        sink: &K,
-        room: &mut R,
-        out: &mut S,
-    ) -> Result<(), K::Fault>
-        requires widths { All (λ a. length a.tip ≡ K.width sink.now) self.now.arcs }
-        requires ready { K.ready sink.now room.old out.old }
-        ensures given { AreGiven (K.took sink.now) (K.cut sink.now) room.old out.old self.now.arcs
-            room.new out.new result }
-        ensures ready { OnOk result (K.ready sink.now room.new out.new) }
-    {
-        for i in 0..self.len() {
-            let arc = self.get(i);
-            sink.put_arc(arc.tip, arc.len, room, out)?;
-        }
-        Ok(())
-    }
-
     // Where the memory of the arcs comes from.
     pub(crate) fn alloc(&self) -> Global {
         *self.lens.allocator()
@@ -152,24 +129,6 @@ impl Links {
         push_entries(&mut self.tips, tip)?;
         self.lens.push(len)?;
         Ok(())
-    }
-
-    // Turns the arcs from this one on round: the last comes first of them.
-    pub(crate) fn reverse_from(&mut self, first: usize)
-        requires { first ≤ length self.old.arcs }
-        ensures { self.new
-            ≡ record self.old {
-              arcs = take first self.old.arcs ++ reverse (drop first self.old.arcs);
-            } }
-    {
-        if self.len() - first < 2 {
-            return;
-        }
-        let width = self.width;
-        let tips = self.tips.as_mut_slice();
-        let lens = self.lens.as_mut_slice();
-        let start = first * width;
-        turn_from(tips, lens, first, start, width);
     }
 
     // Hands out room for the starts of moves; its memory comes from where that of the links does.
@@ -217,40 +176,6 @@ fn put(entries: &mut Vec<u32>, entry: u32)
     ensures room { vec_capacity entries.old ≤ vec_capacity entries.new }
 {
     let _pushed = entries.push(entry);
-}
-
-// Turns the arcs from this one on round, whose vectors have this width and begin there.
-fn turn_from(tips: &mut [u32], lens: &mut [u32], first: usize, start: usize, width: usize)
-    requires tips { start ≤ length tips.old }
-    requires lens { first ≤ length lens.old }
-    requires left { length tips.old - start ≡ (length lens.old - first) * width }
-    ensures tips { tips.new ≡ take start tips.old
-        ++ rows_turned width (length (drop first lens.old)) (reverse (drop start tips.old)) }
-    ensures lens { lens.new ≡ take first lens.old ++ reverse (drop first lens.old) }
-{
-    turn_arcs(&mut tips[start..], &mut lens[first..], width);
-}
-
-// Turns arcs round whose vectors have this width: the last comes first.
-fn turn_arcs(tips: &mut [u32], lens: &mut [u32], width: usize)
-    requires { length tips.old ≡ length lens.old * width }
-    ensures tips { tips.new ≡ rows_turned width (length lens.old) (reverse tips.old) }
-    ensures lens { lens.new ≡ reverse lens.old }
-{
-    lens.reverse();
-    tips.reverse();
-    turn_rows(tips, width, lens.len());
-}
-
-// Turns each of the first rows round, which have this width.
-fn turn_rows(entries: &mut [u32], width: usize, count: usize)
-    requires { count * width ≤ length entries.old }
-    ensures { entries.new ≡ rows_turned width count entries.old }
-{
-    for i in 0..count {
-        let start = i * width;
-        entries[start..start + width].reverse();
-    }
 }
 
 // The row at this place, counted from 0, of rows that have this width and stand one after another.

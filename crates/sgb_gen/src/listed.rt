@@ -2,7 +2,7 @@
 //!
 //! Proofs of listings speak of a graph of vectors (`VectorGraph`), and of no generator. That of a board is listed by
 //! `BoardLists`, which makes a table only in `prepare`: names, sizes and where a listing begins take no memory; or by an
-//! `OrderedBoard`, which has its table, whatever its size, so that nothing after it wants memory. That moves have their ends among the
+//! `OrderedBoard`, which has room for a start, so that nothing after it wants memory. That moves have their ends among the
 //! vectors is a clause of `family` and no law: its proof would have to stand with the definitions.
 ghost use Rattle.std.specs.Prelude.{◌≡◌, ◌⊎◌, ◌≤◌, ◌^◌, length, map, pos, slice_get, true, All, Contains, IfErr, IfNone, IfOk, IfSome, IsOk, OnOk, IsOkUnless, Some};
 ghost use Rattle.sgb_graph.specs.Graphs.{chain_of};
@@ -79,9 +79,8 @@ pub trait Listed<'a> {
         ensures same { graph self.new ≡ graph self.old }
         ensures sort { sort self.new ≡ sort self.old };
 
-    /// Hands the arcs of the vertex of `x` to a sink, one by one, in the order of its list in the graph. Of a simplex, of subsets
-    /// and of an `OrderedBoard` no list is kept, and no memory is wanted but by the sink; nor is a list kept of a `BoardLists` that
-    /// is prepared, where its displacements are in a table. Another board's list is made in `links` first.
+    /// Hands the arcs of the vertex of `x` to a sink, one by one, in the order of its list in the graph. No list is kept, and no
+    /// memory is wanted but by the sink, and by a `BoardLists` for one start.
     ///
     /// The sink's fault, inside; or `NoRoom` when out of memory for a `BoardLists`, and nothing else: the sink was then handed
     /// nothing.
@@ -105,9 +104,9 @@ pub trait Listed<'a> {
         ensures same { graph self.new ≡ graph self.old }
         ensures sort { sort self.new ≡ sort self.old };
 
-    /// How many arcs are on the list of the vertex of `x`, where they are told without it, as a run asks: of a board that is
-    /// prepared, where its arcs are had in order with no sort, and of undirected subsets. Of an `OrderedBoard` they are where its
-    /// graph is directed, or no side wraps around, and 64 bits hold the number. No memory is taken.
+    /// How many arcs are on the list of the vertex of `x`, where they are told without it, as a run asks: of a board whose arcs
+    /// are known to be had in order with no sort, and of undirected subsets. They are of a board whose graph is directed, or of
+    /// which no side wraps around, where 64 bits hold the number. No memory is taken.
     fn count_at(&self, x: &[u32]) -> Option<u64>
         requires { Contains (graph self.now).vectors x.now }
         ensures count { IfSome result (λ m. m ≡ length (list_in (graph self.now) x.now)) }
@@ -154,7 +153,7 @@ impl<'a> Listed<'a> for BoardLists<'a> {
 
     ghost sort = { λ _. of_board };
 
-    ghost counted = { λ _. ⊥ };
+    ghost counted = { λ b. (b.directed ≡ true) ⊎ (b.wrap ≡ pos 0) };
 
     fn family(&self) -> &'a BoxFamily {
         self.board.family()
@@ -185,17 +184,13 @@ impl<'a> Listed<'a> for BoardLists<'a> {
         out: &mut S,
     ) -> Result<Result<(), K::Fault>, Panic> {
         let mut starts = links.take_starts()?;
-        let given = self.give_kept(x, &mut starts, sink, room, out);
+        let given = self.give(x, &mut starts, sink, room, out);
         links.keep_starts(starts);
-        if let Some(given) = given {
-            return Ok(given);
-        }
-        BoardLists::arcs_at(self, x, links)?;
-        Ok(links.give(sink, room, out))
+        Ok(given)
     }
 
     fn count_at(&self, x: &[u32]) -> Option<u64> {
-        self.board.count_kept(x, self.table_in_order()?)
+        BoardLists::count_at(self, x)
     }
 
     fn runs<'b>(&'b self, x: &'b [u32]) -> Option<Runs<'b>> {
@@ -227,21 +222,21 @@ impl<'a> Listed<'a> for OrderedBoard<'a> {
     ghost counted = { λ b. (b.directed ≡ true) ⊎ (b.wrap ≡ pos 0) };
 
     fn family(&self) -> &'a BoxFamily {
-        self.board.family()
+        self.lists.board.family()
     }
 
     fn id(&self) -> Id {
-        self.board.id()
+        self.lists.board.id()
     }
 
     fn arcs_count(&self, _links: &Links) -> Result<u128, Panic> {
-        self.board.arcs_count()
+        self.lists.board.arcs_count()
     }
 
     fn prepare(&mut self, _links: &Links) {}
 
     fn arcs_at(&mut self, x: &[u32], links: &mut Links) -> Result<(), Panic> {
-        self.board.arcs_at(x, links)
+        self.lists.arcs_at(x, links)
     }
 
     fn give_arcs<K: ArcSink<R, S>, R, S>(
@@ -256,11 +251,11 @@ impl<'a> Listed<'a> for OrderedBoard<'a> {
     }
 
     fn count_at(&self, x: &[u32]) -> Option<u64> {
-        OrderedBoard::count_at(self, x)
+        self.lists.count_at(x)
     }
 
     fn runs<'b>(&'b self, x: &'b [u32]) -> Option<Runs<'b>> {
-        OrderedBoard::runs(self, x)
+        self.lists.runs(x)
     }
 
     fn strides<'b>(&'b self, _x: &'b [u32], _v: u32) -> Option<Strides<'b>> {
@@ -268,7 +263,7 @@ impl<'a> Listed<'a> for OrderedBoard<'a> {
     }
 
     fn places(&self, _links: &Links) -> Option<&'a BoxFamily> {
-        Some(self.board.family())
+        Some(self.lists.board.family())
     }
 
     fn place_of(&self, x: &[u32]) -> u32 {

@@ -1,6 +1,6 @@
 //! The answer to a request for the listing of a generator's graph.
 //!
-//! A board's table of displacements is made before something is written, and its arcs are handed out in order with no list kept
+//! What a board wants of memory is taken before something is written, and its arcs are handed out in order with no list kept
 //! (`OrderedBoard`): so want of memory is told then or never.
 ghost use Rattle.std.specs.Prelude.{◌≡◌, ◌≢◌, false, IfErr};
 ghost use Rattle.sgb_graph.specs.Made.{graph_described};

@@ -1,5 +1,5 @@
 -- How the list of arcs of a vector comes from the moves that touch it; and how a list of arcs is kept.
-use Rattle.std.specs.Prelude.{ℕ, zero, suc, reverse, pos, Bool, true, false, List, [], ◌∷◌, ◌++◌, take, drop, if◌then◌else◌}
+use Rattle.std.specs.Prelude.{ℕ, pos, Bool, true, false, List, [], ◌∷◌, ◌++◌, take, drop, if◌then◌else◌}
 use Rattle.sgb_gen.specs.VectorGraphs.{Move, same_vector}
 use Rattle.sgb_gen.specs.LocalLists.{LocalArc}
 
@@ -21,8 +21,3 @@ arcs_of_moves directed x (m ∷ moves) = arcs_of_moves directed x moves ++ arcs_
 abbrev pub arcs_in : ℕ → List ℕ → List ℕ → List LocalArc
 arcs_in width tips [] = []
 arcs_in width tips (len ∷ lens) = record { tip = take width tips; len = pos len } ∷ arcs_in width (drop width tips) lens
-
--- entries that stand one row after another, each of the first rows turned round
-abbrev pub rows_turned : ℕ → ℕ → List ℕ → List ℕ
-rows_turned width zero entries = entries
-rows_turned width (suc count) entries = reverse (take width entries) ++ rows_turned width count (drop width entries)

@@ -28,6 +28,7 @@ mod strides;
 mod turns;
 
 use crate::displacements::Displacements;
+use crate::falling_displacements::FallingDisplacements;
 use crate::moves::entry_bounds;
 use crate::params::BoardParams;
 use crate::steps::{Parts, Step, put_parts_of};
@@ -192,6 +193,18 @@ impl Board {
         let piece = self.piece.unsigned_abs() as u32;
         let bounds = entry_bounds(self.sizes(), self.wrap, piece);
         Displacements::new(piece, bounds)
+    }
+
+    // The same, from the last of them on.
+    fn falling_displacements(&self) -> FallingDisplacements
+        ensures all { result ≡ displacements_within (nat_abs self.now.piece)
+            (entry_bounds (nat_abs self.now.piece) (sides_of self.now.sizes self.now.wrap)) }
+        ensures dimensions { All (λ t. length t ≡ length self.now.sizes) result }
+        ensures small { All (λ t. All (λ e. nat_abs e ≤ most_piece) t) result }
+    {
+        let piece = self.piece.unsigned_abs() as u32;
+        let bounds = entry_bounds(self.sizes(), self.wrap, piece);
+        FallingDisplacements::new(piece, bounds)
     }
 
     // The greatest length that a move may have.

@@ -1,27 +1,23 @@
 //! The lists of a board's vertices, one after another.
 //!
 //! They have their displacements in common, with their opposites. Where these are more than the table takes, or there
-//! is no memory, they are walked for each vertex. A body that built the whole graph would meet the contracts, which do
+//! is no memory, they are walked over for each vertex, from the last on. A body that built the whole graph would meet the contracts, which do
 //! not speak of room; the checks from outside see it (`great`).
-ghost use Rattle.std.specs.Prelude.{◌≡◌, [], ◌++◌, length, reverse, nat_abs, All, Contains, IfNone, IfSome, OnOk, OnErr, IsOkUnless};
+ghost use Rattle.std.specs.Prelude.{◌≡◌, ◌≤◌, ◌^◌, ◌⊎◌, [], length, pos, true, Contains, IfNone, IfSome, OnOk, OnErr, IsOkUnless};
 ghost use Rattle.sgb_vec.specs.Boxes.{box};
-ghost use Rattle.sgb_vec.specs.Lexicographic.{IsBelow};
 ghost use Rattle.sgb_gen.specs.ArcSinks.{AreGiven};
 ghost use Rattle.sgb_gen.specs.Boards.{moves_of_board};
 ghost use Rattle.sgb_gen.specs.LocalLists.{list_at};
-ghost use Rattle.sgb_gen.specs.Moves.{sides_of};
-ghost use Rattle.sgb_gen.specs.inner.EntryBounds.{displacements_within, entry_bounds};
-ghost use Rattle.sgb_gen.specs.inner.LocalBoards.{arcs_onward};
-ghost use Rattle.sgb_gen.specs.inner.StraightLists.{NeedsNoSort};
 
 use super::Board;
 use super::runs::{lead_onward, widest_of};
 use super::strides::strides_of;
 use crate::arc_sinks::ArcSink;
 use crate::displacement_tables::DisplacementTable;
+use crate::kept_arcs::KeptArcs;
 use crate::links::Links;
 use crate::starts::Starts;
-use sgb_vec::{Family, Panic, Vector};
+use sgb_vec::{Family, Panic};
 use std::marker::Model;
 
 /// The lists of a board's vertices, one after another: what they have in common is found once (GB_BASIC, board).
@@ -35,18 +31,17 @@ pub struct BoardLists<'a> {
     pub(super) straight: bool,
     // Whether the piece is a leaper, and all of these lead to later vectors from where no side is near.
     pub(super) leaping: bool,
-    // Whether the arcs by each of these are had in order with no sort.
+    // Whether the arcs by each of these are had in order with no sort, as they are where the graph is directed, or no side wraps
+    // around: where there is no table, whether it is such a graph.
     in_order: bool,
     // No entry of theirs is greater.
     pub(super) widest: u32,
     // How many places each of these leads on, where no side is crossed that wraps around.
     pub(super) strides: Option<Vec<u32>>,
-    // Room for a vector.
-    there: Vector,
 }
 
 impl<'a> Model for BoardLists<'a> {
-    ghost use Rattle.std.specs.Prelude.{◌≡◌, ◌≤◌, map, nat_abs, pos, All, IfSome};
+    ghost use Rattle.std.specs.Prelude.{◌≡◌, ◌≤◌, ◌⊎◌, map, nat_abs, pos, true, All, IfSome};
     ghost use Rattle.std.specs.Bool.{OnTrue};
     ghost use Rattle.sgb_gen.specs.inner.StraightLists.{AreOnward, IsLeaper, NeedsNoSort};
     ghost use Rattle.sgb_gen.specs.Boards.{BoardData};
@@ -67,7 +62,9 @@ impl<'a> Model for BoardLists<'a> {
         × OnTrue b.leaping (IfSome b.table (AreOnward (pos 0)))
         × IfSome b.strides (λ s. IfSome b.table (λ d. map pos s.items
         ≡ map (stride_of b.board.now.sizes) d))
-        × OnTrue b.in_order (IfSome b.table (All (NeedsNoSort b.board.now))) };
+        × OnTrue b.in_order (All (NeedsNoSort b.board.now) (displacements_within (nat_abs b.board.now.piece)
+        (entry_bounds (nat_abs b.board.now.piece) (sides_of b.board.now.sizes b.board.now.wrap))))
+        × ((b.board.now.directed ≡ true) ⊎ (b.board.now.wrap ≡ pos 0) → b.in_order ≡ true) };
 }
 
 impl Board {
@@ -81,33 +78,6 @@ impl Board {
         lists.prepare(links);
         lists
     }
-
-    // Puts the arcs of `x` behind the others, as `push_listed` does, where the displacements are in a table: from the last
-    // of them on.
-    fn push_kept(
-        &self,
-        x: &[u32],
-        table: &DisplacementTable,
-        there: &mut Vector,
-        links: &mut Links,
-    ) -> Result<(), Panic>
-        requires below { IsBelow x.now self.now.sizes }
-        requires width { length x.now ≡ links.old.width }
-        requires table { table.now ≡ displacements_within (nat_abs self.now.piece)
-            (entry_bounds (nat_abs self.now.piece) (sides_of self.now.sizes self.now.wrap)) }
-        ensures ok { OnOk result (links.new
-            ≡ record links.old {
-              arcs = links.old.arcs
-                  ++ reverse (arcs_onward self.now.directed x.now (moves_of_board self.now));
-            }) }
-        ensures memory { IsOkUnless result Panic.NoRoom }
-    {
-        for k in (0..table.len()).rev() {
-            let pair = table.at(k);
-            self.push_by(x, &pair.ahead(), &pair.back(), there, links)?;
-        }
-        Ok(())
-    }
 }
 
 impl<'a> BoardLists<'a> {
@@ -116,15 +86,16 @@ impl<'a> BoardLists<'a> {
     pub fn new(board: &'a Board) -> BoardLists<'a>
         ensures { result ≡ board.now }
     {
+        let table = None;
+        let in_order = board.is_in_order_by(&table);
         BoardLists {
             board,
-            table: None,
+            table,
             straight: false,
             leaping: false,
-            in_order: false,
+            in_order,
             widest: 0,
             strides: None,
-            there: Vector::new(),
         }
     }
 
@@ -141,7 +112,7 @@ impl<'a> BoardLists<'a> {
         );
         self.straight = lead_onward(board.wrap, &table);
         self.leaping = board.is_leaping(&table);
-        self.in_order = board.are_in_order(&table);
+        self.in_order = board.is_in_order_by(&table);
         self.widest = widest_of(&table);
         self.strides = strides_of(links.alloc(), board.sizes(), &table);
         self.table = table;
@@ -160,71 +131,54 @@ impl<'a> BoardLists<'a> {
         ensures same { self.new ≡ self.old }
     {
         links.clear(x.len());
-        let put = self.push_listed(x, links);
+        let mut starts = links.take_starts()?;
+        let put = self.give(x, &mut starts, &KeptArcs::of(x.len()), links, &mut ());
+        links.keep_starts(starts);
         links.ended(put)
     }
 
-    /// The displacements by which the piece can move, where they are in a table, and the arcs by each of them are had in order
-    /// with no sort.
-    pub(crate) fn table_in_order(&self) -> Option<&DisplacementTable>
-        ensures table { IfSome result (λ d. d.now ≡ displacements_within (nat_abs self.now.piece)
-            (entry_bounds (nat_abs self.now.piece) (sides_of self.now.sizes self.now.wrap))) }
-        ensures sorted { IfSome result (λ d. All (NeedsNoSort self.now) d.now) }
+    /// How many arcs are on the list of the vertex of `x`, which is a vector of the board, with no list made, where its arcs are had
+    /// in order with no sort. `None` elsewhere, and where 64 bits do not hold the number. Where the graph is directed, or no side
+    /// wraps around, it is `None` for this alone. No memory is taken.
+    pub(crate) fn count_at(&self, x: &[u32]) -> Option<u64>
+        requires { Contains (box self.now.sizes) x.now }
+        ensures count { IfSome result (λ m. m ≡ length (list_at self.now.directed
+            (box self.now.sizes) (moves_of_board self.now) x.now)) }
+        ensures none { (self.now.directed ≡ true) ⊎ (self.now.wrap ≡ pos 0)
+            → IfNone result (2 ^ 64 ≤ length (list_at self.now.directed (box self.now.sizes)
+            (moves_of_board self.now) x.now)) }
     {
         if !self.in_order {
             return None;
         }
         match &self.table {
-            Some(table) => Some(table),
-            None => None,
+            Some(table) => self.board.count_kept(x, table),
+            None => self.board.count_walked(x),
         }
     }
 
-    /// Hands the arcs of the vertex of `x` to a sink, by the displacements in the table, where there is one: `None` where there
-    /// is none. `starts` is what they are found with: what it holds does not count. No memory is wanted but by the sink.
-    pub(crate) fn give_kept<K: ArcSink<R, S>, R, S>(
+    /// Hands the arcs of the vertex of `x`, which is a vector of the board, to a sink one by one. `starts` is what they are found
+    /// with: what it holds does not count. No memory is wanted but by the sink.
+    pub(crate) fn give<K: ArcSink<R, S>, R, S>(
         &self,
         x: &[u32],
         starts: &mut Starts,
         sink: &K,
         room: &mut R,
         out: &mut S,
-    ) -> Option<Result<(), K::Fault>>
+    ) -> Result<(), K::Fault>
         requires member { Contains (box self.now.sizes) x.now }
         requires width { K.width sink.now ≡ length x.now }
         requires ready { K.ready sink.now room.old out.old }
-        ensures given { IfSome result (AreGiven (K.took sink.now) (K.cut sink.now) room.old out.old
+        ensures given { AreGiven (K.took sink.now) (K.cut sink.now) room.old out.old
             (list_at self.now.directed (box self.now.sizes) (moves_of_board self.now) x.now)
-            room.new out.new) }
-        ensures ready { IfSome result (λ r. OnOk r (K.ready sink.now room.new out.new)) }
-        ensures none { IfNone result ((room.new ≡ room.old) × (out.new ≡ out.old)) }
+            room.new out.new result }
+        ensures ready { OnOk result (K.ready sink.now room.new out.new) }
     {
+        let board = self.board;
         match &self.table {
-            Some(table) => {
-                let given = self
-                    .board
-                    .give_kept(x, table, self.in_order, starts, sink, room, out);
-                Some(given)
-            }
-            None => None,
-        }
-    }
-
-    // Puts the arcs of `x` behind the others, those by later moves first.
-    fn push_listed(&mut self, x: &[u32], links: &mut Links) -> Result<(), Panic>
-        requires below { IsBelow x.now self.old.sizes }
-        requires width { length x.now ≡ links.old.width }
-        ensures ok { OnOk result (links.new
-            ≡ record links.old {
-              arcs = links.old.arcs
-                  ++ reverse (arcs_onward self.old.directed x.now (moves_of_board self.old));
-            }) }
-        ensures memory { IsOkUnless result Panic.NoRoom }
-        ensures same { self.new ≡ self.old }
-    {
-        match &self.table {
-            Some(table) => self.board.push_kept(x, table, &mut self.there, links),
-            None => self.board.push_listed(x, links),
+            Some(table) => board.give_kept(x, table, self.in_order, starts, sink, room, out),
+            None => board.give_walked(x, starts, sink, room, out),
         }
     }
 }

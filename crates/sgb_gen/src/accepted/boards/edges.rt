@@ -3,7 +3,7 @@
 //! The starts are the vector itself and those where the opposite displacement leads: for a rider they are sorted. Where
 //! there is no room for all of them, those at the later vertices are found, sorted and handed out first, and then the
 //! others: so no memory is wanted. A range of two starts or more can be cut in two, and there is room for one.
-ghost use Rattle.std.specs.Prelude.{◌≡◌, ◌<◌, ◌++◌, false, length, reverse, OnOk, IsOkUnless};
+ghost use Rattle.std.specs.Prelude.{◌≡◌, ◌<◌, ◌++◌, false, length, reverse, OnOk};
 ghost use Rattle.std.specs.Bool.{OnFalse, OnTrue};
 ghost use Rattle.std.specs.List.{filter};
 ghost use Rattle.sgb_vec.specs.Boxes.{box};
@@ -20,43 +20,12 @@ ghost use Rattle.sgb_gen.specs.inner.Moves.{longest_move};
 
 use super::Board;
 use crate::arc_sinks::ArcSink;
-use crate::kept_arcs::KeptArcs;
-use crate::links::Links;
 use crate::start_ranges::StartRange;
 use crate::starts::Starts;
 use crate::steps::{Step, either};
-use sgb_vec::{Family, Panic, Vector};
+use sgb_vec::{Family, Vector};
 
 impl Board {
-    // Puts the arcs of `x` by the edges of the displacement `t` behind the others, the last of their starts first.
-    pub(super) fn push_sorted(
-        &self,
-        x: &[u32],
-        t: &Step,
-        back: &Step,
-        there: &mut Vector,
-        links: &mut Links,
-    ) -> Result<(), Panic>
-        requires below { IsBelow x.now self.now.sizes }
-        requires dimensions { length t.now ≡ length self.now.sizes }
-        requires back { back.now ≡ opposite t.now }
-        requires width { length x.now ≡ links.old.width }
-        ensures ok { OnOk result (links.new
-            ≡ record links.old {
-              arcs = links.old.arcs
-                  ++ reverse (arcs_onward false x.now
-                  (moves_by (sides_of self.now.sizes self.now.wrap) self.now.piece
-                  (box self.now.sizes) t.now));
-            }) }
-        ensures memory { IsOkUnless result Panic.NoRoom }
-    {
-        let mut starts = links.take_starts()?;
-        let sink = KeptArcs::of(x.len());
-        let put = self.give_sorted(x, t, back, there, &mut starts, &sink, links, &mut ());
-        links.keep_starts(starts);
-        put
-    }
-
     // Hands out the arcs of `x` by the edges of the displacement `t`, whose opposite is `back`, the last of their starts first.
     // `there` and `starts` are what they are found with: what these hold does not count.
     pub(super) fn give_sorted<K: ArcSink<R, S>, R, S>(

@@ -1,8 +1,8 @@
-//! The arcs of a board's vector that are handed out one by one, by one displacement of a table after another: no list is
-//! kept.
+//! The arcs of a board's vector that are handed out one by one, by one displacement after another, of a table or with none: no
+//! list is kept.
 //!
 //! Where the arcs by a displacement come in order with no sort they are handed out as they are found; else their starts are
-//! sorted, as many as there is room for (`give_sorted`). No memory is wanted after the table.
+//! sorted, as many as there is room for (`give_sorted`). No memory is wanted.
 ghost use Rattle.std.specs.Prelude.{◌≡◌, ◌+◌, ◌-◌, ◌≤◌, [], ◌∷◌, false, length, map, nat_abs, reverse, All, Contains, OnOk};
 ghost use Rattle.std.specs.Bool.{OnFalse, OnTrue};
 ghost use Rattle.std.specs.List.{range_with_len};
@@ -21,10 +21,11 @@ ghost use Rattle.sgb_gen.specs.inner.StraightLists.{IsInOrder, NeedsNoSort, arcs
 
 use super::Board;
 use crate::arc_sinks::ArcSink;
-use crate::displacement_tables::{DisplacementTable, KeptPair};
+use crate::displacement_tables::DisplacementTable;
+use crate::displacements::{Displacement, put_opposite};
 use crate::moves::{put_parts, put_vector};
 use crate::starts::Starts;
-use crate::steps::Step;
+use crate::steps::{Parts, Step, put_parts_of};
 use sgb_vec::{Family, Vector};
 
 impl Board {
@@ -55,17 +56,56 @@ impl Board {
         let mut there = Vector::new();
         for k in (0..table.len()).rev() {
             let pair = table.at(k);
-            self.give_pair(x, pair, in_order, &mut there, starts, sink, room, out)?;
+            let (ahead, back) = (pair.ahead(), pair.back());
+            self.give_both(
+                x, &ahead, &back, in_order, &mut there, starts, sink, room, out,
+            )?;
         }
         Ok(())
     }
 
-    // Hands out the arcs of `x` by the edges of a displacement: with no sort where `in_order` tells that none is wanted.
-    #[inline(always)]
-    fn give_pair<K: ArcSink<R, S>, R, S>(
+    /// The same with no table: by a walk over the displacements from the last on.
+    pub(crate) fn give_walked<K: ArcSink<R, S>, R, S>(
         &self,
         x: &[u32],
-        pair: &KeptPair,
+        starts: &mut Starts,
+        sink: &K,
+        room: &mut R,
+        out: &mut S,
+    ) -> Result<(), K::Fault>
+        requires member { Contains (box self.now.sizes) x.now }
+        requires width { K.width sink.now ≡ length x.now }
+        requires ready { K.ready sink.now room.old out.old }
+        ensures given { AreGiven (K.took sink.now) (K.cut sink.now) room.old out.old
+            (list_at self.now.directed (box self.now.sizes) (moves_of_board self.now) x.now)
+            room.new out.new result }
+        ensures ready { OnOk result (K.ready sink.now room.new out.new) }
+    {
+        let mut there = Vector::new();
+        let mut turned = Displacement::new();
+        let mut parts = Parts::new();
+        let mut turned_parts = Parts::new();
+        let mut left = self.falling_displacements();
+        while let Some(t) = left.back() {
+            put_opposite(t, &mut turned);
+            put_parts_of(t, &mut parts);
+            put_parts_of(turned.as_slice(), &mut turned_parts);
+            let ahead = Step::of(t, parts.as_slice());
+            let back = Step::of(turned.as_slice(), turned_parts.as_slice());
+            self.give_both(x, &ahead, &back, false, &mut there, starts, sink, room, out)?;
+            left.retreat();
+        }
+        Ok(())
+    }
+
+    // Hands out the arcs of `x` by the edges of the displacement `t`, whose opposite is `back`: with no sort where `in_order`
+    // tells that none is wanted.
+    #[inline(always)]
+    fn give_both<K: ArcSink<R, S>, R, S>(
+        &self,
+        x: &[u32],
+        t: &Step,
+        back: &Step,
         in_order: bool,
         there: &mut Vector,
         starts: &mut Starts,
@@ -74,23 +114,22 @@ impl Board {
         out: &mut S,
     ) -> Result<(), K::Fault>
         requires below { IsBelow x.now self.now.sizes }
-        requires dimensions { length pair.now ≡ length self.now.sizes }
-        requires sorted { OnTrue in_order (NeedsNoSort self.now pair.now) }
+        requires dimensions { length t.now ≡ length self.now.sizes }
+        requires back { back.now ≡ opposite t.now }
+        requires sorted { OnTrue in_order (NeedsNoSort self.now t.now) }
         requires width { K.width sink.now ≡ length x.now }
         requires ready { K.ready sink.now room.old out.old }
         ensures given { AreGiven (K.took sink.now) (K.cut sink.now) room.old out.old
             (reverse (arcs_onward self.now.directed x.now
             (moves_by (sides_of self.now.sizes self.now.wrap) self.now.piece (box self.now.sizes)
-            pair.now))) room.new out.new result }
+            t.now))) room.new out.new result }
         ensures ready { OnOk result (K.ready sink.now room.new out.new) }
     {
-        let ahead = pair.ahead();
-        let back = pair.back();
-        let behind = self.lengths_back(x, &back);
-        if !self.has_order(&ahead, behind, in_order) {
-            return self.give_sorted(x, &ahead, &back, there, starts, sink, room, out);
+        let behind = self.lengths_back(x, back);
+        if !self.has_order(t, behind, in_order) {
+            return self.give_sorted(x, t, back, there, starts, sink, room, out);
         }
-        self.give_by(x, &ahead, &back, behind, there, sink, room, out)
+        self.give_by(x, t, back, behind, there, sink, room, out)
     }
 
     // Whether the arcs of a vector by the edges of `t` are had in order with no sort, where so many moves lead back from it:

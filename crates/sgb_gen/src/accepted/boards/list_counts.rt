@@ -1,4 +1,4 @@
-//! How many arcs are on the list of one vector of a board, by the displacements in a table, with no list made.
+//! How many arcs are on the list of one vector of a board, with no list made.
 //!
 //! By each of them there are as many as moves lead ahead and, where there are edges, as lead back. That is said where the arcs
 //! by each displacement are had in order with no sort, as they are given (`given`).
@@ -7,13 +7,15 @@ ghost use Rattle.sgb_vec.specs.Boxes.{box};
 ghost use Rattle.sgb_vec.specs.Lexicographic.{IsBelow};
 ghost use Rattle.sgb_gen.specs.Boards.{moves_of_board};
 ghost use Rattle.sgb_gen.specs.LocalLists.{list_at};
-ghost use Rattle.sgb_gen.specs.Moves.{sides_of};
+ghost use Rattle.sgb_gen.specs.Moves.{opposite, sides_of};
 ghost use Rattle.sgb_gen.specs.inner.EntryBounds.{displacements_within, entry_bounds};
 ghost use Rattle.sgb_gen.specs.inner.LocalBoards.{arcs_onward, moves_by};
 ghost use Rattle.sgb_gen.specs.inner.StraightLists.{NeedsNoSort};
 
 use super::Board;
-use crate::displacement_tables::{DisplacementTable, KeptPair};
+use crate::displacement_tables::DisplacementTable;
+use crate::displacements::{Displacement, put_opposite};
+use crate::steps::{Parts, Step, put_parts_of};
 
 impl Board {
     /// How many arcs are on the list of the vertex of `x`, by the displacements in a table, where those by each of them are had
@@ -30,22 +32,51 @@ impl Board {
     {
         let mut arcs: u64 = 0;
         for k in (0..table.len()).rev() {
-            arcs = arcs.checked_add(self.count_both_ways(x, table.at(k)))?;
+            let pair = table.at(k);
+            arcs = arcs.checked_add(self.count_both_ways(x, &pair.ahead(), &pair.back()))?;
         }
         Some(arcs)
     }
 
-    // How many arcs of `x` the edges of a displacement make.
-    fn count_both_ways(&self, x: &[u32], pair: &KeptPair) -> u64
+    /// The same with no table: by a walk over the displacements.
+    pub(crate) fn count_walked(&self, x: &[u32]) -> Option<u64>
+        requires member { Contains (box self.now.sizes) x.now }
+        requires sorted { All (NeedsNoSort self.now) (displacements_within (nat_abs self.now.piece)
+            (entry_bounds (nat_abs self.now.piece) (sides_of self.now.sizes self.now.wrap))) }
+        ensures count { IfSome result (λ m. m ≡ length (list_at self.now.directed
+            (box self.now.sizes) (moves_of_board self.now) x.now)) }
+        ensures none { IfNone result (2 ^ 64 ≤ length (list_at self.now.directed
+            (box self.now.sizes) (moves_of_board self.now) x.now)) }
+    {
+        let mut turned = Displacement::new();
+        let mut parts = Parts::new();
+        let mut turned_parts = Parts::new();
+        let mut arcs: u64 = 0;
+        let mut left = self.falling_displacements();
+        while let Some(t) = left.back() {
+            put_opposite(t, &mut turned);
+            put_parts_of(t, &mut parts);
+            put_parts_of(turned.as_slice(), &mut turned_parts);
+            let ahead = Step::of(t, parts.as_slice());
+            let back = Step::of(turned.as_slice(), turned_parts.as_slice());
+            arcs = arcs.checked_add(self.count_both_ways(x, &ahead, &back))?;
+            left.retreat();
+        }
+        Some(arcs)
+    }
+
+    // How many arcs of `x` the edges of the displacement `t` make, whose opposite is `back`.
+    fn count_both_ways(&self, x: &[u32], t: &Step, back: &Step) -> u64
         requires below { IsBelow x.now self.now.sizes }
-        requires dimensions { length pair.now ≡ length self.now.sizes }
-        requires sorted { NeedsNoSort self.now pair.now }
+        requires dimensions { length t.now ≡ length self.now.sizes }
+        requires back { back.now ≡ opposite t.now }
+        requires sorted { NeedsNoSort self.now t.now }
         ensures { result ≡ length (arcs_onward self.now.directed x.now
             (moves_by (sides_of self.now.sizes self.now.wrap) self.now.piece (box self.now.sizes)
-            pair.now)) }
+            t.now)) }
     {
-        let ahead = self.lengths_by(x, &pair.ahead());
-        let behind = self.lengths_back(x, &pair.back());
+        let ahead = self.lengths_by(x, t);
+        let behind = self.lengths_back(x, back);
         u64::from(ahead) + u64::from(behind)
     }
 }

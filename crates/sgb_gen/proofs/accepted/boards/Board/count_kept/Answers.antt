@@ -1,4 +1,4 @@
-use Rattle.std.proofs.Common.{◌-◌, ap, length, arith, rules}
+use Rattle.std.proofs.Common.{◌-◌, ◌∙◌, Some, ap, sym, length, arith, rules}
 use Rattle.std.proofs.lemmas.List.{take_all}
 use Rattle.sgb_vec.proofs.BoxPlaces.{IsBelow-from_Contains}
 use Rattle.sgb_gen.specs.inner.StraightLists.{NeedsNoSort}
@@ -18,15 +18,15 @@ pub count_both_ways-requires-clause-dimensions : goal.count_both_ways-requires-c
 count_both_ways-requires-clause-dimensions c = search (rules, width_in_table)
 
 pub count_both_ways-requires-clause-sorted : goal.count_both_ways-requires-clause-sorted
-count_both_ways-requires-clause-sorted c = at_has (NeedsNoSort c.args.self.now) c.args.table.now (c.loop-k.k - 1) c.at.result.now c.requires.sorted c.at.ensures
+count_both_ways-requires-clause-sorted c = at_has (NeedsNoSort c.args.self.now) c.args.table.now (c.loop-k.k - 1) c.ahead.result c.requires.sorted (c.at-pair.ensures ∙ ap Some (sym c.ahead.ensures))
 
 pub loop-k-preserved : goal.loop-k-preserved
 loop-k-preserved c =
-    omega (arith, c.in_ok-arcs.ensures.1, c.count_both_ways.ensures, c.loop-k.invariant, count_apart c.args.self.now c.args.x.now c.args.table.now c.loop-k.k c.at.result.now (omega arith) c.at.ensures)
+    omega (arith, c.in_ok-arcs.ensures.1, c.count_both_ways.ensures, c.loop-k.invariant, count_apart c.args.self.now c.args.x.now c.args.table.now c.loop-k.k c.ahead.result (omega arith) (c.at-pair.ensures ∙ ap Some (sym c.ahead.ensures)))
 
 pub returns-clause-count : goal.returns-clause-count
 returns-clause-count c = omega (arith, c.loop-k.invariant, ap length (none_first c.args.self.now c.args.x.now c.args.table.now c.loop-k.k (omega arith)))
 
 pub returns-in_err-arcs-clause-none : goal.returns-in_err-arcs-clause-none
 returns-in_err-arcs-clause-none c =
-    rw c.from_residual.ensures (omega (arith, c.in_err-arcs.ensures, c.count_both_ways.ensures, c.loop-k.invariant, count_apart c.args.self.now c.args.x.now c.args.table.now c.loop-k.k c.at.result.now (omega arith) c.at.ensures))
+    rw c.from_residual.ensures (omega (arith, c.in_err-arcs.ensures, c.count_both_ways.ensures, c.loop-k.invariant, count_apart c.args.self.now c.args.x.now c.args.table.now c.loop-k.k c.ahead.result (omega arith) (c.at-pair.ensures ∙ ap Some (sym c.ahead.ensures))))

@@ -3,7 +3,7 @@ use Rattle.std.proofs.lemmas.List.{take_all}
 use Rattle.sgb_gen.specs.inner.Moves.{destination}
 use Rattle.sgb_gen.specs.Moves.{sides_of}
 use Rattle.sgb_gen.proofs.ArcsInTurn.{exit_part, so_far_begun, so_far_more}
-use Rattle.sgb_gen.proofs.TurnedLinks.{last_edge}
+use Rattle.sgb_gen.proofs.EdgesInTurn.{last_edge}
 use Rattle.sgb_gen.proofs.accepted.boards.Board.give_edges.Goals as goal
 
 pub loop-k-init : goal.loop-k-init
