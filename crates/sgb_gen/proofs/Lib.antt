@@ -185,3 +185,5 @@ pub mod SubsetsListCounts
 pub mod KeptCounts
 -- boards whose arcs need no sort, and how many displacements a board has
 pub mod PlainBoards
+-- vectors in order, one found from that before or after it
+pub mod SteppedVectors

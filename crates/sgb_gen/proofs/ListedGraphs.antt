@@ -7,10 +7,13 @@ use Rattle.sgb_vec.specs.Lexicographic.{IsRising}
 use Rattle.sgb_vec.specs.declared.panics.Panic.{Panic}
 use Rattle.sgb_vec.proofs.FamilyLaws.{box_vectors_rise, length-box_member, length-sum_member, sum_vectors_rise}
 use Rattle.sgb_gen.specs.Boards.{BoardData, board_vector_graph}
+use Rattle.sgb_gen.specs.Generators.{vector_graph_of}
 use Rattle.sgb_gen.specs.LocalLists.{LocalArc, list_in}
 use Rattle.sgb_gen.specs.Simplexes.{SimplexData, moves_of_simplex, simplex_vector_graph}
 use Rattle.sgb_gen.specs.Subsets.{SubsetsData, subsets_vector_graph}
 use Rattle.sgb_gen.specs.VectorGraphs.{HasEnds, VectorGraph, vertex_among}
+use Rattle.sgb_gen.specs.declared.locals.Local.{Local}
+use Rattle.sgb_gen.specs.declared.locals.Local.TheVariants as local
 use Rattle.sgb_gen.proofs.ListsOfBoards.{ends_on_board}
 use Rattle.sgb_gen.proofs.MoveLists.{tips_of_list}
 use Rattle.sgb_gen.proofs.RisingVectors.{vertex_in_rising}
@@ -33,6 +36,12 @@ of_simplex s = record { rising = sum_vectors_rise s.sum; width = length s.sum.bo
 
 pub of_subsets : (s : SubsetsData) → IsOfFamily (subsets_vector_graph s)
 of_subsets s = record { rising = sum_vectors_rise s.sum; width = length s.sum.bounds; wide = length-sum_member s.sum; ends = moves_have_ends s }
+
+-- of any generator
+pub of_local : (l : Local) → IsOfFamily (vector_graph_of l)
+of_local (local.Board b) = of_board b
+of_local (local.Simplex s) = of_simplex s
+of_local (local.Subsets s) = of_subsets s
 
 module _ (g : VectorGraph) (is : IsOfFamily g) where
   -- where the list of x was put, its arcs lead to vectors

@@ -48,3 +48,5 @@ pub mod SubsetsCounts
 pub mod SubsetsPairs
 -- the coordinates of vectors, put into a graph
 pub mod VectorGraphs
+-- what the lists of a graph have in common
+pub mod LocalLists

@@ -23,6 +23,8 @@ mod links;
 mod counted_places;
 // What a listing asks of a generator's graph, with no graph.
 mod listed;
+// A generator's graph whose lists are read one by one.
+mod local_lists;
 // Accepted parameters of any generator.
 mod locals;
 // Where a piece moves on a board.
@@ -59,6 +61,7 @@ pub use laws::{
 };
 pub use links::{Links, LocalArcRef};
 pub use listed::Listed;
+pub use local_lists::LocalLists;
 pub use locals::{Local, local_of};
 pub use params::{BoardParams, Generator, SimplexParams, SubsetsParams};
 pub use shorthands::{circuit, complete, cycle, disjoint_subsets, empty, petersen, transitive};

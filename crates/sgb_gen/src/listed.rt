@@ -183,10 +183,7 @@ impl<'a> Listed<'a> for BoardLists<'a> {
         room: &mut R,
         out: &mut S,
     ) -> Result<Result<(), K::Fault>, Panic> {
-        let mut starts = links.take_starts()?;
-        let given = self.give(x, &mut starts, sink, room, out);
-        links.keep_starts(starts);
-        Ok(given)
+        self.give_with(x, links, sink, room, out)
     }
 
     fn count_at(&self, x: &[u32]) -> Option<u64> {

@@ -1,7 +1,9 @@
 //! The accepted parameters of a generator: what is known of its graph without the graph.
-ghost use Rattle.std.specs.Prelude.{◌≡◌, ◌≢◌, length, Err, Ok, IfErr, IfOk, IsOkUnless};
+ghost use Rattle.std.specs.Prelude.{◌≡◌, ◌≢◌, ◌≤◌, length, map, Err, Ok, IfErr, IfOk, IsOkUnless};
 ghost use Rattle.sgb_graph.specs.Descriptions.{IsAnswerOf};
-ghost use Rattle.sgb_gen.specs.Generators.{IsAcceptedAtOnce, IsGeneratorRefused, IsLocalOf, described, generator_value, sort_made, sort_of};
+ghost use Rattle.sgb_gen.specs.Generators.{IsAcceptedAtOnce, IsGeneratorRefused, IsLocalOf, described, generator_value, sort_made, sort_of, vector_graph_of, vectors_of};
+ghost use Rattle.sgb_vec.specs.Limits.{most_vertices};
+ghost use Rattle.sgb_vec.specs.Names.{name_of_vector};
 ghost use Rattle.sgb_graph.specs.Made.{graph_described};
 ghost use Rattle.sgb_gen.specs.Boards.{BoardData, accepted_board};
 ghost use Rattle.sgb_gen.specs.declared.params.BoardParams.{BoardParams};
@@ -9,7 +11,7 @@ ghost use Rattle.sgb_gen.specs.declared.params.BoardParams.{BoardParams};
 use crate::accepted::{Board, Simplex, Subsets};
 use crate::links::Links;
 use crate::params::Generator;
-use sgb_graph::{Graph, Id, Kind};
+use sgb_graph::{Graph, Id, Kind, Names};
 use sgb_vec::{Family, Panic};
 use std::alloc::Global;
 
@@ -98,6 +100,32 @@ impl Local {
         kinds[4] = Kind::I;
         kinds[5] = Kind::I;
         kinds
+    }
+
+    /// Whether the graph has arcs, and not edges. No memory is taken.
+    pub fn is_directed(&self) -> bool
+        ensures { result ≡ (vector_graph_of self.now).directed }
+    {
+        match self {
+            Local::Board(board) => board.is_directed(),
+            Local::Simplex(simplex) => simplex.is_directed(),
+            Local::Subsets(subsets) => subsets.is_directed(),
+        }
+    }
+
+    /// The names of its vertices, in order.
+    ///
+    /// `NoRoom` when out of memory, and nothing else.
+    pub(crate) fn names(&self, alloc: Global) -> Result<Names, Panic>
+        ensures ok { IfOk result (λ names. names ≡ map name_of_vector (vectors_of self.now)) }
+        ensures few { length (vectors_of self.now) ≤ most_vertices }
+        ensures memory { IsOkUnless result Panic.NoRoom }
+    {
+        match self {
+            Local::Board(board) => board.names(alloc),
+            Local::Simplex(simplex) => simplex.names(alloc),
+            Local::Subsets(subsets) => subsets.names(alloc),
+        }
     }
 
     /// The graph, with its arcs (GB_BASIC).

@@ -31,6 +31,8 @@ pub mod TallyLemmas
 pub mod CommonEvents
 -- arcs as far as their tips and lengths go
 pub mod BareArcs
+-- the events of arcs that are handed out one by one
+pub mod KeptEvents
 -- the arcs of a copy
 pub mod CopiedArcs
 -- marks at the tips of arcs

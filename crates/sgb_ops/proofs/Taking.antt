@@ -28,7 +28,7 @@ pub taken_up : (directed : Bool) (g : GraphData) (v : ℕ) → All (λ l. direct
 taken_up directed g v = grind (arith, each_edge_once_leads_up)
 
 -- taken of two lists, one after the other
-taken_apart : (v low : ℕ) (xs ys : List Link) → All (λ l. low ≤ l.number) xs → All (λ l. l.number < low) ys
+pub taken_apart : (v low : ℕ) (xs ys : List Link) → All (λ l. low ≤ l.number) xs → All (λ l. l.number < low) ys
     → each_edge_once v (xs ++ ys) ≡ each_edge_once v xs ++ each_edge_once v ys
 unfolding each_edge_once
 taken_apart v low [] ys high below = refl
@@ -37,24 +37,25 @@ taken_apart v low (l ∷ []) (y ∷ ys) high below = grind (arith, All-head, ne_
 taken_apart v low (l ∷ m ∷ xs) ys high below = grind (arith, All-tail, nat_lt, taken_apart v low (m ∷ xs) ys (All-tail (λ x. low ≤ x.number) l (m ∷ xs) high) below, taken_apart v low xs ys (All-tail (λ x. low ≤ x.number) m xs (All-tail (λ x. low ≤ x.number) l (m ∷ xs) high)) below)
 
 -- of the records of one edge the lower one is taken, at the smaller end
-one_edge : (v k a b : ℕ) (far : ℤ) → a ≤ b
+pub one_edge : (v k a b : ℕ) (far : ℤ) → a ≤ b
     → each_edge_once v (links_at v k (record_from a b far ∷ record_from b a far ∷ [])) ≡ (if a == v then link k b far ∷ [] else [])
 unfolding each_edge_once
 one_edge v k a b far up = search (rules, cases_eq, eq-eqb, le-ltb, ne_eqb, lt-ltb)
 
 -- the numbers of the links of some rows
-numbers_at : (v k : ℕ) (rows : List Record) → All (λ l. (k ≤ l.number) × (l.number < k + length rows)) (links_at v k rows)
+pub numbers_at : (v k : ℕ) (rows : List Record) → All (λ l. (k ≤ l.number) × (l.number < k + length rows)) (links_at v k rows)
 numbers_at v k [] = All-nil _
 numbers_at v k (r ∷ rows) = grind (arith, All-append, cond_both, All-cons, All-nil, All-weaker, numbers_at v (k + 1) rows)
 
 -- the numbers on the list of events whose first record has number k
-numbers_from_first : (k : ℕ) (events : List Event) (v : ℕ) → All (λ l. k ≤ l.number) (list_from false k events v)
+pub numbers_from_first : (directed : Bool) (k : ℕ) (events : List Event) (v : ℕ) → All (λ l. k ≤ l.number) (list_from directed k events v)
 unfolding list_from
-numbers_from_first k [] v = All-nil _
-numbers_from_first k (e ∷ events) v =
-    All-append (λ l. k ≤ l.number) (list_from false (k + 2) events v) (links_at v k (records_of false e))
-    (All-weaker (λ l. k + 2 ≤ l.number) (λ l. k ≤ l.number) (λ l p. omega (arith, p)) _ (numbers_from_first (k + 2) events v))
-    (All-weaker (λ l. (k ≤ l.number) × (l.number < k + 2)) (λ l. k ≤ l.number) (λ l p. p.0) _ (numbers_at v k (records_of false e)))
+numbers_from_first directed k [] v = All-nil _
+numbers_from_first directed k (e ∷ events) v =
+    let low = k + length (records_of directed e) in
+    All-append (λ l. k ≤ l.number) (list_from directed low events v) (links_at v k (records_of directed e))
+    (All-weaker (λ l. low ≤ l.number) (λ l. k ≤ l.number) (λ l p. omega (arith, p)) _ (numbers_from_first directed low events v))
+    (All-weaker (λ l. (k ≤ l.number) × (l.number < low)) (λ l. k ≤ l.number) (λ l p. p.0) _ (numbers_at v k (records_of directed e)))
 
 -- taken of the list of the events, whose first one has this place
 taken_from : (v i : ℕ) (events : List Event)
@@ -65,7 +66,7 @@ taken_from v i (e ∷ events) =
     let next = taken_from v (i + 1) events in
     let place : 2 * (i + 1) ≡ 2 * i + 2 = omega arith in
     let own = one_edge v (2 * i) (min e.from e.to) (max e.from e.to) e.len (omega arith) in
-    taken_apart v (2 * i + 2) (list_from false (2 * i + 2) events v) (links_at v (2 * i) (records_of false e)) (numbers_from_first (2 * i + 2) events v)
+    taken_apart v (2 * i + 2) (list_from false (2 * i + 2) events v) (links_at v (2 * i) (records_of false e)) (numbers_from_first false (2 * i + 2) events v)
     (All-weaker (λ l. (2 * i ≤ l.number) × (l.number < 2 * i + 2)) (λ l. l.number < 2 * i + 2) (λ l p. p.1) _ (numbers_at v (2 * i) (records_of false e)))
     ∙ (ap (λ xs. xs ++ each_edge_once v (links_at v (2 * i) (records_of false e))) (ap (λ k. each_edge_once v (list_from false k events v)) (sym place) ∙ next)
     ∙ (ap (λ ys. reverse (map lower_record later) ++ ys) own ∙ by_end (min e.from e.to == v)))

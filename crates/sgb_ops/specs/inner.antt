@@ -37,5 +37,7 @@ pub mod Sources
 pub mod Steps
 -- the arcs taken of a list, met one by one
 pub mod TakenArcs
+-- arcs that are handed out one by one, and the events of those taken
+pub mod TakenEvents
 -- what is noted of the arcs to each vertex
 pub mod Tallies

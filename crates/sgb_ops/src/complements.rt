@@ -10,9 +10,9 @@ ghost use Rattle.sgb_ops.specs.inner.Sources.{HasTips};
 
 use crate::compounds::flag_byte;
 use crate::events::Event;
-use crate::sources::Source;
+use crate::sources::{ListRoom, Source};
 use sgb_graph::{Graph, Id, compound_id};
-use sgb_vec::{Panic, Vector};
+use sgb_vec::Panic;
 use std::alloc::Global;
 
 /// The complement of a graph, or a copy of it without parallel arcs (GB_BASIC, complement): the graph of the same
@@ -99,10 +99,18 @@ impl Wanted {
         // The tips of each vertex take the memory of those of the vertex before.
         let mut tips = Vec::new(alloc);
         let mut room = Vec::new(alloc);
-        let mut x = Vector::new();
+        let mut lists = ListRoom::new(alloc);
         for u in 0..graph.n() {
             graph.read_ahead(u);
-            mark_arcs(&mut marks, graph, u, u + 1, &mut tips, &mut room, &mut x)?;
+            mark_arcs(
+                &mut marks,
+                graph,
+                u,
+                u + 1,
+                &mut tips,
+                &mut room,
+                &mut lists,
+            )?;
             self.add_arcs_from(graph, u, &marks, built)?;
         }
         Ok(())
@@ -125,10 +133,10 @@ impl Wanted {
         // The tips of each vertex take the memory of those of the vertex before.
         let mut tips = Vec::new(alloc);
         let mut room = Vec::new(alloc);
-        let mut x = Vector::new();
+        let mut lists = ListRoom::new(alloc);
         for u in 0..graph.n() {
             graph.read_ahead(u);
-            put_tips(&mut tips, graph, u, &mut room, &mut x)?;
+            put_tips(&mut tips, graph, u, &mut room, &mut lists)?;
             self.add_arcs_to(u, tips.as_slice(), built)?;
         }
         Ok(())
@@ -197,7 +205,7 @@ impl Wanted {
     }
 }
 
-// Puts `mark` at each vertex that the list of `u` leads to. `tips`, `room` and `x` are what these are found with.
+// Puts `mark` at each vertex that the list of `u` leads to. `tips`, `room` and `lists` are what these are found with.
 fn mark_arcs(
     marks: &mut [u32],
     graph: &Source<'_>,
@@ -205,7 +213,7 @@ fn mark_arcs(
     mark: u32,
     tips: &mut Vec<u32>,
     room: &mut Vec<Event>,
-    x: &mut Vector,
+    lists: &mut ListRoom,
 ) -> Result<(), Panic>
     requires vertex { u < length graph.now.vertices }
     requires tips { HasTips graph.now }
@@ -214,7 +222,7 @@ fn mark_arcs(
         ≡ (if has_arc graph.now u w then mark else slice_index marks.old w)) }
     ensures memory { IsOkUnless result Panic.NoRoom }
 {
-    graph.take_tips(tips, u, room, x)?;
+    graph.take_tips(tips, u, room, lists)?;
     mark_tips(marks, tips, mark);
     Ok(())
 }
@@ -230,14 +238,14 @@ fn mark_tips(marks: &mut [u32], tips: &[u32], mark: u32)
     }
 }
 
-// Puts the vertices that the list of `u` leads to into `tips`, in order and each once. `room` and `x` are what they are found
-// with.
+// Puts the vertices that the list of `u` leads to into `tips`, in order and each once. `room` and `lists` are what they are
+// found with.
 fn put_tips(
     tips: &mut Vec<u32>,
     graph: &Source<'_>,
     u: u32,
     room: &mut Vec<Event>,
-    x: &mut Vector,
+    lists: &mut ListRoom,
 ) -> Result<(), Panic>
     requires vertex { u < length graph.now.vertices }
     requires tips { HasTips graph.now }
@@ -247,7 +255,7 @@ fn put_tips(
     ensures within { OnOk result (All (λ t. t < length graph.now.vertices) tips.new.items) }
     ensures memory { IsOkUnless result Panic.NoRoom }
 {
-    graph.take_tips(tips, u, room, x)?;
+    graph.take_tips(tips, u, room, lists)?;
     put_in_order(tips);
     Ok(())
 }

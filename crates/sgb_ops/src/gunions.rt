@@ -11,9 +11,9 @@ ghost use Rattle.sgb_ops.specs.inner.Gunion.{union_arcs};
 use crate::compounds::flag_byte;
 use crate::events::{Event, add_events};
 use crate::merged::merged_unless;
-use crate::sources::Source;
+use crate::sources::{ListRoom, Source};
 use sgb_graph::{Graph, Id, double_compound_id};
-use sgb_vec::{Panic, Vector};
+use sgb_vec::Panic;
 use std::alloc::Global;
 
 /// The union of two graphs (GB_BASIC, gunion): the graph of the names of `first` whose arcs, or edges unless
@@ -86,11 +86,12 @@ fn add_union_events(
 {
     // The events of each vertex take the memory of those of the vertex before.
     let mut room = Vec::new(alloc);
-    let mut x = Vector::new();
+    let mut ours = ListRoom::new(alloc);
+    let mut theirs = ListRoom::new(alloc);
     for v in 0..first.n() {
         first.read_ahead(v);
         second.read_ahead(v);
-        let all = events_from(room, first, second, directed, v, &mut x)?;
+        let all = events_from(room, first, second, directed, v, &mut ours, &mut theirs)?;
         let events = merged_unless(alloc, multi, directed, all)?;
         add_events(built, directed, &events)?;
         room = events;
@@ -98,15 +99,16 @@ fn add_union_events(
     Ok(())
 }
 
-// The events of vertex `v`, with parallel ones. They take the memory of those in `events`. `x` is what they are found with:
-// what it holds is open.
+// The events of vertex `v`, with parallel ones. They take the memory of those in `events`. `ours` and `theirs` are what those
+// of each graph are found with.
 fn events_from(
     mut events: Vec<Event>,
     first: &Source<'_>,
     second: &Source<'_>,
     directed: bool,
     v: u32,
-    x: &mut Vector,
+    ours: &mut ListRoom,
+    theirs: &mut ListRoom,
 ) -> Result<Vec<Event>, Panic>
     requires vertex { v < length first.now.vertices }
     ensures ok { IfOk result (λ events. events.items
@@ -114,10 +116,10 @@ fn events_from(
     ensures memory { IsOkUnless result Panic.NoRoom }
 {
     events.clear();
-    first.push_taken(&mut events, directed, v, first.n(), x)?;
+    first.push_taken(&mut events, directed, v, first.n(), ours)?;
     if v >= second.n() {
         return Ok(events);
     }
-    second.push_taken(&mut events, directed, v, first.n(), x)?;
+    second.push_taken(&mut events, directed, v, first.n(), theirs)?;
     Ok(events)
 }

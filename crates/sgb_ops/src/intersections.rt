@@ -9,10 +9,10 @@ ghost use Rattle.sgb_ops.specs.inner.Compounds.{intersection_id};
 
 use crate::compounds::flag_byte;
 use crate::events::{Event, graph_of};
-use crate::sources::Source;
+use crate::sources::{ListRoom, Source};
 use crate::tallies::{Tally, count_to, make_room, note, take_out, tally_to};
 use sgb_graph::{Graph, Id, Link, double_compound_id};
-use sgb_vec::{Panic, Vector};
+use sgb_vec::Panic;
 use std::alloc::Global;
 
 // Of so many arcs at most those to one tip are searched for one by one: with more, a table is quicker.
@@ -87,13 +87,14 @@ fn common_arcs(
     let mut ours = Vec::new(alloc);
     let mut theirs = Vec::new(alloc);
     let mut room = Vec::new(alloc);
-    let mut x = Vector::new();
+    let mut first_lists = ListRoom::new(alloc);
+    let mut second_lists = ListRoom::new(alloc);
     let mut tables = Tables::new(alloc, first.n().max(second.n()));
     for v in 0..first.n().min(second.n()) {
         first.read_ahead(v);
         second.read_ahead(v);
-        first.take_arcs(&mut ours, directed, v, &mut room, &mut x)?;
-        second.take_arcs(&mut theirs, directed, v, &mut room, &mut x)?;
+        first.take_arcs(&mut ours, directed, v, &mut room, &mut first_lists)?;
+        second.take_arcs(&mut theirs, directed, v, &mut room, &mut second_lists)?;
         push_common(&mut events, &mut tables, multi, v, &ours, &theirs)?;
     }
     Ok(events)

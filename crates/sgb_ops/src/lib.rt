@@ -31,6 +31,8 @@ mod products;
 mod sources;
 // The arcs taken of a vertex, each edge once.
 mod taken;
+// Arcs that are handed out, and taken as events.
+mod taken_events;
 // How many arcs lead to each vertex, and the least length.
 mod tallies;
 // Wheels.

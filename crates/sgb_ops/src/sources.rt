@@ -1,24 +1,34 @@
 //! The graphs that an operation reads, list by list.
 //!
-//! That of a board with no side that wraps around need not be built: each of its lists is had by strides when it is read.
-ghost use Rattle.std.specs.Prelude.{◌≡◌, ◌<◌, ◌≤◌, ◌+◌, ◌*◌, ◌++◌, ℕ, length, map, filter, nat_lt, pos, reverse, [], ◌∷◌, if◌then◌else◌, All, OnOk, IfOk, IsOkUnless};
+//! That of a generator need not be built: of a board with no side that wraps around each list is had by strides when it is read,
+//! and of any other the arcs are handed out one by one.
+ghost use Rattle.std.specs.Prelude.{◌≡◌, ◌<◌, ◌≤◌, ◌++◌, [], ◌∷◌, length, map, filter, nat_lt, if◌then◌else◌, All, OnOk, IfOk, IsOkUnless};
 ghost use Rattle.sgb_vec.specs.Limits.{most_vertices};
 ghost use Rattle.sgb_graph.specs.Graphs.{chain_of};
 ghost use Rattle.sgb_graph.specs.Made.{graph_described};
 ghost use Rattle.sgb_graph.specs.Vertices.{names_of};
 ghost use Rattle.sgb_gen.specs.Boards.{board_vector_graph};
-ghost use Rattle.sgb_gen.specs.Strides.{lengths_to, tips_ahead, tips_back};
+ghost use Rattle.sgb_gen.specs.Generators.{described};
 ghost use Rattle.sgb_gen.specs.VectorGraphs.{described_by};
 ghost use Rattle.sgb_ops.specs.Taken.{taken};
 ghost use Rattle.sgb_ops.specs.inner.Ends.{event_of};
-ghost use Rattle.sgb_ops.specs.inner.Sources.{HasTips, bare, event_to, events_to, link_of, names_held};
+ghost use Rattle.sgb_ops.specs.inner.Sources.{HasTips, bare, link_of, names_held};
+
+// The lists of a board with no side that wraps around.
+mod flat;
+// Those of any generator's graph.
+mod listed;
 
 use crate::events::Event;
 use crate::operands::{VertexNames, names_of};
 use crate::taken::taken;
-use sgb_gen::{FlatLists, Strides};
+pub(crate) use flat::push_event;
+use flat::{push_flat, put_flat};
+pub(crate) use listed::ListRoom;
+use listed::{push_listed, put_listed};
+use sgb_gen::{FlatLists, LocalLists};
 use sgb_graph::{Graph, Id, Link, Names};
-use sgb_vec::{Panic, Vector};
+use sgb_vec::Panic;
 use std::alloc::Global;
 use std::marker::Model;
 
@@ -35,6 +45,8 @@ enum SourceKind<'a> {
     Built(&'a Graph),
     // It is a board's, and not built.
     Flat(&'a FlatLists<'a>),
+    // It is a generator's, and not built.
+    Listed(&'a LocalLists<'a>),
 }
 
 impl<'a> Model for Source<'a> {
@@ -65,6 +77,15 @@ impl<'a> Source<'a> {
         }
     }
 
+    /// The graph of a generator that is not built.
+    pub fn listed(lists: &'a LocalLists<'a>) -> Source<'a>
+        ensures { result ≡ graph_described (described lists.now) }
+    {
+        Source {
+            kept: SourceKind::Listed(lists),
+        }
+    }
+
     /// How many vertices it has. All arcs lead to these.
     pub(crate) fn n(&self) -> u32
         ensures count { result ≡ length self.now.vertices }
@@ -73,6 +94,7 @@ impl<'a> Source<'a> {
         match &self.kept {
             SourceKind::Built(graph) => graph.n(),
             SourceKind::Flat(lists) => lists.size(),
+            SourceKind::Listed(lists) => lists.size(),
         }
     }
 
@@ -83,6 +105,7 @@ impl<'a> Source<'a> {
         match &self.kept {
             SourceKind::Built(graph) => graph.id(),
             SourceKind::Flat(lists) => lists.id(),
+            SourceKind::Listed(lists) => lists.id(),
         }
     }
 
@@ -97,6 +120,7 @@ impl<'a> Source<'a> {
         match &self.kept {
             SourceKind::Built(graph) => names_of(alloc, graph),
             SourceKind::Flat(lists) => lists.names(alloc),
+            SourceKind::Listed(lists) => lists.names(alloc),
         }
     }
 
@@ -107,11 +131,10 @@ impl<'a> Source<'a> {
         ensures ok { IfOk result (λ names. names_held names ≡ names_of self.now) }
         ensures memory { IsOkUnless result Panic.NoRoom }
     {
-        let lists = match &self.kept {
-            SourceKind::Built(graph) => return Ok(VertexNames::Of(graph)),
-            SourceKind::Flat(lists) => lists,
-        };
-        let names = lists.names(alloc)?;
+        if let SourceKind::Built(graph) = &self.kept {
+            return Ok(VertexNames::Of(graph));
+        }
+        let names = self.names(alloc)?;
         Ok(VertexNames::Made(names))
     }
 
@@ -119,7 +142,7 @@ impl<'a> Source<'a> {
     pub(crate) fn most_arcs(&self) -> usize {
         match &self.kept {
             SourceKind::Built(graph) => graph.records_len(),
-            SourceKind::Flat(_) => 0,
+            _ => 0,
         }
     }
 
@@ -127,12 +150,11 @@ impl<'a> Source<'a> {
     pub(crate) fn read_ahead(&self, v: u32) {
         match &self.kept {
             SourceKind::Built(graph) => graph.read_ahead(v),
-            SourceKind::Flat(_) => {}
+            _ => {}
         }
     }
 
-    /// Appends the events of the arcs taken of vertex `v` whose tip is below `n`. `x` is what they are found with: what it holds
-    /// is open.
+    /// Appends the events of the arcs taken of vertex `v` whose tip is below `n`. `room` is what they are found with.
     ///
     /// `NoRoom` when out of memory, and nothing else.
     pub(crate) fn push_taken(
@@ -141,7 +163,7 @@ impl<'a> Source<'a> {
         directed: bool,
         v: u32,
         n: u32,
-        x: &mut Vector,
+        room: &mut ListRoom,
     ) -> Result<(), Panic>
         requires vertex { v < length self.now.vertices }
         ensures ok { OnOk result (events.new.items ≡ events.old.items
@@ -150,12 +172,13 @@ impl<'a> Source<'a> {
     {
         match &self.kept {
             SourceKind::Built(graph) => push_taken(events, graph, directed, v, n),
-            SourceKind::Flat(lists) => push_listed(events, lists, directed, v, n, x),
+            SourceKind::Flat(lists) => push_flat(events, lists, directed, v, n, room),
+            SourceKind::Listed(lists) => push_listed(events, lists, directed, v, n, room),
         }
     }
 
-    /// Makes `arcs` those that are taken of vertex `v`, as far as their tips and lengths go. `events` and `x` are what they are
-    /// found with: what these hold is open.
+    /// Makes `arcs` those that are taken of vertex `v`, as far as their tips and lengths go. `events` and `room` are what they
+    /// are found with: what the events are is open.
     ///
     /// `NoRoom` when out of memory, and nothing else.
     pub(crate) fn take_arcs(
@@ -164,7 +187,7 @@ impl<'a> Source<'a> {
         directed: bool,
         v: u32,
         events: &mut Vec<Event>,
-        x: &mut Vector,
+        room: &mut ListRoom,
     ) -> Result<(), Panic>
         requires vertex { v < length self.now.vertices }
         ensures ok { OnOk result (map bare arcs.new.items ≡ map bare (taken directed self.now v)) }
@@ -175,15 +198,20 @@ impl<'a> Source<'a> {
         match &self.kept {
             SourceKind::Built(graph) => push_links(arcs, graph, directed, v),
             SourceKind::Flat(lists) => {
-                put_listed(events, lists, directed, v, x)?;
+                put_flat(events, lists, directed, v, room)?;
+                push_links_of(arcs, events)?;
+                Ok(())
+            }
+            SourceKind::Listed(lists) => {
+                put_listed(events, lists, directed, v, room)?;
                 push_links_of(arcs, events)?;
                 Ok(())
             }
         }
     }
 
-    /// Makes `tips` the vertices that the list of vertex `v` leads to, in its order. `events` and `x` are what they are found
-    /// with: what these hold is open.
+    /// Makes `tips` the vertices that the list of vertex `v` leads to, in its order. `events` and `room` are what they are
+    /// found with: what the events are is open.
     ///
     /// `NoRoom` when out of memory, and nothing else.
     pub(crate) fn take_tips(
@@ -191,7 +219,7 @@ impl<'a> Source<'a> {
         tips: &mut Vec<u32>,
         v: u32,
         events: &mut Vec<Event>,
-        x: &mut Vector,
+        room: &mut ListRoom,
     ) -> Result<(), Panic>
         requires vertex { v < length self.now.vertices }
         ensures ok { OnOk result (tips.new.items ≡ map (λ l. l.tip) (chain_of self.now v)) }
@@ -201,7 +229,12 @@ impl<'a> Source<'a> {
         match &self.kept {
             SourceKind::Built(graph) => push_tips(tips, graph, v),
             SourceKind::Flat(lists) => {
-                put_listed(events, lists, true, v, x)?;
+                put_flat(events, lists, true, v, room)?;
+                push_tips_of(tips, events)?;
+                Ok(())
+            }
+            SourceKind::Listed(lists) => {
+                put_listed(events, lists, true, v, room)?;
                 push_tips_of(tips, events)?;
                 Ok(())
             }
@@ -284,128 +317,6 @@ fn push_arc(events: &mut Vec<Event>, v: u32, link: Link, n: u32) -> Result<(), P
 {
     if link.tip < n {
         events.push(Event::new(v, link.tip, link.len))?;
-    }
-    Ok(())
-}
-
-// Makes `events` those of the arcs taken of `v` on a board, all of which lead to its vertices.
-fn put_listed(
-    events: &mut Vec<Event>,
-    lists: &FlatLists<'_>,
-    directed: bool,
-    v: u32,
-    x: &mut Vector,
-) -> Result<(), Panic>
-    requires vertex { v < length
-        (graph_described (described_by (board_vector_graph lists.now))).vertices }
-    ensures ok { OnOk result (events.new.items ≡ map (event_of v)
-        (taken directed (graph_described (described_by (board_vector_graph lists.now))) v)) }
-    ensures tips { HasTips (graph_described (described_by (board_vector_graph lists.now))) }
-    ensures memory { IsOkUnless result Panic.NoRoom }
-{
-    events.clear();
-    push_listed(events, lists, directed, v, lists.size(), x)
-}
-
-// Appends the events of the arcs taken of `v` on a board whose tip is below `n`.
-fn push_listed(
-    events: &mut Vec<Event>,
-    lists: &FlatLists<'_>,
-    directed: bool,
-    v: u32,
-    n: u32,
-    x: &mut Vector,
-) -> Result<(), Panic>
-    requires vertex { v < length
-        (graph_described (described_by (board_vector_graph lists.now))).vertices }
-    ensures ok { OnOk result (events.new.items ≡ events.old.items
-        ++ map (event_of v) (filter (λ l. nat_lt l.tip n) (taken directed
-        (graph_described (described_by (board_vector_graph lists.now))) v))) }
-    ensures memory { IsOkUnless result Panic.NoRoom }
-{
-    lists.put_vector(v, x);
-    push_strides(events, lists.strides_at(x.as_slice(), v), directed, n)
-}
-
-// Appends the events of the arcs of a list, those to earlier vertices only for a directed result, whose tip is below `n`.
-fn push_strides(
-    events: &mut Vec<Event>,
-    strides: Strides<'_>,
-    directed: bool,
-    n: u32,
-) -> Result<(), Panic>
-    ensures ok { OnOk result (events.new.items ≡ events.old.items
-        ++ events_to directed strides.entry.vertex n strides.entry.tips strides.entry.lengths) }
-    ensures memory { IsOkUnless result Panic.NoRoom }
-{
-    let mut left = strides;
-    let v = left.vertex();
-    for _stride in 0..left.len() {
-        let stride = left.next_stride();
-        push_ahead(events, v, stride.places, stride.farthest, directed, n)?;
-        push_back(events, v, stride.places, stride.farthest_back, directed, n)?;
-    }
-    Ok(())
-}
-
-// Appends those of the arcs ahead by a stride, the longest first.
-fn push_ahead(
-    events: &mut Vec<Event>,
-    v: u32,
-    places: u32,
-    farthest: u32,
-    directed: bool,
-    n: u32,
-) -> Result<(), Panic>
-    requires { (l : ℕ) → 0 < l → l ≤ farthest → v + l * places < most_vertices }
-    ensures ok { OnOk result (events.new.items ≡ events.old.items ++ events_to directed v n
-        (reverse (tips_ahead v places farthest)) (reverse (lengths_to farthest))) }
-    ensures memory { IsOkUnless result Panic.NoRoom }
-{
-    for shorter in (0..farthest).rev() {
-        let l = shorter + 1;
-        push_event(events, v, v + l * places, l, directed, n)?;
-    }
-    Ok(())
-}
-
-// Appends those of the arcs back by a stride, the shortest first.
-fn push_back(
-    events: &mut Vec<Event>,
-    v: u32,
-    places: u32,
-    farthest: u32,
-    directed: bool,
-    n: u32,
-) -> Result<(), Panic>
-    requires { (l : ℕ) → 0 < l → l ≤ farthest → l * places ≤ v }
-    ensures ok { OnOk result (events.new.items ≡ events.old.items ++ events_to directed v n
-        (tips_back v places farthest) (lengths_to farthest)) }
-    ensures memory { IsOkUnless result Panic.NoRoom }
-{
-    for shorter in 0..farthest {
-        let l = shorter + 1;
-        push_event(events, v, v - l * places, l, directed, n)?;
-    }
-    Ok(())
-}
-
-// Appends the event of an arc of `v`, where it is taken and its tip is below `n`.
-#[inline(always)]
-fn push_event(
-    events: &mut Vec<Event>,
-    v: u32,
-    tip: u32,
-    len: u32,
-    directed: bool,
-    n: u32,
-) -> Result<(), Panic>
-    ensures ok { OnOk result (events.new.items
-        ≡ events.old.items ++ event_to directed v n tip (pos len)) }
-    ensures memory { IsOkUnless result Panic.NoRoom }
-{
-    if tip < n && (directed || tip >= v) {
-        events.push(Event::new(v, tip, i64::from(len)))?;
     }
     Ok(())
 }

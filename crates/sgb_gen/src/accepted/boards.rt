@@ -3,6 +3,8 @@ ghost use Rattle.sgb_gen.specs.Boards.{accepted_board, board_id, piece_of, board
 ghost use Rattle.sgb_gen.specs.Limits.{most_piece};
 ghost use Rattle.std.specs.List.{flat_map};
 ghost use Rattle.sgb_vec.specs.Boxes.{box};
+ghost use Rattle.sgb_vec.specs.Limits.{most_vertices};
+ghost use Rattle.sgb_vec.specs.Names.{name_of_vector};
 ghost use Rattle.sgb_vec.specs.Lexicographic.{IsBelow};
 ghost use Rattle.sgb_graph.specs.Descriptions.{IsAnswerOf};
 ghost use Rattle.sgb_graph.specs.Growth.{AddsEvents, HasPlainArcs};
@@ -37,7 +39,7 @@ pub use board_lists::BoardLists;
 pub use flat_boards::FlatLists;
 pub use ordered_boards::OrderedBoard;
 pub use runs::{Run, Runs};
-use sgb_graph::{Graph, Id, IdWriter};
+use sgb_graph::{Graph, Id, IdWriter, Names};
 use sgb_vec::{BoxFamily, Family, Panic, Shape, Vector, Vectors, board_sizes};
 use std::alloc::Global;
 use std::marker::Model;
@@ -144,6 +146,24 @@ impl Board {
         ensures { result.now ≡ self.now.sizes }
     {
         self.shape.sizes()
+    }
+
+    /// The names of its vertices, in order.
+    ///
+    /// `NoRoom` when out of memory, and nothing else.
+    pub(crate) fn names(&self, alloc: Global) -> Result<Names, Panic>
+        ensures ok { IfOk result (λ names. names ≡ map name_of_vector (box self.now.sizes)) }
+        ensures few { length (box self.now.sizes) ≤ most_vertices }
+        ensures memory { IsOkUnless result Panic.NoRoom }
+    {
+        vector_names(alloc, &self.family)
+    }
+
+    /// Whether its graph has arcs, and not edges.
+    pub fn is_directed(&self) -> bool
+        ensures { result ≡ self.now.directed }
+    {
+        self.directed
     }
 
     /// The id of the board's graph: `board(n1,n2,n3,n4,piece,wrap,directed)`, with 0 for what stands after the

@@ -2,7 +2,8 @@ ghost use Rattle.std.specs.Prelude.{◌≡◌, ◌⊎◌, Err, ◌<◌, ◌≤�
 ghost use Rattle.sgb_gen.specs.Simplexes.{accepted_simplex, simplex_id, moves_to, moves_of_simplex, simplex_vectors, simplex_vector_graph};
 ghost use Rattle.sgb_gen.specs.inner.Simplexes.{can_shift, shifted, pairs_from, moves_by};
 ghost use Rattle.sgb_vec.specs.Bounds.{simplex_of};
-ghost use Rattle.sgb_vec.specs.Limits.{most_dimensions};
+ghost use Rattle.sgb_vec.specs.Limits.{most_dimensions, most_vertices};
+ghost use Rattle.sgb_vec.specs.Names.{name_of_vector};
 ghost use Rattle.sgb_graph.specs.Descriptions.{IsAnswerOf};
 ghost use Rattle.sgb_graph.specs.Growth.{AddsEvents, HasPlainArcs};
 ghost use Rattle.sgb_gen.specs.VectorGraphs.{described_by, event_among, vertex_among};
@@ -15,7 +16,7 @@ use crate::counted_places::CountedPlaces;
 use crate::params::SimplexParams;
 use crate::shifts::{can_move_unit, unit_moved};
 use crate::vector_graphs::{put_coordinates, vector_names};
-use sgb_graph::{Graph, Id, IdWriter};
+use sgb_graph::{Graph, Id, IdWriter, Names};
 use sgb_vec::{Family, Panic, Shape, SumFamily, Vectors, simplex_bounds};
 use std::alloc::Global;
 use std::marker::Model;
@@ -133,6 +134,24 @@ impl Simplex {
         ensures few { length self.now.sum.bounds ≤ most_dimensions + 1 }
     {
         self.shape.sizes()
+    }
+
+    /// The names of its vertices, in order.
+    ///
+    /// `NoRoom` when out of memory, and nothing else.
+    pub(crate) fn names(&self, alloc: Global) -> Result<Names, Panic>
+        ensures ok { IfOk result (λ names. names ≡ map name_of_vector (simplex_vectors self.now)) }
+        ensures few { length (simplex_vectors self.now) ≤ most_vertices }
+        ensures memory { IsOkUnless result Panic.NoRoom }
+    {
+        vector_names(alloc, &self.family)
+    }
+
+    /// Whether its graph has arcs, and not edges.
+    pub fn is_directed(&self) -> bool
+        ensures { result ≡ self.now.directed }
+    {
+        self.directed
     }
 
     /// The id of the simplex's graph: `simplex(n,n0,n1,n2,n3,n4,directed)`, with -2 for an `n0` of 0, with `n`

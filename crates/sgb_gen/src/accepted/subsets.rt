@@ -5,7 +5,8 @@
 ghost use Rattle.std.specs.Prelude.{IfOk, IfSome, ◌≡◌, ◌⊎◌, Err, ◌<◌, ◌+◌, [], ◌∷◌, pos, length, map, min, slice_get, Some, Ok, OnOk, IsOkUnless, if◌then◌else◌, ◌≤◌, ◌^◌};
 ghost use Rattle.sgb_gen.specs.Subsets.{accepted_subsets, subsets_id, is_wanted_size, moves_to_place, subsets_vectors, moves_of_subsets, subsets_vector_graph, common_size};
 ghost use Rattle.sgb_vec.specs.Bounds.{simplex_of};
-ghost use Rattle.sgb_vec.specs.Limits.{most_dimensions};
+ghost use Rattle.sgb_vec.specs.Limits.{most_dimensions, most_vertices};
+ghost use Rattle.sgb_vec.specs.Names.{name_of_vector};
 ghost use Rattle.sgb_graph.specs.Descriptions.{IsAnswerOf};
 ghost use Rattle.sgb_graph.specs.Growth.{AddsEvents, HasPlainArcs};
 ghost use Rattle.sgb_gen.specs.VectorGraphs.{described_by, event_among};
@@ -22,7 +23,7 @@ mod sizes;
 use crate::counted_places::CountedPlaces;
 use crate::params::SubsetsParams;
 use crate::vector_graphs::{put_coordinates, vector_names};
-use sgb_graph::{Graph, Id, IdWriter};
+use sgb_graph::{Graph, Id, IdWriter, Names};
 use sgb_vec::{Family, Panic, Shape, SumFamily, Vectors, simplex_bounds};
 use std::alloc::Global;
 use std::marker::Model;
@@ -147,6 +148,24 @@ impl Subsets {
         ensures few { length self.now.sum.bounds ≤ most_dimensions + 1 }
     {
         self.shape.sizes()
+    }
+
+    /// The names of its vertices, in order.
+    ///
+    /// `NoRoom` when out of memory, and nothing else.
+    pub(crate) fn names(&self, alloc: Global) -> Result<Names, Panic>
+        ensures ok { IfOk result (λ names. names ≡ map name_of_vector (subsets_vectors self.now)) }
+        ensures few { length (subsets_vectors self.now) ≤ most_vertices }
+        ensures memory { IsOkUnless result Panic.NoRoom }
+    {
+        vector_names(alloc, &self.family)
+    }
+
+    /// Whether its graph has arcs, and not edges.
+    pub fn is_directed(&self) -> bool
+        ensures { result ≡ self.now.directed }
+    {
+        self.directed
     }
 
     /// The id of the graph of subsets: `subsets(n,n0,n1,n2,n3,n4,0xH,directed)`, with no bound above `n`, -2 for an

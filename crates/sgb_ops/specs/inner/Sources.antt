@@ -5,17 +5,19 @@ use Rattle.sgb_graph.specs.Graphs.{GraphData, chain_of}
 use Rattle.sgb_graph.specs.Made.{graph_described}
 use Rattle.sgb_graph.specs.declared.fields.Link.{Link}
 use Rattle.sgb_gen.specs.Boards.{board_vector_graph}
+use Rattle.sgb_gen.specs.Generators.{described}
 use Rattle.sgb_gen.specs.VectorGraphs.{described_by}
 use Rattle.sgb_graph.specs.Vertices.{names_of}
 use Rattle.sgb_ops.specs.declared.operands.VertexNames.{VertexNames}
 use Rattle.sgb_ops.specs.declared.operands.VertexNames.TheVariants.{Of, Made}
 use Rattle.sgb_ops.specs.declared.sources.SourceKind.{SourceKind}
-use Rattle.sgb_ops.specs.declared.sources.SourceKind.TheVariants.{Built, Flat}
+use Rattle.sgb_ops.specs.declared.sources.SourceKind.TheVariants.{Built, Flat, Listed}
 
 -- the graph that is kept so
 abbrev pub graph_kept : SourceKind → GraphData
 graph_kept (Built g) = g.now
 graph_kept (Flat b) = graph_described (described_by (board_vector_graph b.now))
+graph_kept (Listed l) = graph_described (described l.now)
 
 -- the names of a graph's vertices, as they are read
 abbrev pub names_held : VertexNames → List (List ℕ)

@@ -15,10 +15,10 @@ ghost use Rattle.std.specs.Prelude.{◌+◌};
 
 use crate::compounds::joined_name;
 use crate::operands::VertexNames;
-use crate::sources::Source;
+use crate::sources::{ListRoom, Source};
 use crate::taken::taken;
 use sgb_graph::{Graph, Link, Ref};
-use sgb_vec::{MOST_VERTICES, Panic, Text, Vector};
+use sgb_vec::{MOST_VERTICES, Panic, Text};
 use std::alloc::Global;
 
 // An arc or edge as a vertex of the line graph: its two ends.
@@ -49,9 +49,9 @@ fn lines_of_graph(alloc: Global, graph: &Source<'_>, directed: bool) -> Result<V
     // The arcs of each vertex take the memory of those of the vertex before.
     let mut arcs = Vec::new(alloc);
     let mut room = Vec::new(alloc);
-    let mut x = Vector::new();
+    let mut lists = ListRoom::new(alloc);
     for v in (0..graph.n()).rev() {
-        graph.take_arcs(&mut arcs, directed, v, &mut room, &mut x)?;
+        graph.take_arcs(&mut arcs, directed, v, &mut room, &mut lists)?;
         push_lines(&mut lines, v, &arcs)?;
     }
     Ok(lines)

@@ -5,13 +5,13 @@ ghost use Rattle.sgb_vec.specs.declared.panics.Panic.{Panic};
 ghost use Rattle.sgb_graph.specs.Descriptions.{IsAnswerOf};
 ghost use Rattle.sgb_graph.specs.Made.{graph_described};
 ghost use Rattle.sgb_gen.specs.Boards.{board_vector_graph};
-ghost use Rattle.sgb_gen.specs.Generators.{IsGeneratorRefused, generator_value, made};
+ghost use Rattle.sgb_gen.specs.Generators.{IsGeneratorRefused, described, generator_value, made};
 ghost use Rattle.sgb_gen.specs.VectorGraphs.{described_by};
 ghost use Rattle.sgb_expr.specs.Expression.{Lines};
 ghost use Rattle.sgb_values.specs.Values.{of_graph, of_graphs};
 ghost use Rattle.sgb_values.specs.inner.Operands.{graph_held, on_list, on_lists};
 
-use sgb_gen::{FlatLists, Generator, Local, local_of};
+use sgb_gen::{FlatLists, Generator, Local, LocalLists, local_of};
 use sgb_graph::Graph;
 use sgb_ops::{Source, complement_of, directed_lines_of, gunion_of, intersection_of, lines};
 use sgb_vec::Panic;
@@ -90,6 +90,16 @@ impl Operand {
         }
     }
 
+    // What its lists have in common, where it is a generator's. `None` where that is not kept, or out of memory.
+    fn lists(&self, alloc: Global) -> Option<LocalLists<'_>>
+        ensures { IfSome result (λ l. graph_held self.now ≡ graph_described (described l)) }
+    {
+        match self {
+            Operand::Listed(local) => local.lists(alloc),
+            Operand::Built(_) => None,
+        }
+    }
+
     // The graph, which is built now where it was not.
     fn graph(self, alloc: Global) -> Result<Graph, Panic>
         ensures ok { IfOk result (λ g. g ≡ graph_held self) }
@@ -114,8 +124,8 @@ pub(crate) fn generated(alloc: Global, generator: &Generator) -> Result<Operand,
     Ok(Operand::Listed(local))
 }
 
-/// The answer of an operation on an operand, which is then dropped. The lists of a board with no side that wraps around are
-/// read with no graph built.
+/// The answer of an operation on an operand, which is then dropped. The lists of a generator's graph are read with no graph built:
+/// those of a board with no side that wraps around by strides, and others as they are handed out.
 ///
 /// The refusal of the operation, or `NoRoom` when out of memory.
 pub(crate) fn answer_of_one(
@@ -127,6 +137,9 @@ pub(crate) fn answer_of_one(
 {
     if let Some(lists) = operand.flat_lists(alloc) {
         return operation.answer(alloc, &Source::flat(&lists));
+    }
+    if let Some(lists) = operand.lists(alloc) {
+        return operation.answer(alloc, &Source::listed(&lists));
     }
     let graph = operand.graph(alloc)?;
     operation.answer(alloc, &Source::built(&graph))
@@ -180,6 +193,9 @@ fn answer_of_two(
     if let Some(lists) = first.flat_lists(alloc) {
         return answer_with(alloc, operation, &Source::flat(&lists), second);
     }
+    if let Some(lists) = first.lists(alloc) {
+        return answer_with(alloc, operation, &Source::listed(&lists), second);
+    }
     let graph = first.graph(alloc)?;
     answer_with(alloc, operation, &Source::built(&graph), second)
 }
@@ -195,6 +211,9 @@ fn answer_with(
 {
     if let Some(lists) = second.flat_lists(alloc) {
         return operation.answer(alloc, first, &Source::flat(&lists));
+    }
+    if let Some(lists) = second.lists(alloc) {
+        return operation.answer(alloc, first, &Source::listed(&lists));
     }
     let graph = second.graph(alloc)?;
     operation.answer(alloc, first, &Source::built(&graph))

@@ -3,7 +3,7 @@
 //! They have their displacements in common, with their opposites. Where these are more than the table takes, or there
 //! is no memory, they are walked over for each vertex, from the last on. A body that built the whole graph would meet the contracts, which do
 //! not speak of room; the checks from outside see it (`great`).
-ghost use Rattle.std.specs.Prelude.{◌≡◌, ◌≤◌, ◌^◌, ◌⊎◌, [], length, pos, true, Contains, IfNone, IfSome, OnOk, OnErr, IsOkUnless};
+ghost use Rattle.std.specs.Prelude.{◌≡◌, ◌≤◌, ◌^◌, ◌⊎◌, [], length, pos, true, Contains, IfErr, IfNone, IfOk, IfSome, OnOk, OnErr, IsOkUnless};
 ghost use Rattle.sgb_vec.specs.Boxes.{box};
 ghost use Rattle.sgb_gen.specs.ArcSinks.{AreGiven};
 ghost use Rattle.sgb_gen.specs.Boards.{moves_of_board};
@@ -180,5 +180,32 @@ impl<'a> BoardLists<'a> {
             Some(table) => board.give_kept(x, table, self.in_order, starts, sink, room, out),
             None => board.give_walked(x, starts, sink, room, out),
         }
+    }
+
+    /// The same, with room for starts from links, whose arcs stay.
+    ///
+    /// The sink's fault, inside; or `NoRoom` when out of memory for a start, and nothing else: the sink was then handed nothing.
+    pub(crate) fn give_with<K: ArcSink<R, S>, R, S>(
+        &self,
+        x: &[u32],
+        links: &mut Links,
+        sink: &K,
+        room: &mut R,
+        out: &mut S,
+    ) -> Result<Result<(), K::Fault>, Panic>
+        requires member { Contains (box self.now.sizes) x.now }
+        requires width { K.width sink.now ≡ length x.now }
+        requires ready { K.ready sink.now room.old out.old }
+        ensures given { IfOk result (AreGiven (K.took sink.now) (K.cut sink.now) room.old out.old
+            (list_at self.now.directed (box self.now.sizes) (moves_of_board self.now) x.now)
+            room.new out.new) }
+        ensures ready { IfOk result (λ r. OnOk r (K.ready sink.now room.new out.new)) }
+        ensures memory { IsOkUnless result Panic.NoRoom }
+        ensures unput { IfErr result (λ p. (room.new ≡ room.old) × (out.new ≡ out.old)) }
+    {
+        let mut starts = links.take_starts()?;
+        let given = self.give(x, &mut starts, sink, room, out);
+        links.keep_starts(starts);
+        Ok(given)
     }
 }

@@ -8,3 +8,6 @@ returns-in-Built-clause-tips c = subst HasTips (ap graph_kept (sym c.in-Built.is
 
 pub returns-in-Flat-clause-tips : goal.returns-in-Flat-clause-tips
 returns-in-Flat-clause-tips c = subst HasTips (ap graph_kept (sym c.in-Flat.is) ∙ c.self.view_is) c.size.ensures.tips
+
+pub returns-in-Listed-clause-tips : goal.returns-in-Listed-clause-tips
+returns-in-Listed-clause-tips c = subst HasTips (ap graph_kept (sym c.in-Listed.is) ∙ c.self.view_is) c.size-in-Listed.ensures.tips

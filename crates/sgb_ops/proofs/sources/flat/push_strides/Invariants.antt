@@ -1,6 +1,6 @@
 use Rattle.std.proofs.Common.{◌≡◌, ◌+◌, ◌++◌, []}
 use Rattle.sgb_ops.specs.inner.Sources.{events_to}
-use Rattle.sgb_ops.proofs.sources.push_strides.Given as goal
+use Rattle.sgb_ops.proofs.sources.flat.push_strides.Given as goal
 
 -- the events of the arcs by the strides that are left are still to be put
 abbrev pub invariant-loop-stride : goal.invariant-loop-stride

@@ -1,6 +1,6 @@
 use Rattle.std.proofs.Common.{◌∙◌, ap, arith}
 use Rattle.sgb_ops.proofs.ListedEvents.{stride_put}
-use Rattle.sgb_ops.proofs.sources.push_strides.Goals as goal
+use Rattle.sgb_ops.proofs.sources.flat.push_strides.Goals as goal
 
 pub loop-stride-preserved : goal.loop-stride-preserved
 loop-stride-preserved c =

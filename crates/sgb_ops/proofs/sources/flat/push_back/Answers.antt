@@ -1,6 +1,6 @@
 use Rattle.std.proofs.Common.{◌+◌, arith, refl}
 use Rattle.sgb_ops.proofs.ListedEvents.{back_put}
-use Rattle.sgb_ops.proofs.sources.push_back.Goals as goal
+use Rattle.sgb_ops.proofs.sources.flat.push_back.Goals as goal
 
 pub loop-shorter-preserved : goal.loop-shorter-preserved
 loop-shorter-preserved c =

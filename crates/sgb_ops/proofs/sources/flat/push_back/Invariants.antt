@@ -1,6 +1,6 @@
 use Rattle.std.proofs.Common.{◌≡◌, ◌++◌}
 use Rattle.sgb_ops.proofs.ListedEvents.{left_back}
-use Rattle.sgb_ops.proofs.sources.push_back.Given as goal
+use Rattle.sgb_ops.proofs.sources.flat.push_back.Given as goal
 
 -- the events of greater lengths are still to be put
 abbrev pub invariant-loop-shorter : goal.invariant-loop-shorter

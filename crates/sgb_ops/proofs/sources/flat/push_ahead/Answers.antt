@@ -1,6 +1,6 @@
 use Rattle.std.proofs.Common.{◌-◌, ◌+◌, arith}
 use Rattle.sgb_ops.proofs.ListedEvents.{ahead_put}
-use Rattle.sgb_ops.proofs.sources.push_ahead.Goals as goal
+use Rattle.sgb_ops.proofs.sources.flat.push_ahead.Goals as goal
 
 pub loop-shorter-preserved : goal.loop-shorter-preserved
 loop-shorter-preserved c =

@@ -1,6 +1,6 @@
 use Rattle.std.proofs.Common.{◌≡◌, ◌++◌}
 use Rattle.sgb_ops.proofs.ListedEvents.{left_ahead}
-use Rattle.sgb_ops.proofs.sources.push_ahead.Given as goal
+use Rattle.sgb_ops.proofs.sources.flat.push_ahead.Given as goal
 
 -- the events of the lengths up to this one are still to be put
 abbrev pub invariant-loop-shorter : goal.invariant-loop-shorter

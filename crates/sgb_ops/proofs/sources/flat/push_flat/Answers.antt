@@ -2,7 +2,7 @@ use Rattle.sgb_graph.specs.Made.{graph_described}
 use Rattle.sgb_gen.specs.Boards.{board_vector_graph}
 use Rattle.sgb_gen.specs.VectorGraphs.{described_by}
 use Rattle.sgb_ops.proofs.ListedEvents.{listed_put}
-use Rattle.sgb_ops.proofs.sources.push_listed.Goals as goal
+use Rattle.sgb_ops.proofs.sources.flat.push_flat.Goals as goal
 
 pub returns-clause-ok : goal.returns-clause-ok
 returns-clause-ok c =
