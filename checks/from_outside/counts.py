@@ -30,7 +30,7 @@ ROWS = [
     Row("lists that are had run by run", ("list", "board(30,30,0,0,1,0,0)"), None, False, 1_720_000, 15, 4),
     Row("displacements in a table", ("list", "board(30,30,0,0,1,3,0)"), None, False, 1_900_000, 20, 4),
     Row("moves around a side, with no sort", ("list", "board(16,16,0,0,-1,3,0)"), None, False, 8_600_000, 30, 14),
-    Row("starts that are sorted together", ("list", "board(101,0,0,0,-4,1,0)"), None, False, 14_900_000, 30, 20),
+    Row("starts that are sorted together", ("list", "board(101,0,0,0,-4,1,0)"), None, False, 18_900_000, 30, 20),
     Row("beginnings that no wanted subset has", ("list", "disjoint_subsets(13,6)"), None, False, 29_000_000, 10, 22),
     Row("arcs counted by pairs", ("list", "disjoint_subsets(15,6)"), None, True, 6_000_000, 10, 700),
     Row("vectors found by their places", ("names", "simplex(60,-3,0,0,0,0,0)", "--skip", "39000"), None, False, 750_000, 20, 1),

@@ -126,6 +126,7 @@ impl Records {
     }
 
     // Puts a record that leads to v, before the one given, after the others; the utility fields of records are not used.
+    #[inline(always)]
     pub(crate) fn push_plain(
         &mut self,
         v: u32,
@@ -142,6 +143,7 @@ impl Records {
     }
 
     // Puts two records of this length after the others, or neither: each leads to a vertex, before the record given.
+    #[inline(always)]
     pub(crate) fn push_pair(
         &mut self,
         len: i64,

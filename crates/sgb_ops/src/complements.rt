@@ -182,6 +182,7 @@ impl Wanted {
     }
 
     // Adds the arc from `u` to `w` where it is wanted; `has_arc` tells whether the operand has one.
+    #[inline(always)]
     fn add_arc(self, built: &mut Graph, u: u32, w: u32, has_arc: bool) -> Result<(), Panic>
         requires from { u < length built.old.vertices }
         requires to { w < length built.old.vertices }

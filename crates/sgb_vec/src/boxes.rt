@@ -96,7 +96,9 @@ impl Family for BoxFamily {
         if place >= self.count {
             return false;
         }
-        put_zeros(vector, self.sizes.len(), &mut Steps::new());
+        if vector.len() != self.sizes.len() {
+            put_zeros(vector, self.sizes.len(), &mut Steps::new());
+        }
         put_at(self.sizes.as_slice(), vector.as_mut_slice(), place);
         true
     }
@@ -193,8 +195,9 @@ fn put_at(sizes: &[u32], entries: &mut [u32], place: u32)
 {
     let mut rest = place;
     for k in (0..sizes.len()).rev() {
-        entries[k] = rest % sizes[k];
-        rest /= sizes[k];
+        let size = sizes[k];
+        entries[k] = rest % size;
+        rest /= size;
     }
 }
 

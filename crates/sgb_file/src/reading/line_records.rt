@@ -33,7 +33,7 @@ pub(super) struct VertexLine<'a> {
 
 // The tip, the next record and the length of an arc record that is one short line with no utility fields, and the checksum
 // after the line; or none, which says nothing of the line.
-#[inline(never)]
+#[inline(always)]
 pub(super) fn arc_of_line(
     counts: &Counts,
     line: &[u8],
@@ -69,7 +69,7 @@ fn checksum_of_value(value: u64) -> u32
 
 // The record of a vertex that is one line, with integers in the fields x, y, z and no other utility fields; or none, which
 // says nothing of the line.
-#[inline(never)]
+#[inline(always)]
 pub(super) fn vertex_of_line<'a>(
     counts: &Counts,
     line: &'a [u8],

@@ -18,6 +18,7 @@ impl Graph {
     /// Records may not have utility fields yet (GB_GRAPH, gb_new_arc).
     ///
     /// `NoRoom` when out of memory, and nothing else; the graph is then as it was.
+    #[inline(always)]
     pub fn new_arc(&mut self, u: u32, v: u32, len: i64) -> Result<(), Panic>
         requires from { u < length self.old.vertices }
         requires to { v < length self.old.vertices }
@@ -38,6 +39,7 @@ impl Graph {
     /// first and the higher follows it. Records may not have utility fields yet (GB_GRAPH, gb_new_edge).
     ///
     /// `NoRoom` when out of memory, and nothing else; the graph is then as it was.
+    #[inline(always)]
     pub fn new_edge(&mut self, u: u32, v: u32, len: i64) -> Result<(), Panic>
         requires from { u < length self.old.vertices }
         requires to { v < length self.old.vertices }
@@ -66,6 +68,7 @@ impl Graph {
 }
 
 // Puts a new record in front of the list of u.
+#[inline(always)]
 fn put_arc(
     vertices: &mut Vertices,
     records: &mut Records,
@@ -96,6 +99,7 @@ fn put_arc(
 }
 
 // Puts the two new records of an edge in front of the lists of its ends.
+#[inline(always)]
 fn put_edge(
     vertices: &mut Vertices,
     records: &mut Records,
@@ -134,6 +138,7 @@ fn put_edge(
 }
 
 // What follows the lower record of a new edge: where it is a loop, the higher one.
+#[inline(always)]
 fn after_lower(vertices: &Vertices, number: usize, u: u32, v: u32) -> Option<usize>
     requires from { u < length vertices.now.items }
     requires to { v < length vertices.now.items }

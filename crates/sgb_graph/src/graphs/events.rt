@@ -10,6 +10,7 @@ impl Graph {
     /// (GB_GRAPH, gb_new_arc and gb_new_edge). Records may not have utility fields yet.
     ///
     /// `NoRoom` when out of memory, and nothing else; the graph is then as it was.
+    #[inline(always)]
     pub fn add_event(&mut self, directed: bool, u: u32, v: u32, len: i64) -> Result<(), Panic>
         requires from { u < length self.old.vertices }
         requires to { v < length self.old.vertices }
