@@ -163,7 +163,17 @@ class Module:
                 self.brought[(here or there).strip()] = (place, there.strip())
         self.chunks = list(self.read(text.split("\n")))
 
+    def without_lemmas(self, lines):
+        """The lines of a file of specs/inner without lemmas over parameters, which no definition that is turned reaches."""
+        inside = False
+        for line in lines:
+            inside = line.startswith("module _") or inside and (not line.strip() or line[:1].isspace())
+            if not inside:
+                yield line
+
     def read(self, lines):
+        if f"{os.sep}inner{os.sep}" in self.path:
+            lines = list(self.without_lemmas(lines))
         starts = []
         for i, line in enumerate(lines):
             if line.startswith("module _"):

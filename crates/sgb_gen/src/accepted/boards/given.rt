@@ -65,6 +65,9 @@ impl Board {
     }
 
     /// The same with no table: by a walk over the displacements from the last on.
+    ///
+    /// It stands by itself, so that its stack is not that of those who hand out other lists.
+    #[inline(never)]
     pub(crate) fn give_walked<K: ArcSink<R, S>, R, S>(
         &self,
         x: &[u32],

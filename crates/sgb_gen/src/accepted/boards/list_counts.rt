@@ -39,6 +39,9 @@ impl Board {
     }
 
     /// The same with no table: by a walk over the displacements.
+    ///
+    /// It stands by itself, so that its stack is not that of those who count other lists.
+    #[inline(never)]
     pub(crate) fn count_walked(&self, x: &[u32]) -> Option<u64>
         requires member { Contains (box self.now.sizes) x.now }
         requires sorted { All (NeedsNoSort self.now) (displacements_within (nat_abs self.now.piece)
