@@ -196,7 +196,7 @@ uint64_t sgb_sizes(sgb_graph *graph, sgb_graph_sizes *sizes);
 
 /* The arcs that the graph counts, m, where an edge counts as two; 2^64 - 1 also where there are more. Of a generator's
  * graph they are counted without their lists: of a board by its displacements, of a simplex at once; subsets of a sum
- * of 20 or more are walked over, which takes long where there are many. */
+ * of 64 or more are walked over, which takes long where there are many. */
 uint64_t sgb_arcs(sgb_graph *graph, uint64_t *arcs);
 
 /* The arcs on the lists of a run; 2^64 - 1 also where there are more. Of all vertices these are as many as sgb_arcs

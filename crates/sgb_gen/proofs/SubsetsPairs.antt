@@ -1,5 +1,5 @@
 -- Pairs of subsets counted by a table: by the first entries of both vectors.
-use Rattle.std.proofs.Common.{◌≡◌, ℕ, zero, suc, ◌+◌, ◌-◌, ◌*◌, ◌<◌, ◌≤◌, min, max, Bool, cond, ◌/◌, ◌%◌, List, [], ◌∷◌, ◌++◌, length, map, reverse, refl, sym, ap, ap₂, subst, ◌∙◌, arith, get_or, drop, replicate, set, inl, inr}
+use Rattle.std.proofs.Common.{◌≡◌, ℕ, zero, suc, ◌+◌, ◌-◌, ◌*◌, ◌<◌, ◌≤◌, min, max, Bool, cond, List, [], ◌∷◌, ◌++◌, length, map, reverse, refl, sym, ap, ap₂, subst, ◌∙◌, arith, get_or, drop, replicate, set, inl, inr}
 use Rattle.std.proofs.lemmas.Bool.{cases_lt}
 use Rattle.std.proofs.lemmas.List.{drop_all, drop_more, get_or-set_same, get_or-set_other}
 use Rattle.sgb_vec.specs.Boxes.{box}
@@ -75,37 +75,12 @@ pairs-all sb c q r b bs = grind (arith, rows-of_all, pairs-reverse_first, revers
 
 -- ---- the places of the table
 
-pub place-low : (f s c : ℕ) → c < 10 → (f * 20 + s) * 10 + c ≡ place_of_pairs f s c
-place-low f s c low = grind (arith)
-
-pub place-high : (f s c : ℕ) → 10 ≤ c → 4000 + (f * 10 + s) * 10 + (c - 10) ≡ place_of_pairs f s c
-place-high f s c high = grind (arith)
-
 -- no two cells have one place
-place-apart : (f s c g t d : ℕ) → max f s + c < 20 → max g t + d < 20 → place_of_pairs f s c ≡ place_of_pairs g t d → (f * 20 + s) * 20 + c ≡ (g * 20 + t) * 20 + d
+place-apart : (f s c g t d : ℕ) → max f s + c < 64 → max g t + d < 64 → place_of_pairs f s c ≡ place_of_pairs g t d → (f ≡ g) × (s ≡ t) × (c ≡ d)
 place-apart f s c g t d one other same =
-    elim (cases_lt c 10) [
-      | inl low ↦
-          elim (cases_lt d 10) [
-            | inl also ↦ omega (arith, one, other, same, low, also, place-low f s c low, place-low g t d also)
-            | inr not ↦ omega (arith, one, other, same, low, not, place-low f s c low, place-high g t d not)
-          ]
-      | inr high ↦
-          elim (cases_lt d 10) [
-            | inl not ↦ omega (arith, one, other, same, high, not, place-high f s c high, place-low g t d not)
-            | inr also ↦ omega (arith, one, other, same, high, also, place-high f s c high, place-high g t d also)
-          ]
-    ]
-
--- what a turn is of
-first_of : (n f s c : ℕ) → n ≡ (f * 20 + s) * 20 + c → s < 20 → c < 20 → n / 400 ≡ f
-first_of n f s c is second common = omega (arith, is, second, common)
-
-second_of : (n f s c : ℕ) → n ≡ (f * 20 + s) * 20 + c → s < 20 → c < 20 → n / 20 % 20 ≡ s
-second_of n f s c is second common = omega (arith, is, second, common)
-
-common_of : (n f s c : ℕ) → n ≡ (f * 20 + s) * 20 + c → s < 20 → c < 20 → n % 20 ≡ c
-common_of n f s c is second common = omega (arith, is, second, common)
+    let first : f ≡ g = omega (arith, one, other, same) in
+    let second : s ≡ t = omega (arith, one, other, same, first) in
+    (first, second, omega (arith, same, first, second))
 
 -- ---- no bounds
 
@@ -130,8 +105,8 @@ none_second sb f s c some =
 
 -- the cells so far
 pub record HasEndedPairs (sb n : ℕ) (table : List ℕ) : Type 0 where
-  pub done : (c : ℕ) → c < n → c < 20 → get_or table (place_of_pairs 0 0 c) 0 ≡ pair_cell sb [] 0 0 c
-  pub left : (f s c : ℕ) → max f s + c < 20 → n ≤ (f * 20 + s) * 20 + c → get_or table (place_of_pairs f s c) 0 ≡ 0
+  pub done : (c : ℕ) → c < n → get_or table (place_of_pairs 0 0 c) 0 ≡ pair_cell sb [] 0 0 c
+  pub left : (f s c : ℕ) → n ≤ place_of_pairs f s c → get_or table (place_of_pairs f s c) 0 ≡ 0
 
 zeros : (n i : ℕ) → ◌≡◌ {A = ℕ} (get_or (replicate n 0) i 0) 0
 zeros zero i = refl
@@ -140,17 +115,16 @@ zeros (suc n) (suc i) = zeros n i
 
 pub pairs-ended_none : (sb n : ℕ) (table : List ℕ) → table ≡ replicate n 0 → HasEndedPairs sb 0 table
 pairs-ended_none sb n table is = record {
-  done = λ c low few. absurd (omega (arith, low));
-  left = λ f s c few high. ap (λ xs. get_or xs (place_of_pairs f s c) 0) is ∙ zeros n (place_of_pairs f s c);
+  done = λ c low. absurd (omega (arith, low));
+  left = λ f s c high. ap (λ xs. get_or xs (place_of_pairs f s c) 0) is ∙ zeros n (place_of_pairs f s c);
 }
 
-pub pairs-ended_more : (sb n place count : ℕ) (table : List ℕ) → n < 20 → place < length table → place ≡ place_of_pairs 0 0 n → count ≡ pair_cell sb [] 0 0 n → HasEndedPairs sb n table → HasEndedPairs sb (n + 1) (set table place count)
-pairs-ended_more sb n place count table small within place_is is so = record {
-  done = λ c low few.
+pub pairs-ended_more : (sb n place count : ℕ) (table : List ℕ) → place < length table → place ≡ place_of_pairs 0 0 n → count ≡ pair_cell sb [] 0 0 n → HasEndedPairs sb n table → HasEndedPairs sb (n + 1) (set table place count)
+pairs-ended_more sb n place count table within place_is is so = record {
+  done = λ c low.
       elim (cases_lt c n) [
         | inl earlier ↦
-            get_or-set_other table place (place_of_pairs 0 0 c) count 0 (λ same. omega (arith, place-apart 0 0 c 0 0 n (omega (arith, few)) (omega (arith, small)) (same ∙ place_is), earlier))
-            ∙ so.done c earlier few
+            get_or-set_other table place (place_of_pairs 0 0 c) count 0 (λ same. omega (arith, same, place_is, earlier)) ∙ so.done c earlier
         | inr late ↦
             let here : n ≡ c = omega (arith, low, late) in
             ap (λ i. get_or (set table place count) i 0) (sym (place_is ∙ ap (place_of_pairs 0 0) here))
@@ -158,21 +132,20 @@ pairs-ended_more sb n place count table small within place_is is so = record {
             ∙ is
             ∙ ap (pair_cell sb [] 0 0) here
       ];
-  left = λ f s c few high.
-      get_or-set_other table place (place_of_pairs f s c) count 0 (λ same. omega (arith, place-apart f s c 0 0 n few (omega (arith, small)) (same ∙ place_is), high))
-      ∙ so.left f s c few (omega (arith, high));
+  left = λ f s c high.
+      get_or-set_other table place (place_of_pairs f s c) count 0 (λ same. omega (arith, same, place_is, high)) ∙ so.left f s c (omega (arith, high));
 }
 
-pub pairs-ended_all : (sb total n : ℕ) (table : List ℕ) → n ≡ total + 1 → total < 20 → HasEndedPairs sb n table → HasPairs sb total [] table
-pairs-ended_all sb total n table all small so zero zero c within = so.done c (omega (arith, all, within)) (omega (arith, small, within))
+pub pairs-ended_all : (sb total n : ℕ) (table : List ℕ) → n ≡ total + 1 → total < 64 → HasEndedPairs sb n table → HasPairs sb total [] table
+pairs-ended_all sb total n table all small so zero zero c within = so.done c (omega (arith, all, within))
 pairs-ended_all sb total n table all small so zero (suc s) c within =
-    so.left zero (suc s) c (omega (arith, small, within)) (omega (arith, all, small)) ∙ none_second sb zero (suc s) c (omega arith)
+    so.left zero (suc s) c (omega (arith, all, small)) ∙ none_second sb zero (suc s) c (omega arith)
 pairs-ended_all sb total n table all small so (suc f) s c within =
-    so.left (suc f) s c (omega (arith, small, within)) (omega (arith, all, small)) ∙ none_first sb (suc f) s c (omega arith)
+    so.left (suc f) s c (omega (arith, all, small)) ∙ none_first sb (suc f) s c (omega arith)
 
 -- ---- one bound more
 
-pub pairs-turned_none : (sb total n bound : ℕ) (bounds table : List ℕ) → n ≡ (total + 1) * 20 * 20 → total < 20 → HasPairs sb total bounds table → HasTurnedPairs sb total n bound bounds table
+pub pairs-turned_none : (sb total n bound : ℕ) (bounds table : List ℕ) → n ≡ (total + 1) * 64 * 64 → total < 64 → HasPairs sb total bounds table → HasTurnedPairs sb total n bound bounds table
 pairs-turned_none sb total n bound bounds table all small has = record {
   before = λ f s c within low. has f s c within;
   from = λ f s c within high. absurd (omega (arith, all, small, within, high));
@@ -181,53 +154,37 @@ pairs-turned_none sb total n bound bounds table all small has = record {
 pub pairs-turned_all : (sb total n bound : ℕ) (bounds table : List ℕ) → n ≤ 0 → HasTurnedPairs sb total n bound bounds table → HasPairs sb total (bound ∷ bounds) table
 pairs-turned_all sb total n bound bounds table none so f s c within = so.from f s c within (omega (arith, none))
 
--- a turn of no cell
-pub pairs-turned_past : (sb total n bound : ℕ) (bounds table : List ℕ) → total < 20 → total < max ((n - 1) / 400) ((n - 1) / 20 % 20) + (n - 1) % 20 → 0 < n → HasTurnedPairs sb total n bound bounds table → HasTurnedPairs sb total (n - 1) bound bounds table
-pairs-turned_past sb total n bound bounds table small past some so = record {
-  before = λ f s c within low. so.before f s c within (omega (arith, low));
-  from = λ f s c within high.
-      elim (cases_lt (n - 1) ((f * 20 + s) * 20 + c)) [
-        | inl later ↦ so.from f s c within (omega (arith, later))
-        | inr here ↦
-            let is : n - 1 ≡ (f * 20 + s) * 20 + c = omega (arith, high, here) in
-            let second : s < 20 = omega (arith, within, small) in
-            let common : c < 20 = omega (arith, within, small) in
-            absurd (omega (arith, past, within, first_of (n - 1) f s c is second common, second_of (n - 1) f s c is second common, common_of (n - 1) f s c is second common))
-      ];
+-- between two places without a cell
+pub pairs-turned_past : (sb total n m bound : ℕ) (bounds table : List ℕ) → m ≤ n
+    → ((f s c : ℕ) → max f s + c ≤ total → m ≤ place_of_pairs f s c → n ≤ place_of_pairs f s c)
+    → HasTurnedPairs sb total n bound bounds table → HasTurnedPairs sb total m bound bounds table
+pairs-turned_past sb total n m bound bounds table down none so = record {
+  before = λ f s c within low. so.before f s c within (omega (arith, low, down));
+  from = λ f s c within high. so.from f s c within (none f s c within high);
 }
 
--- a turn of a cell
-pub pairs-turned_more : (sb total n bound place count f s c : ℕ) (bounds table : List ℕ) → total < 20 → max f s + c ≤ total → n - 1 ≡ (f * 20 + s) * 20 + c → 0 < n → place < length table → place ≡ place_of_pairs f s c
+-- a cell more
+pub pairs-turned_more : (sb total place count bound f s c : ℕ) (bounds table : List ℕ) → total < 64 → max f s + c ≤ total → place < length table → place ≡ place_of_pairs f s c
     → count ≡ pair_cell sb (bound ∷ bounds) f s c
-    → HasTurnedPairs sb total n bound bounds table → HasTurnedPairs sb total (n - 1) bound bounds (set table place count)
-pairs-turned_more sb total n bound place count f s c bounds table small inside turn some within place_is is so = record {
+    → HasTurnedPairs sb total (place_of_pairs f s c + 1) bound bounds table → HasTurnedPairs sb total (place_of_pairs f s c) bound bounds (set table place count)
+pairs-turned_more sb total place count bound f s c bounds table small inside within place_is is so = record {
   before = λ g t d few low.
-      get_or-set_other table place (place_of_pairs g t d) count 0
-      (λ same. omega (arith, place-apart g t d f s c (omega (arith, few, small)) (omega (arith, inside, small)) (same ∙ place_is), turn, low))
-      ∙ so.before g t d few (omega (arith, low));
+      get_or-set_other table place (place_of_pairs g t d) count 0 (λ same. omega (arith, same, place_is, low)) ∙ so.before g t d few (omega (arith, low));
   from = λ g t d few high.
-      elim (cases_lt (n - 1) ((g * 20 + t) * 20 + d)) [
+      elim (cases_lt place (place_of_pairs g t d)) [
         | inl later ↦
-            get_or-set_other table place (place_of_pairs g t d) count 0
-            (λ same. omega (arith, place-apart g t d f s c (omega (arith, few, small)) (omega (arith, inside, small)) (same ∙ place_is), turn, later))
-            ∙ so.from g t d few (omega (arith, later))
+            get_or-set_other table place (place_of_pairs g t d) count 0 (λ same. omega (arith, same, later)) ∙ so.from g t d few (omega (arith, later, place_is))
         | inr here ↦
-            let also : n - 1 ≡ (g * 20 + t) * 20 + d = omega (arith, high, here) in
-            let first_is : f ≡ g = omega (arith, turn, also, few, inside, small) in
-            let second_is : s ≡ t = omega (arith, turn, also, few, inside, small) in
-            let common_is : c ≡ d = omega (arith, turn, also, few, inside, small) in
-            let there : place ≡ place_of_pairs g t d = place_is ∙ cc (first_is, second_is, common_is) in
-            let cell : pair_cell sb (bound ∷ bounds) f s c ≡ pair_cell sb (bound ∷ bounds) g t d = cc (first_is, second_is, common_is) in
-            ap (λ i. get_or (set table place count) i 0) (sym there)
-            ∙ get_or-set_same table place count 0 within
-            ∙ is
-            ∙ cell
+            let there : place ≡ place_of_pairs g t d = omega (arith, here, high, place_is) in
+            let one = place-apart f s c g t d (omega (arith, inside, small)) (omega (arith, few, small)) (sym place_is ∙ there) in
+            let cell : pair_cell sb (bound ∷ bounds) f s c ≡ pair_cell sb (bound ∷ bounds) g t d = cc (one.0, one.1, one.2) in
+            ap (λ i. get_or (set table place count) i 0) (sym there) ∙ get_or-set_same table place count 0 within ∙ is ∙ cell
       ];
 }
 
 -- the cell of two entries
 pub pairs-read : (sb total c f s x y shared place bound : ℕ) (bounds table : List ℕ) → max f s + c ≤ total → x ≤ f → y ≤ s → shared ≡ c + min x y → place ≡ place_of_pairs (f - x) (s - y) shared
-    → HasTurnedPairs sb total ((f * 20 + s) * 20 + c + 1) bound bounds table
+    → HasTurnedPairs sb total (place_of_pairs f s c + 1) bound bounds table
     → get_or table place 0 ≡ kept (pairs_of_sums sb bounds (f - x) (s - y) (c + min x y))
 pairs-read sb total c f s x y shared place bound bounds table within first second shared_is place_is so =
     ap (λ p. get_or table p 0) (place_is ∙ ap (place_of_pairs (f - x) (s - y)) shared_is)

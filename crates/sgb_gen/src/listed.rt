@@ -348,8 +348,8 @@ impl<'a> Listed<'a> for &'a Subsets {
         (**self).id()
     }
 
-    fn arcs_count(&self, _links: &Links) -> Result<u128, Panic> {
-        Ok((**self).arcs_count())
+    fn arcs_count(&self, links: &Links) -> Result<u128, Panic> {
+        Ok((**self).arcs_count(links.alloc()))
     }
 
     fn prepare(&mut self, _links: &Links) {}

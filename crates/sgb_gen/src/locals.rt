@@ -72,7 +72,7 @@ impl Local {
         match self {
             Local::Board(board) => board.arcs_count(),
             Local::Simplex(simplex) => simplex.arcs_count(&Links::new(alloc)),
-            Local::Subsets(subsets) => Ok(subsets.arcs_count()),
+            Local::Subsets(subsets) => Ok(subsets.arcs_count(alloc)),
         }
     }
 

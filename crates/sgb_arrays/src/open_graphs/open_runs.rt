@@ -215,7 +215,7 @@ fn arcs_counted(alloc: Global, local: &Local) -> Option<u128>
     match local {
         Local::Board(board) => board.arcs_count().ok(),
         Local::Simplex(simplex) => simplex.arcs_count(&Links::new(alloc)).ok(),
-        Local::Subsets(subsets) => subsets.arcs_by_table(),
+        Local::Subsets(subsets) => subsets.arcs_by_table(alloc),
     }
 }
 

@@ -1,5 +1,5 @@
 -- How many ordered pairs of subsets have a wanted size in common, and the table by which they are counted.
-use Rattle.std.specs.Prelude.{◌≡◌, ℕ, ◌+◌, ◌-◌, ◌*◌, ◌^◌, ◌<◌, ◌≤◌, min, max, nat_lt, List, [], ◌∷◌, slice_index, if◌then◌else◌}
+use Rattle.std.specs.Prelude.{◌≡◌, ℕ, ◌+◌, ◌-◌, ◌*◌, ◌^◌, ◌<◌, ◌≤◌, min, max, List, [], ◌∷◌, slice_index}
 use Rattle.sgb_vec.specs.Sums.{bounded_sums}
 use Rattle.sgb_gen.specs.inner.SubsetsCounts.{wanted_among}
 
@@ -21,17 +21,16 @@ kept count = min count (2 ^ 64 - 1)
 abbrev pub pair_cell : ℕ → List ℕ → ℕ → ℕ → ℕ → ℕ
 pair_cell size_bits bounds first second common = kept (pairs_of_sums size_bits bounds first second common)
 
--- where it stands: those with less than 10 in common before come first, and then the others, whose sums are below 10
+-- where it stands
 abbrev pub place_of_pairs : ℕ → ℕ → ℕ → ℕ
-place_of_pairs first second common =
-    if nat_lt common 10 then (first * 20 + second) * 10 + common else 4000 + (first * 10 + second) * 10 + (common - 10)
+place_of_pairs first second common = (first * 64 + second) * 64 + common
 
--- the table of the vectors within the bounds, with room for sums below 20
+-- the table of the vectors within the bounds, with room for sums below 64
 abbrev pub HasPairs : ℕ → ℕ → List ℕ → List ℕ → Type 0
 HasPairs size_bits total bounds table =
     (first second common : ℕ) → max first second + common ≤ total → slice_index table (place_of_pairs first second common) ≡ pair_cell size_bits bounds first second common
 
--- from a turn on the cells are those with one bound more, which stands before the others
-pub record HasTurnedPairs (size_bits total turn bound : ℕ) (bounds table : List ℕ) : Type 0 where
-  pub before : (first second common : ℕ) → max first second + common ≤ total → (first * 20 + second) * 20 + common < turn → slice_index table (place_of_pairs first second common) ≡ pair_cell size_bits bounds first second common
-  pub from : (first second common : ℕ) → max first second + common ≤ total → turn ≤ (first * 20 + second) * 20 + common → slice_index table (place_of_pairs first second common) ≡ pair_cell size_bits (bound ∷ bounds) first second common
+-- from a place on the cells are those with one bound more, which stands before the others
+pub record HasTurnedPairs (size_bits total turned bound : ℕ) (bounds table : List ℕ) : Type 0 where
+  pub before : (first second common : ℕ) → max first second + common ≤ total → place_of_pairs first second common < turned → slice_index table (place_of_pairs first second common) ≡ pair_cell size_bits bounds first second common
+  pub from : (first second common : ℕ) → max first second + common ≤ total → turned ≤ place_of_pairs first second common → slice_index table (place_of_pairs first second common) ≡ pair_cell size_bits (bound ∷ bounds) first second common

@@ -1,4 +1,4 @@
-use Rattle.std.proofs.Common.{◌≡◌, ◌+◌, ◌<◌, rules, arith, subst, refl}
+use Rattle.std.proofs.Common.{◌≡◌, arith, subst, refl}
 use Rattle.std.specs.List.{Contains}
 use Rattle.sgb_gen.specs.VectorGraphs.{vertex_among}
 use Rattle.sgb_gen.proofs.SteppedVectors.{next_there, previous_there}

@@ -1,6 +1,6 @@
 //! The number of arcs of the subsets' graph, with no list made. Where the vectors are many and their sum is small, they
-//! are counted by pairs; else by the descent of the lists, whose arcs from each vector down to the first are handed to a
-//! counter. So each edge is found once, from the later one of its ends.
+//! are counted by pairs; else, or when out of memory, by the descent of the lists, whose arcs from each vector down to the
+//! first are handed to a counter. So each edge is found once, from the later one of its ends.
 //!
 //! A walk takes minutes for a thousand million vectors.
 ghost use Rattle.std.specs.Prelude.{◌≡◌, length, Contains, IfSome};
@@ -16,42 +16,52 @@ use super::sizes::WantedSizes;
 use crate::arc_sinks::ArcSink;
 use crate::shifts::copy_of;
 use sgb_vec::{Family, Vectors};
+use std::alloc::Global;
 
 impl Subsets {
-    /// The number of arcs of the graph of the subsets (GB_BASIC, subsets), where an edge counts as two. No arc is made, and no
-    /// memory taken. Of many vectors whose sum is below 20, always of more than 8,000, the pairs are counted, bound by bound,
-    /// in a table in place, within some milliseconds. Else the vectors are walked, and of each the joined ones up to it are
-    /// counted, by their beginnings.
-    pub fn arcs_count(&self) -> u128
+    /// The number of arcs of the graph of the subsets (GB_BASIC, subsets), where an edge counts as two. No arc is made. Of many
+    /// vectors whose sum is below 64, always of more than 8,000, the pairs are counted, bound by bound, in a table of two
+    /// megabytes at most, within some milliseconds. Else, or where memory is refused, the vectors are walked, and of each the
+    /// joined ones up to it are counted, by their beginnings.
+    pub fn arcs_count(&self, alloc: Global) -> u128
         ensures { result ≡ (graph_described (described_by (subsets_vector_graph self.now))).m }
     {
-        let moves = self.moves_count();
+        let moves = match self.moves_by_table(alloc) {
+            Some(moves) => moves,
+            None => self.moves_by_walk(),
+        };
+        self.arcs_of(moves)
+    }
+
+    /// The number of arcs, where a table of pairs tells it: the same as `arcs_count`. `None` where the vectors would be walked,
+    /// which may take longer than their lists.
+    pub fn arcs_by_table(&self, alloc: Global) -> Option<u128>
+        ensures { IfSome result (λ m.
+            m ≡ (graph_described (described_by (subsets_vector_graph self.now))).m) }
+    {
+        let moves = self.moves_by_table(alloc)?;
+        Some(self.arcs_of(moves))
+    }
+
+    // How many arcs these moves make, which are all.
+    fn arcs_of(&self, moves: u64) -> u128
+        requires { moves ≡ length (moves_of_subsets self.now) }
+        ensures { result ≡ (graph_described (described_by (subsets_vector_graph self.now))).m }
+    {
         if self.directed {
             return u128::from(moves);
         }
         u128::from(moves) * 2
     }
 
-    /// The number of arcs, where a table of pairs tells it: the same as `arcs_count`. `None` where the vectors would be walked,
-    /// which may take longer than their lists.
-    pub fn arcs_by_table(&self) -> Option<u128>
-        ensures { IfSome result (λ m.
-            m ≡ (graph_described (described_by (subsets_vector_graph self.now))).m) }
+    // The number of moves by pairs, where the vectors are many, their sum is small and there is memory.
+    fn moves_by_table(&self, alloc: Global) -> Option<u64>
+        ensures { IfSome result (λ n. n ≡ length (moves_of_subsets self.now)) }
     {
         if !self.has_many_pairs() {
             return None;
         }
-        Some(self.arcs_count())
-    }
-
-    // The number of moves: by pairs where the vectors are many and their sum is small, else by a walk.
-    fn moves_count(&self) -> u64
-        ensures { result ≡ length (moves_of_subsets self.now) }
-    {
-        if self.has_many_pairs() {
-            return self.moves_by_pairs();
-        }
-        self.moves_by_walk()
+        self.moves_by_pairs(alloc)
     }
 
     // The number of moves, by a walk.

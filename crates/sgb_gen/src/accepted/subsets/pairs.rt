@@ -1,9 +1,9 @@
 //! The number of moves of many subsets whose sum is small, by the pairs of vectors with a wanted size in common. A table
 //! has how many there are of two sums, and with how many elements in common before; it begins with no bounds, and each of
-//! the bounds, from the last to the first, is taken in, in the same table: there is no room for two on a small stack.
+//! the bounds, from the last to the first, is taken in, in the same table. It takes two megabytes at most.
 //!
-//! Neither sum and what is in common before add to more than all, so where 10 or more are in common both sums are below 10.
-ghost use Rattle.std.specs.Prelude.{◌≡◌, ◌+◌, ◌*◌, ◌≤◌, ◌<◌, ◌∷◌, [], ℕ, List, min, max, length, replicate, if◌then◌else◌};
+//! Neither sum and what is in common before add to more than all: other cells of the table are not used.
+ghost use Rattle.std.specs.Prelude.{◌≡◌, ◌+◌, ◌*◌, ◌≤◌, ◌<◌, ◌∷◌, [], ℕ, List, min, max, length, replicate, if◌then◌else◌, IfSome};
 ghost use Rattle.std.specs.Bool.{OnTrue};
 ghost use Rattle.sgb_vec.specs.Limits.{most_vertices};
 ghost use Rattle.sgb_gen.specs.Subsets.{is_wanted_size, moves_of_subsets, subsets_vectors};
@@ -12,59 +12,65 @@ ghost use Rattle.sgb_gen.specs.inner.SubsetsPairs.{HasPairs, HasTurnedPairs, kep
 
 use super::{Subsets, is_wanted};
 use sgb_vec::Family;
+use std::alloc::Global;
 
 // A table has room for sums below this.
-const SIDE: usize = 20;
+const SIDE: usize = 64;
 
-// Where more are in common before, both sums are below this.
-const HALF: usize = SIDE / 2;
+// The cells of one sum of the first vector: a sum of the second one, and what is in common before.
+const CELLS: usize = SIDE * SIDE;
 
-// The cells where fewer are in common before: two sums, and what is in common.
-const FIRST_CELLS: usize = SIDE * SIDE * HALF;
-
-// All cells.
-const CELLS: usize = FIRST_CELLS + HALF * HALF * HALF;
-
-// More vectors than these are never walked.
+// More vectors than these are never walked, where a table has room for their sum.
 const MOST_WALKED: u32 = 8_000;
-
-type PairTable = [u64; CELLS];
 
 impl Subsets {
     // Whether the moves are counted by pairs: where the vectors are many, and the table has room for their sum.
     pub(super) fn has_many_pairs(&self) -> bool
-        ensures { OnTrue result (self.now.sum.total < 20) }
+        ensures { OnTrue result (self.now.sum.total < 64) }
     {
         let total = self.family.total();
         total < SIDE as u32 && self.family.size() > most_walked(total, self.sizes())
     }
 
     // The number of moves, by pairs: a move from one vector to another one is of two pairs, and one of a vector to itself
-    // is of one.
-    pub(super) fn moves_by_pairs(&self) -> u64
-        requires small { self.now.sum.total < 20 }
-        ensures { result ≡ length (moves_of_subsets self.now) }
+    // is of one. `None` when out of memory.
+    pub(super) fn moves_by_pairs(&self, alloc: Global) -> Option<u64>
+        requires small { self.now.sum.total < 64 }
+        ensures { IfSome result (λ n. n ≡ length (moves_of_subsets self.now)) }
     {
-        (self.pairs_count() + self.loops_count()) / 2
+        let pairs = self.pairs_count(alloc)?;
+        Some((pairs + self.loops_count()) / 2)
     }
 
-    // How many pairs of vectors have a wanted size in common. Its table stands on the stack for this call alone.
-    #[inline(never)]
-    fn pairs_count(&self) -> u64
-        requires small { self.now.sum.total < 20 }
+    // How many pairs of vectors have a wanted size in common. `None` when out of memory.
+    fn pairs_count(&self, alloc: Global) -> Option<u64>
+        requires small { self.now.sum.total < 64 }
+        ensures count { IfSome result (λ n. n ≡ pairs_among self.now.size_bits 0
+            (subsets_vectors self.now) (subsets_vectors self.now)) }
+        ensures few { IfSome result (λ n. n ≤ most_vertices * most_vertices) }
+    {
+        let mut table = Vec::new(alloc);
+        table
+            .resize((self.family.total() as usize + 1) * CELLS, 0)
+            .ok()?;
+        Some(self.pairs_by(table.as_mut_slice()))
+    }
+
+    // The same with a table of zeros.
+    fn pairs_by(&self, table: &mut [u64]) -> u64
+        requires small { self.now.sum.total < 64 }
+        requires zeros { table.old ≡ replicate ((self.now.sum.total + 1) * 4096) 0 }
         ensures count { result ≡ pairs_among self.now.size_bits 0 (subsets_vectors self.now)
             (subsets_vectors self.now) }
         ensures few { result ≤ most_vertices * most_vertices }
     {
         let total = self.family.total() as usize;
         let bounds = self.sizes();
-        let mut table = [0; CELLS];
-        put_ended(&mut table, self.size_bits, total);
+        put_ended(table, self.size_bits, total);
         for k in (0..bounds.len()).rev() {
-            take_in(&mut table, total, bounds[k] as usize);
+            take_in(table, total, bounds[k] as usize);
         }
-        let last = place_of_pairs(total, total, 0);
-        table[last]
+        table[place_of_pairs(total, total, 0)]
     }
 
     // How many vectors have a wanted size in common with themselves: all of them or none.
@@ -90,11 +96,12 @@ fn most_walked(total: u32, bounds: &[u32]) -> u32 {
     most.min(MOST_WALKED)
 }
 
-// Makes an empty table that of no bounds: there is one vector, which adds to 0, and its pair with itself.
-fn put_ended(table: &mut PairTable, size_bits: u128, total: usize)
-    requires empty { table.old ≡ replicate 5000 0 }
-    requires small { total < 20 }
-    ensures { HasPairs size_bits total [] table.new }
+// Makes a table of zeros that of no bounds: there is one vector, which adds to 0, and its pair with itself.
+fn put_ended(table: &mut [u64], size_bits: u128, total: usize)
+    requires zeros { table.old ≡ replicate ((total + 1) * 4096) 0 }
+    requires small { total < 64 }
+    ensures length { length table.new ≡ length table.old }
+    ensures pairs { HasPairs size_bits total [] table.new }
 {
     for common in 0..total + 1 {
         let place = place_of_pairs(0, 0, common);
@@ -114,40 +121,52 @@ fn count_ended(size_bits: u128, common: usize) -> u64
 
 // Where the table has these two sums, with what is in common before.
 fn place_of_pairs(first: usize, second: usize, common: usize) -> usize
-    requires { max first second + common < 20 }
-    ensures value { result ≡ place_of_pairs first second common }
-    ensures few { result < 5000 }
+    requires { max first second + common < 64 }
+    ensures { result ≡ place_of_pairs first second common }
 {
-    if common < HALF {
-        return (first * SIDE + second) * HALF + common;
-    }
-    FIRST_CELLS + (first * HALF + second) * HALF + (common - HALF)
+    (first * SIDE + second) * SIDE + common
 }
 
 // Takes one bound more in, which stands before the others. A cell is made of itself and of some with lesser sums, so those with
 // the greatest sums are turned first.
-fn take_in(table: &mut PairTable, total: usize, bound: usize)
-    requires { total < 20 }
-    ensures { (size_bits : ℕ) (bounds : List ℕ) → HasPairs size_bits total bounds table.old
+fn take_in(table: &mut [u64], total: usize, bound: usize)
+    requires small { total < 64 }
+    requires room { length table.old ≡ (total + 1) * 4096 }
+    ensures length { length table.new ≡ length table.old }
+    ensures taken { (size_bits : ℕ) (bounds : List ℕ) → HasPairs size_bits total bounds table.old
         → HasPairs size_bits total (bound ∷ bounds) table.new }
 {
-    for turn in (0..(total + 1) * SIDE * SIDE).rev() {
-        let first = turn / (SIDE * SIDE);
-        let second = turn / SIDE % SIDE;
-        let common = turn % SIDE;
-        let most = first.max(second) + common;
-        if most <= total {
-            let place = place_of_pairs(first, second, common);
-            table[place] = count_pairs(table, bound, first, second, common);
+    for pair in (0..(total + 1) * SIDE).rev() {
+        let first = pair / SIDE;
+        let second = pair % SIDE;
+        if second <= total {
+            turn_cells(table, total, bound, first, second);
         }
     }
 }
 
+// Takes the bound into the cells of these two sums.
+fn turn_cells(table: &mut [u64], total: usize, bound: usize, first: usize, second: usize)
+    requires small { total < 64 }
+    requires sums { max first second ≤ total }
+    requires room { length table.old ≡ (total + 1) * 4096 }
+    ensures length { length table.new ≡ length table.old }
+    ensures turned { (size_bits : ℕ) (bounds : List ℕ)
+        → HasTurnedPairs size_bits total (place_of_pairs first second 64) bound bounds table.old
+        → HasTurnedPairs size_bits total (place_of_pairs first second 0) bound bounds table.new }
+{
+    for common in (0..total - first.max(second) + 1).rev() {
+        let place = place_of_pairs(first, second, common);
+        table[place] = count_pairs(table, bound, first, second, common);
+    }
+}
+
 // A cell with the bound: the pairs by the first entry of their first vector.
-fn count_pairs(table: &PairTable, bound: usize, first: usize, second: usize, common: usize) -> u64
-    requires { max first second + common < 20 }
+fn count_pairs(table: &[u64], bound: usize, first: usize, second: usize, common: usize) -> u64
+    requires small { max first second + common < 64 }
+    requires room { (first + 1) * 4096 ≤ length table.now }
     ensures { (size_bits total : ℕ) (bounds : List ℕ) → max first second + common ≤ total
-        → HasTurnedPairs size_bits total ((first * 20 + second) * 20 + common + 1) bound bounds
+        → HasTurnedPairs size_bits total (place_of_pairs first second common + 1) bound bounds
         table.now
         → result ≡ pair_cell size_bits (bound ∷ bounds) first second common }
 {
@@ -160,7 +179,7 @@ fn count_pairs(table: &PairTable, bound: usize, first: usize, second: usize, com
 
 // The pairs whose first vector begins with this entry, by the first entry of the second one.
 fn count_row(
-    table: &PairTable,
+    table: &[u64],
     bound: usize,
     first: usize,
     entry: usize,
@@ -168,9 +187,10 @@ fn count_row(
     common: usize,
 ) -> u64
     requires entry { entry ≤ first }
-    requires small { max first second + common < 20 }
+    requires small { max first second + common < 64 }
+    requires room { (first + 1) * 4096 ≤ length table.now }
     ensures { (size_bits total : ℕ) (bounds : List ℕ) → max first second + common ≤ total
-        → HasTurnedPairs size_bits total ((first * 20 + second) * 20 + common + 1) bound bounds
+        → HasTurnedPairs size_bits total (place_of_pairs first second common + 1) bound bounds
         table.now
         → result ≡ kept (pairs_among size_bits common (row first bounds entry)
         (rows second bounds 0 (min second bound + 1))) }

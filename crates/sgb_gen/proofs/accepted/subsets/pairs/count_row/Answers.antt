@@ -11,7 +11,7 @@ pub loop-other-preserved : goal.loop-other-preserved
 loop-other-preserved c size_bits total bounds within turned =
     let a = c.args in
     let y = c.loop-other.other in
-    let read = pairs-read size_bits total a.common a.first a.second a.entry y _ c.place_of_pairs-place.result a.bound bounds a.table.now within c.requires.entry (omega arith) (ap (λ n. a.common + n) c.lesser.ensures) c.place_of_pairs-place.ensures.value turned in
+    let read = pairs-read size_bits total a.common a.first a.second a.entry y _ c.place_of_pairs-place.result a.bound bounds a.table.now within c.requires.entry (omega arith) (ap (λ n. a.common + n) c.lesser.ensures) c.place_of_pairs-place.ensures turned in
     let more = other-counted size_bits a.common a.entry y a.first a.second c.loop-other.counted _ bounds c.requires.entry (omega arith) (c.loop-other.invariant size_bits total bounds within turned) read in
     search (rules, more)
 

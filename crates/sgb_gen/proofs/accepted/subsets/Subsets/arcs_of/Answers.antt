@@ -1,6 +1,6 @@
 use Rattle.std.proofs.Common.{rules}
 use Rattle.sgb_gen.proofs.SubsetsCounts.{arcs-of-directed, arcs-of-undirected}
-use Rattle.sgb_gen.proofs.accepted.subsets.Subsets.arcs_count.Goals as goal
+use Rattle.sgb_gen.proofs.accepted.subsets.Subsets.arcs_of.Goals as goal
 
 pub returns-then-self : goal.returns-then-self
 returns-then-self c = search (rules, arcs-of-directed)
