@@ -20,6 +20,7 @@ import sys
 import tempfile
 import time
 
+import unproved
 from laying import lay
 
 FAILS = 2000  # as in checks/calls/main.in
@@ -88,14 +89,16 @@ def compiled(folder):
     place = os.path.join(folder, "calls")
     own = os.path.join(folder, "tmp")
     os.mkdir(own)
-    words = [os.environ.get("RT", "rt"), "try", "--steps", "1", "--fail-alloc", str(FAILS)]
+    # a check of names beside it would take as long as the rest
+    rt = os.environ.get("RT") or unproved.shadow(unproved.toolchain(), "tries", folder)
+    words = [rt, "try", "--steps", "1", "--fail-alloc", str(FAILS)]
     with open(os.path.join(folder, "said"), "w+") as said:
-        rt = subprocess.Popen(
+        tried = subprocess.Popen(
             words, cwd=crate, env=dict(os.environ, TMPDIR=own),
             stdin=subprocess.DEVNULL, stdout=said, stderr=said, start_new_session=True,
         )
         try:
-            while rt.poll() is None:
+            while tried.poll() is None:
                 time.sleep(0.2)
                 # it runs in a folder that has its output, too
                 for program in glob.glob(os.path.join(own, "*", "*", "program")):
@@ -103,7 +106,7 @@ def compiled(folder):
                         shutil.copy(program, place)
                         return place
         finally:
-            stop(rt)
+            stop(tried)
         said.seek(0)
         sys.exit(f"{said.read()[-3000:]}\nthe program was not built, or not found where rt try runs it\n0 passed, 1 failed")
 

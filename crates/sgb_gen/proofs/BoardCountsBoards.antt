@@ -78,7 +78,7 @@ AreAllBelow sizes wrap = All (λ x. IsBelow x (map (λ s. s.size) (sides_of size
 all_below : (sizes : List ℕ) (wrap : ℤ) → AreAllBelow sizes wrap
 all_below sizes wrap j w l = search (rules, sizes_of_sides, IsBelow-from_Contains, Contains-get_or)
 
-length_sides : (sizes : List ℕ) (wrap : ℤ) (k : ℕ) → length (sides_from_bit k sizes wrap) ≡ length sizes
+pub length_sides : (sizes : List ℕ) (wrap : ℤ) (k : ℕ) → length (sides_from_bit k sizes wrap) ≡ length sizes
 length_sides [] wrap k = refl
 length_sides (n ∷ sizes) wrap k = ap suc (length_sides sizes wrap (k + 1))
 

@@ -1,23 +1,24 @@
 -- A displacement with an entry above its bound leads to no place of a board, so the moves of a board are those by the
--- displacements within the bounds.
+-- displacements within the bounds. So it is with the bounds of one vector, and what leads from there.
 use Rattle.std.proofs.lemmas.Nat.{mul-le}
-use Rattle.std.proofs.Common.{◌≡◌, ℕ, zero, suc, ◌+◌, ◌-◌, ◌<◌, ◌≤◌, min, ℤ, pos, negsuc, ◌+ℤ◌, ◌*ℤ◌, nat_abs, Bool, true, cond, eqb, ltb, List, [], ◌∷◌, ◌++◌, length, map, replicate, get_or, drop, Option, Some, None, refl, sym, ap, ◌∙◌, inl, inr, arith, rules}
+use Rattle.std.proofs.Common.{append_assoc, length-append, ◌≡◌, ℕ, zero, suc, ◌+◌, ◌-◌, ◌<◌, ◌≤◌, max, min, ℤ, pos, negsuc, ◌+ℤ◌, ◌*ℤ◌, nat_abs, Bool, true, cond, eqb, ltb, List, [], ◌∷◌, ◌++◌, length, map, replicate, get_or, drop, Option, Some, None, refl, sym, ap, subst, ◌∙◌, inl, inr, arith}
 use Rattle.std.specs.List.{filter, flat_map, range_with_len}
 use Rattle.std.specs.Option.{is_some, option_map_or}
 use Rattle.std.proofs.lemmas.Bool.{cases_Bool, cases_lt, cond-true, cond-false, lt-ltb, le-ltb, eqb-true}
 use Rattle.std.proofs.lemmas.Bool.Decides.{nat_tests}
 use Rattle.std.proofs.lemmas.Grind.{flat_map-append}
 use Rattle.std.proofs.lemmas.Int.{ints}
-use Rattle.std.proofs.lemmas.List.{get_or-map, get_or-replicate, length-map, length-replicate}
-use Rattle.std.proofs.lemmas.List.Elements.{All-weaker, Contains-get_or}
+use Rattle.std.proofs.lemmas.List.{at_drop_more, get_or-map, get_or-replicate, length-map, length-replicate}
+use Rattle.std.proofs.lemmas.List.Elements.{length_all_zip, All-weaker, AllZip-get_or, Contains-get_or}
 use Rattle.std.proofs.lemmas.List.Folds.{flat_map-map}
 use Rattle.sgb_vec.specs.Boxes.{box}
-use Rattle.sgb_vec.specs.Lexicographic.{IsBelow}
+use Rattle.sgb_vec.specs.Lexicographic.{IsBelow, IsWithin}
 use Rattle.sgb_vec.proofs.BoxPlaces.{IsBelow-from_Contains}
+use Rattle.sgb_vec.proofs.SumMembers.{IsWithin-length}
 use Rattle.sgb_gen.specs.Boards.{BoardData, moves_of_board}
 use Rattle.sgb_gen.specs.Displacements.{signings, sum_of_squares, vectors_of_norm, displacements}
-use Rattle.sgb_gen.specs.inner.EntryBounds.{entry_bound, entry_bounds, vectors_within, displacements_within}
-use Rattle.sgb_gen.specs.Moves.{Side, sides_from_bit, sides_of, within_size, coordinate_on, in_front, place, moves_from, board_moves}
+use Rattle.sgb_gen.specs.inner.EntryBounds.{entry_bound, entry_bounds, near_bound, near_bounds, vectors_within, displacements_within}
+use Rattle.sgb_gen.specs.Moves.{Side, is_bit_set, sides_from_bit, sides_of, within_size, coordinate_on, in_front, is_elsewhere, place, moves_from, board_moves}
 use Rattle.sgb_gen.specs.inner.Moves.{destination, longest_move}
 use Rattle.sgb_gen.specs.inner.LocalBoards.{moves_by}
 use Rattle.sgb_gen.specs.VectorGraphs.{event_among}
@@ -41,21 +42,48 @@ pub length-entry_bounds : (p : ℕ) (sizes : List ℕ) (wrap : ℤ) → length (
 length-entry_bounds p sizes wrap =
     cc (length-map (sides_of sizes wrap) (entry_bound p), length-map (sides_of sizes wrap) (λ s. s.size), sizes_of_sides 0 sizes wrap)
 
+-- the same of one vector
+pub record AreNearSoFar (p : ℕ) (sizes : List ℕ) (wrap : ℤ) (x : List ℕ) (k : ℕ) (known : List ℕ) : Type 0 where
+  pub count : length known ≡ k
+  pub whole : known ++ near_bounds p (sides_from_bit k (drop k sizes) wrap) (drop k x) ≡ near_bounds p (sides_of sizes wrap) x
+
+pub near_more : (p : ℕ) (sizes : List ℕ) (wrap : ℤ) (x : List ℕ) (k : ℕ) (known : List ℕ) (w : Bool) (bound : ℕ) → IsBelow x sizes → k < length sizes → w ≡ is_bit_set wrap k
+    → bound ≡ near_bound p (record { size = get_or sizes k 0; wraps = w }) (get_or x k 0) → AreNearSoFar p sizes wrap x k known → AreNearSoFar p sizes wrap x (k + 1) (known ++ bound ∷ [])
+near_more p sizes wrap x k known w bound below h bit is s =
+    let rest = near_bounds p (sides_from_bit (k + 1) (drop (k + 1) sizes) wrap) (drop (k + 1) x) in
+    let own = is ∙ ap (λ v. near_bound p (record { size = get_or sizes k 0; wraps = v }) (get_or x k 0)) bit in
+    let step =
+    at_drop_more (λ s. near_bounds p (sides_from_bit k s wrap) (drop k x)) sizes k 0 h
+    ∙ at_drop_more (near_bounds p (sides_from_bit k (get_or sizes k 0 ∷ drop (k + 1) sizes) wrap)) x k 0 (omega (arith, h, length_all_zip (λ z n. z < n) x sizes below)) in
+    record {
+      count = omega (arith, length-append known (bound ∷ []), s.count);
+      whole = append_assoc known (bound ∷ []) rest ∙ ap (λ c. known ++ c ∷ rest) own ∙ ap (λ l. known ++ l) (sym step) ∙ s.whole;
+    }
+
+-- no entry of a vector's bounds is above that of all
+near_within : (p k : ℕ) (sizes : List ℕ) (wrap : ℤ) (x : List ℕ) → IsBelow x sizes → IsWithin (near_bounds p (sides_from_bit k sizes wrap) x) (entry_bounds p (sides_from_bit k sizes wrap))
+near_within p k [] wrap [] below = tt
+near_within p k (n ∷ sizes) wrap (z ∷ x) below = (grind (arith, cond, cases_Bool), near_within p (k + 1) sizes wrap x below.1)
+near_within p k _ wrap _ below = absurd below
+
+pub length-near_bounds : (p : ℕ) (sizes : List ℕ) (wrap : ℤ) (x : List ℕ) → IsBelow x sizes → length (near_bounds p (sides_of sizes wrap) x) ≡ length sizes
+length-near_bounds p sizes wrap x below = IsWithin-length _ _ (near_within p 0 sizes wrap x below) ∙ length-entry_bounds p sizes wrap
+
 -- ---- off the board
 
 -- a coordinate that is below the size, and one that is not
 pub on_side : (n y : ℕ) → y < n → is_some (within_size n (pos y)) ≡ true
 on_side n y h = ap is_some (cond-true (ltb y n) (Some y) None (lt-ltb y n h))
 
--- a step as long as the side leads off it
-off_side : (n z : ℕ) (u : ℤ) → z < n → n - 1 < nat_abs u → within_size n (pos z +ℤ pos 1 *ℤ u) ≡ None
+-- a step longer than the room on both sides leads off it
+off_side : (n z : ℕ) (u : ℤ) → z < n → max z (n - 1 - z) < nat_abs u → within_size n (pos z +ℤ pos 1 *ℤ u) ≡ None
 off_side n z u h far = grind (arith, ints, negsuc, cond-false, ltb, le-ltb)
 
 pub in_front-none : (o : Option ℕ) → in_front o None ≡ None
 in_front-none o = grind (arith)
 
 -- an entry above its bound leads to no place
-place-off : (p : ℕ) (sides : List Side) (x : List ℕ) (t : List ℤ) (k : ℕ) → IsBelow x (map (λ s. s.size) sides) → k < length sides → get_or (entry_bounds p sides) k 0 < nat_abs (get_or t k (pos 0)) → nat_abs (get_or t k (pos 0)) ≤ p → place sides x t 1 ≡ None
+place-off : (p : ℕ) (sides : List Side) (x : List ℕ) (t : List ℤ) (k : ℕ) → IsBelow x (map (λ s. s.size) sides) → k < length sides → get_or (near_bounds p sides x) k 0 < nat_abs (get_or t k (pos 0)) → nat_abs (get_or t k (pos 0)) ≤ p → place sides x t 1 ≡ None
 place-off p [] x t k b h far small = absurd (omega arith)
 place-off p (s ∷ sides) [] t k b h far small = absurd b
 place-off p (s ∷ sides) (z ∷ x) [] k b h far small = refl
@@ -63,7 +91,7 @@ place-off p (s ∷ sides) (z ∷ x) (u ∷ t) zero b h far small = grind (arith,
 place-off p (s ∷ sides) (z ∷ x) (u ∷ t) (suc k) b h far small =
     cc (place-off p sides x t k b.1 (omega arith) far small, in_front-none (coordinate_on s (pos z +ℤ pos 1 *ℤ u)))
 
-until-none : (x : List ℕ) (g : ℕ → Option (List ℕ)) (n : ℕ) → g 1 ≡ None → moves_until x g (range_with_len 1 n) ≡ []
+pub until-none : (x : List ℕ) (g : ℕ → Option (List ℕ)) (n : ℕ) → g 1 ≡ None → moves_until x g (range_with_len 1 n) ≡ []
 until-none x g zero h = refl
 until-none x g (suc n) h = ap (λ o. option_map_or (λ y. move x 1 y ∷ moves_until x g (range_with_len 2 n)) o []) h
 
@@ -71,15 +99,45 @@ until-none x g (suc n) h = ap (λ o. option_map_or (λ y. move x 1 y ∷ moves_u
 abbrev pub bounds_of : BoardData → List ℕ
 bounds_of b = entry_bounds (nat_abs b.piece) (sides_of b.sizes b.wrap)
 
--- nothing is made by a displacement with an entry above its bound
-abbrev pub IsOff : {X : Type 0} → BoardData → (List ℤ → List X) → Type 0
-IsOff b f = (t : List ℤ) (k : ℕ) → k < length b.sizes → get_or (bounds_of b) k 0 < nat_abs (get_or t k (pos 0)) → nat_abs (get_or t k (pos 0)) ≤ nat_abs b.piece → f t ≡ []
+-- and of one vector's
+abbrev pub near_of : BoardData → List ℕ → List ℕ
+near_of b x = near_bounds (nat_abs b.piece) (sides_of b.sizes b.wrap) x
+
+pub near_fits : (b : BoardData) (x : List ℕ) → IsBelow x b.sizes → IsWithin (near_of b x) (bounds_of b)
+near_fits b x below = near_within (nat_abs b.piece) 0 b.sizes b.wrap x below
+
+-- nothing is made by a displacement of piece p with an entry above its bound
+abbrev pub IsOff : {X : Type 0} → ℕ → List ℕ → (List ℤ → List X) → Type 0
+IsOff p bs f = (t : List ℤ) (k : ℕ) → k < length bs → get_or bs k 0 < nat_abs (get_or t k (pos 0)) → nat_abs (get_or t k (pos 0)) ≤ p → f t ≡ []
+
+-- it leads to no place from the vector
+pub near-off : (b : BoardData) (x : List ℕ) → IsBelow x b.sizes → (t : List ℤ) (k : ℕ) → k < length (near_of b x) → get_or (near_of b x) k 0 < nat_abs (get_or t k (pos 0)) → nat_abs (get_or t k (pos 0)) ≤ nat_abs b.piece → place (sides_of b.sizes b.wrap) x t 1 ≡ None
+near-off b x below t k h far small =
+    let same = sizes_of_sides 0 b.sizes b.wrap in
+    place-off (nat_abs b.piece) (sides_of b.sizes b.wrap) x t k (subst (IsBelow x) (sym same) below)
+    (omega (arith, h, length-near_bounds (nat_abs b.piece) b.sizes b.wrap x below, length-map (sides_of b.sizes b.wrap) (λ s. s.size), ap length same)) far small
+
+-- no move is made where the first step leads to no place
+pub moves-none : (sides : List Side) (piece : ℤ) (x : List ℕ) (t : List ℤ) → place sides x t 1 ≡ None → moves_from sides piece x t ≡ []
+moves-none sides piece x t off = moves_from-until sides piece x t ∙ until-none x (destination sides piece x t) (longest_move sides piece) (none_there piece)
+  where
+    none_there : (p : ℤ) → destination sides p x t 1 ≡ None
+    none_there (pos p) = off
+    none_there (negsuc p) = ap (λ o. cond (is_elsewhere x o) o None) off
 
 -- no move, and so no event
-pub moves-off : (b : BoardData) → IsOff b (moves_by (sides_of b.sizes b.wrap) b.piece (box b.sizes))
-moves-off b t k h far small = search (rules, sizes_of_sides, length-map, flat_map-none, IsBelow-from_Contains, Contains-get_or, place-off, nat_abs, moves_from-until, until-none, cond, sides_of, moves_from, IsBelow, destination, longest_move)
+pub moves-off : (b : BoardData) → IsOff (nat_abs b.piece) (bounds_of b) (moves_by (sides_of b.sizes b.wrap) b.piece (box b.sizes))
+moves-off b t k h far small =
+    flat_map-none (λ y. moves_from (sides_of b.sizes b.wrap) b.piece y t) (box b.sizes)
+    (λ i d within.
+    let y = get_or (box b.sizes) i d in
+    let below : IsBelow y b.sizes = IsBelow-from_Contains b.sizes y (Contains-get_or (box b.sizes) i d within) in
+    let fits = near_fits b y below in
+    let inside : k < length (near_of b y) = omega (arith, h, IsWithin-length _ _ fits) in
+    moves-none (sides_of b.sizes b.wrap) b.piece y t
+    (near-off b y below t k inside (omega (arith, far, AllZip-get_or (λ z c. z ≤ c) (near_of b y) (bounds_of b) k 0 0 fits inside)) small))
 
-events-off : (b : BoardData) → IsOff b (events_by b)
+events-off : (b : BoardData) → IsOff (nat_abs b.piece) (bounds_of b) (events_by b)
 events-off b t k h far small =
     events_by-moves b t ∙ ap (map (event_among (box b.sizes))) (moves-off b t k h far small)
 
@@ -94,8 +152,8 @@ size_at (x ∷ t) (suc k) = size_at t k
 size_at _ _ = refl
 
 -- those of a vector with an entry above its bound make nothing
-vector-off : {X : Type 0} (b : BoardData) (f : List ℤ → List X) → IsOff b f → (v : List ℕ) (k : ℕ) → k < length b.sizes → get_or (bounds_of b) k 0 < get_or v k 0 → get_or v k 0 ≤ nat_abs b.piece → by_signings f v ≡ []
-vector-off b f off v k h far small =
+vector-off : {X : Type 0} (p : ℕ) (bs : List ℕ) (f : List ℤ → List X) → IsOff p bs f → (v : List ℕ) (k : ℕ) → k < length bs → get_or bs k 0 < get_or v k 0 → get_or v k 0 ≤ p → by_signings f v ≡ []
+vector-off p bs f off v k h far small =
     flat_map-none f (signings v)
     (All-weaker (HasSizes v) (λ t. f t ≡ [])
     (λ t e.
@@ -150,22 +208,31 @@ box-same {X} g (n ∷ ns) (m ∷ ms) e h i =
 box-same g _ _ e h i = absurd (omega arith)
 
 -- what a vector of the piece's norm makes
-abbrev by_norm : {X : Type 0} → BoardData → (List ℤ → List X) → List ℕ → List X
-by_norm b f v = by_test f (λ w. eqb (sum_of_squares w) (nat_abs b.piece)) v
+abbrev by_norm : {X : Type 0} → ℕ → (List ℤ → List X) → List ℕ → List X
+by_norm p f v = by_test f (λ w. eqb (sum_of_squares w) p) v
 
-ends-within : {X : Type 0} (b : BoardData) (f : List ℤ → List X) → IsOff b f → EndsAt (by_norm b f) (map (λ n. n + 1) (bounds_of b))
-ends-within b f off v k l far =
-    let count = length-entry_bounds (nat_abs b.piece) b.sizes b.wrap in
-    let place : k < length (bounds_of b) = omega (arith, l, length-map (bounds_of b) (λ n. n + 1)) in
-    let bound : get_or (map (λ n. n + 1) (bounds_of b)) k 0 ≡ get_or (bounds_of b) k 0 + 1 = get_or-map (λ n. n + 1) (bounds_of b) k 0 0 place in
-    grind (arith, cases_Bool, eqb, nat_abs, eqb-true, cond, by_signings, vector-off, entry-le, count, place, bound)
+ends-within : {X : Type 0} (p : ℕ) (bs : List ℕ) (f : List ℤ → List X) → IsOff p bs f → EndsAt (by_norm p f) (map (λ n. n + 1) bs)
+ends-within p bs f off v k l far =
+    let place : k < length bs = omega (arith, l, length-map bs (λ n. n + 1)) in
+    let bound : get_or (map (λ n. n + 1) bs) k 0 ≡ get_or bs k 0 + 1 = get_or-map (λ n. n + 1) bs k 0 0 place in
+    elim (cases_Bool (eqb (sum_of_squares v) p)) [
+      | inl hit ↦
+          ap (λ c. cond c (flat_map f (signings v)) []) hit
+          ∙ vector-off p bs f off v k place (omega (arith, far, bound)) (omega (arith, entry-le v k, eqb-true (sum_of_squares v) p hit))
+      | inr missed ↦ ap (λ c. cond c (flat_map f (signings v)) []) missed
+    ]
+
+-- what the displacements within the bounds make is what all make
+pub within_bounds : {X : Type 0} (p n : ℕ) (bs : List ℕ) (f : List ℤ → List X) → length bs ≡ n → IsOff p bs f → flat_map f (displacements_within p bs) ≡ flat_map f (displacements p n)
+unfolding displacements vectors_of_norm displacements_within vectors_within
+within_bounds p n bs f long off = grind (arith, eqb, replicate, length-map, length-replicate, by_vectors, box-same, by_norm, ends-within, entry-le, get_or-replicate, nat_tests)
 
 -- the events of a board are those by the displacements within the bounds
 pub events_within : (b : BoardData) → flat_map (events_by b) (displacements_within (nat_abs b.piece) (bounds_of b)) ≡ events_of b
-unfolding displacements vectors_of_norm displacements_within vectors_within
-events_within b = grind (arith, events_by, events-off, nat_abs, eqb, bounds_of, replicate, length-map, length-entry_bounds, length-replicate, by_vectors, box-same, by_norm, ends-within, entry-le, get_or-replicate, nat_tests)
+events_within b = within_bounds (nat_abs b.piece) (length b.sizes) (bounds_of b) (events_by b) (length-entry_bounds (nat_abs b.piece) b.sizes b.wrap) (events-off b)
 
 -- and so are its moves
 pub moves_within : (b : BoardData) → flat_map (moves_by (sides_of b.sizes b.wrap) b.piece (box b.sizes)) (displacements_within (nat_abs b.piece) (bounds_of b)) ≡ moves_of_board b
-unfolding board_moves displacements vectors_of_norm displacements_within vectors_within
-moves_within b = grind (arith, moves-off, nat_abs, eqb, bounds_of, replicate, length-map, length-entry_bounds, length-replicate, by_vectors, box-same, by_norm, ends-within, entry-le, get_or-replicate, nat_tests)
+unfolding board_moves
+moves_within b =
+    within_bounds (nat_abs b.piece) (length b.sizes) (bounds_of b) (moves_by (sides_of b.sizes b.wrap) b.piece (box b.sizes)) (length-entry_bounds (nat_abs b.piece) b.sizes b.wrap) (moves-off b)

@@ -21,6 +21,8 @@ pub mod DisplacementLengths
 -- a walk over displacements, one after another
 pub mod DisplacementWalk
 pub mod DisplacementsBefore
+-- those before one that begin like it
+pub mod AlikeDisplacements
 pub mod EarlierSignings
 pub mod EdgesInTurn
 pub mod EarlierVectors
@@ -62,6 +64,8 @@ mod Leaps
 pub mod TurnedMoves
 -- displacements above the bounds lead nowhere
 pub mod BoundedMoves
+-- the arcs of one vector, by displacements that may lead from it
+pub mod NearMoves
 -- what is known of an accepted board
 pub mod AcceptedBoards
 -- the texts of ids, parameter by parameter
@@ -164,6 +168,10 @@ pub mod BoardCountsBoards
 pub mod BoardCountsSides
 -- the moves of all lengths together, by a displacement that at most one side stops
 pub mod BoardCountsTotals
+-- from how many places steps lead to a place, by all vectors of a norm together
+pub mod NormCounts
+-- the moves of a board, by all displacements together
+pub mod NormTotals
 -- when a step around a side is back
 pub mod TimesAround
 pub mod WalkedArcs

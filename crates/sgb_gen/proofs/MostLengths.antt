@@ -83,13 +83,13 @@ out_on : (w : Bool) (n a l : ℕ) (u : ℤ) → a < n → stops_on w u ≡ true 
 out_on true n a l u below stop far = absurd (true≢false (sym stop))
 out_on false n a l u below stop far = out_by n a (pos l *ℤ u) below (omega (arith, far, steps_abs false l u stop))
 
-front_out : (o : Option ℕ) (p : Option (List ℕ)) → p ≡ None → in_front o p ≡ None
+pub front_out : (o : Option ℕ) (p : Option (List ℕ)) → p ≡ None → in_front o p ≡ None
 front_out o p none = ap (in_front o) none ∙ in_front-none o
 
 none_front : (p : Option (List ℕ)) → in_front None p ≡ None
 none_front p = grind (arith)
 
-first_out : (o : Option ℕ) (p : Option (List ℕ)) → o ≡ None → in_front o p ≡ None
+pub first_out : (o : Option ℕ) (p : Option (List ℕ)) → o ≡ None → in_front o p ≡ None
 first_out o p none = ap (λ q. in_front q p) none ∙ none_front p
 
 out_place : (k : ℕ) (sizes : List ℕ) (wrap : ℤ) (x : List ℕ) (t : List ℤ) (l i : ℕ) → IsBelow x sizes → i < length t → length t ≡ length sizes → stops_on (is_bit_set wrap (k + i)) (get_or t i (pos 0)) ≡ true

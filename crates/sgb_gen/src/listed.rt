@@ -163,8 +163,8 @@ impl<'a> Listed<'a> for BoardLists<'a> {
         self.board.id()
     }
 
-    fn arcs_count(&self, _links: &Links) -> Result<u128, Panic> {
-        self.board.arcs_count()
+    fn arcs_count(&self, links: &Links) -> Result<u128, Panic> {
+        self.board.arcs_count(links.alloc())
     }
 
     fn prepare(&mut self, links: &Links) {
@@ -226,8 +226,8 @@ impl<'a> Listed<'a> for OrderedBoard<'a> {
         self.lists.board.id()
     }
 
-    fn arcs_count(&self, _links: &Links) -> Result<u128, Panic> {
-        self.lists.board.arcs_count()
+    fn arcs_count(&self, links: &Links) -> Result<u128, Panic> {
+        self.lists.board.arcs_count(links.alloc())
     }
 
     fn prepare(&mut self, _links: &Links) {}

@@ -70,7 +70,7 @@ impl Local {
         ensures memory { IsOkUnless result Panic.NoRoom }
     {
         match self {
-            Local::Board(board) => board.arcs_count(),
+            Local::Board(board) => board.arcs_count(alloc),
             Local::Simplex(simplex) => simplex.arcs_count(&Links::new(alloc)),
             Local::Subsets(subsets) => Ok(subsets.arcs_count(alloc)),
         }

@@ -21,6 +21,7 @@ mod flat_boards;
 mod given;
 mod list_counts;
 mod lists;
+mod norm_counts;
 mod ordered_boards;
 mod orders;
 mod rows;
@@ -28,9 +29,9 @@ mod runs;
 mod strided_boards;
 mod strides;
 mod turns;
+mod walks;
 
 use crate::displacements::Displacements;
-use crate::falling_displacements::FallingDisplacements;
 use crate::moves::entry_bounds;
 use crate::params::BoardParams;
 use crate::steps::{Parts, Step, put_parts_of};
@@ -186,7 +187,7 @@ impl Board {
     {
         let names = vector_names(alloc, &self.family)?;
         let mut graph = Graph::new(alloc, names)?;
-        graph.reserve(self.records_count()?)?;
+        graph.reserve(self.records_count(alloc)?)?;
         self.add_arcs(&mut graph)?;
         put_coordinates(alloc, &mut graph, &self.family)?;
         graph.set_id(self.id());
@@ -194,12 +195,12 @@ impl Board {
     }
 
     // How many arc records the board's graph has. `NoRoom` where no memory holds so many, and nothing else.
-    fn records_count(&self) -> Result<usize, Panic>
+    fn records_count(&self, alloc: Global) -> Result<usize, Panic>
         ensures count { IfOk result (λ m.
             m ≡ (graph_described (described_by (board_vector_graph self.now))).m) }
         ensures memory { IsOkUnless result Panic.NoRoom }
     {
-        let arcs = self.arcs_count()?;
+        let arcs = self.arcs_count(alloc)?;
         usize::try_from(arcs).map_err(|_great| Panic::NoRoom)
     }
 
@@ -213,18 +214,6 @@ impl Board {
         let piece = self.piece.unsigned_abs() as u32;
         let bounds = entry_bounds(self.sizes(), self.wrap, piece);
         Displacements::new(piece, bounds)
-    }
-
-    // The same, from the last of them on.
-    fn falling_displacements(&self) -> FallingDisplacements
-        ensures all { result ≡ displacements_within (nat_abs self.now.piece)
-            (entry_bounds (nat_abs self.now.piece) (sides_of self.now.sizes self.now.wrap)) }
-        ensures dimensions { All (λ t. length t ≡ length self.now.sizes) result }
-        ensures small { All (λ t. All (λ e. nat_abs e ≤ most_piece) t) result }
-    {
-        let piece = self.piece.unsigned_abs() as u32;
-        let bounds = entry_bounds(self.sizes(), self.wrap, piece);
-        FallingDisplacements::new(piece, bounds)
     }
 
     // The greatest length that a move may have.

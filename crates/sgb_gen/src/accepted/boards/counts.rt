@@ -3,7 +3,7 @@
 //! It goes by displacements. Where all sides that one moves on wrap around, each place has as many moves by it as there
 //! are lengths before a rider is home. Where one side does not, the places from which it moves so far fall by equal
 //! steps from length to length, and are added by a formula. Where two or more do not, it goes length by length, of
-//! which there are at most 31,622.
+//! which there are at most 31,622. Very many displacements are counted together, where they can be (`norm_counts`).
 //!
 //! A board that wraps around in hundreds of dimensions has more arcs than 128 bits count. The answer is out of memory
 //! then, and exactly then (`great`): such a listing could never be written.
@@ -21,22 +21,37 @@ ghost use Rattle.sgb_gen.specs.inner.Moves.{longest_move};
 use super::Board;
 use crate::moves::wraps;
 use sgb_vec::{Family, Panic};
+use std::alloc::Global;
+
+// On fewer sides there are few displacements, which are soon walked.
+const MANY_SIDES: usize = 4;
+
+// A row of counts with no more steps on each side is sooner made than a walk begins.
+const FEW_STEPS: u64 = 40_000;
+
+// Fewer displacements than these are all walked.
+const FEW_WALKED: u64 = 1_000;
+
+// A displacement takes as long as so many of these steps, or longer.
+const STEPS_WALKED: u64 = 16;
 
 impl Board {
     /// The number of arcs of the board's graph (GB_BASIC, board), where an edge counts as two. It is found by
-    /// displacements, with no arc made, and takes no memory: at once for each that moves on at most one side that does
-    /// not wrap around, and length by length for the others.
+    /// displacements, with no arc made: at once for each that moves on at most one side that does not wrap around, and
+    /// length by length for the others. Those of a leaper, or where no side wraps around, may be counted together, by a row
+    /// of numbers. Where the piece is 64 or more, and at most 131,071, the row takes 16 bytes for each number up to the
+    /// piece; where these are refused, the count goes on without it.
     ///
     /// `NoRoom` where the number is 2^128 or more, and nothing else: only a board that wraps around in hundreds of
     /// dimensions has so many arcs, and no time would do to list them.
-    pub fn arcs_count(&self) -> Result<u128, Panic>
+    pub fn arcs_count(&self, alloc: Global) -> Result<u128, Panic>
         ensures count { IfOk result (λ m.
             m ≡ (graph_described (described_by (board_vector_graph self.now))).m) }
         ensures great { IfErr result (λ e.
             2 ^ 128 ≤ (graph_described (described_by (board_vector_graph self.now))).m) }
         ensures memory { IsOkUnless result Panic.NoRoom }
     {
-        let Some(moves) = self.moves_count() else {
+        let Some(moves) = self.moves_count(alloc) else {
             return Err(Panic::NoRoom);
         };
         if self.directed {
@@ -48,14 +63,35 @@ impl Board {
         Ok(arcs)
     }
 
-    // The number of moves, where 128 bits hold it.
-    fn moves_count(&self) -> Option<u128>
+    // The number of moves, where 128 bits hold it: by a row of counts, where that is soon made, or else by a walk.
+    fn moves_count(&self, alloc: Global) -> Option<u128>
+        ensures some { IfSome result (λ n. n ≡ length (moves_of_board self.now)) }
+        ensures none { IfNone result (2 ^ 128 ≤ length (moves_of_board self.now)) }
+    {
+        if self.sizes().len() >= MANY_SIDES && self.row_steps() <= FEW_STEPS {
+            if let Some(moves) = self.moves_by_norms(alloc) {
+                return Some(moves);
+            }
+        }
+        self.moves_walked(alloc)
+    }
+
+    // The same by a walk over the displacements, or over as many as take as long as the row, which is then tried.
+    fn moves_walked(&self, alloc: Global) -> Option<u128>
         ensures some { IfSome result (λ n. n ≡ length (moves_of_board self.now)) }
         ensures none { IfNone result (2 ^ 128 ≤ length (moves_of_board self.now)) }
     {
         let mut counted: u128 = 0;
+        let mut walked: u64 = 0;
+        let most = (self.row_steps() / STEPS_WALKED).max(FEW_WALKED);
         let mut left = self.displacements();
         while let Some(t) = left.front() {
+            if walked == most {
+                if let Some(moves) = self.moves_by_norms(alloc) {
+                    return Some(moves);
+                }
+            }
+            walked = walked.saturating_add(1);
             let Some(more) = self.count_by(t, counted) else {
                 return None;
             };
@@ -291,8 +327,8 @@ fn step(t: i32, l: u32) -> i64
     i64::from(l) * i64::from(t)
 }
 
-// From how many coordinates of a side a step of `u` stays on it: from all where it wraps around.
-fn starts_on(size: u32, wraps: bool, u: i64) -> u64
+/// From how many coordinates of a side a step of `u` stays on it: from all where it wraps around.
+pub(super) fn starts_on(size: u32, wraps: bool, u: i64) -> u64
     ensures { result ≡ starts_on (record { size = size; wraps = wraps }) u }
 {
     if wraps {

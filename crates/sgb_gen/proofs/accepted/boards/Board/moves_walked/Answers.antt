@@ -7,7 +7,7 @@ use Rattle.sgb_gen.specs.Moves.{sides_of}
 use Rattle.sgb_gen.specs.VectorGraphs.{Move}
 use Rattle.sgb_gen.proofs.BoundedMoves.{moves_within}
 use Rattle.sgb_gen.proofs.DisplacementWalk.{first_and_others}
-use Rattle.sgb_gen.proofs.accepted.boards.Board.moves_count.Goals as goal
+use Rattle.sgb_gen.proofs.accepted.boards.Board.moves_walked.Goals as goal
 
 pub loop-t-init : goal.loop-t-init
 loop-t-init c = search (rules, moves_within)
