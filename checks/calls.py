@@ -53,6 +53,7 @@ CALLS = [
     "intersection",
     "lines",
     "product",
+    "product_of",
     "bi_complete",
     "wheel",
     "induced",

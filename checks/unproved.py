@@ -16,7 +16,8 @@ that overflows, or an index that is too large, still ends the program. In that f
 each try, and that takes as long, does nothing.
 
 `rt try` makes no library. So the module of sgb_c is that of a test which calls each export, and the exports, which take words and
-pointers alone, get the names that they have in the library.
+pointers alone, get the names that they have in the library. Nor does a try hand on the hint that a function stands by itself,
+without which its stack would be that of its caller: so it is put back into the modules.
 """
 
 import concurrent.futures
@@ -79,6 +80,11 @@ HANDED = [("alloc: Global", "alloc"), ("(graph|first): &mut GraphHandle", "&mut 
           ("made: &mut GraphHandle", "&mut made"), (r"\w+: &mut EntriesHandle", "&mut list"), (r"\w+: &mut Sizes", "&mut sizes"),
           (r"\w+: &\[\w+\]", "&[]"), (r"\w+: &mut \[\w+\]", "&mut []"), (r"\w+: &mut u\d+", "&mut 0"),
           (r"\w+: [ui]\d+", "0"), (r"\w+: bool", "false")]
+
+
+# a function that is to stand by itself, in a source; and the head of one in a module, with the last name in its path
+APART = re.compile(r"#\[inline\(never\)\]\s+(?:pub(?:\(\w+\))? )?fn (\w+)")
+HEAD = re.compile(r'^(define [^@\n]*@"(?:[^"<]*::)?(\w+)(?:::<[^"]*)?"\([^\n]*\) )#0 \{', re.MULTILINE)
 
 
 class NotBuilt(Exception):
@@ -145,7 +151,16 @@ def module(kit, name, *words):
     text = kept + ".ll"
     built([clang, *TARGET, "-O0", "-S", "-emit-llvm", "-x", "ir", kept, "-o", text], PLACE)
     with open(text, encoding="utf-8") as lines:
-        return CHECKS.sub("", lines.read().replace(" sanitize_address", ""))
+        return kept_apart(CHECKS.sub("", lines.read().replace(" sanitize_address", "")))
+
+
+def kept_apart(text):
+    """The module whose functions stand by themselves where the sources say so."""
+    names = set()
+    for path in glob.glob(os.path.join(TREE, "crates/*/src/**/*.rt"), recursive=True):
+        with open(path, encoding="utf-8") as source:
+            names.update(APART.findall(source.read()))
+    return HEAD.sub(lambda head: f"{head[1]}{'noinline ' if head[2] in names else ''}#0 {{", text)
 
 
 def compiled(kit, name, text):

@@ -173,7 +173,8 @@ def stack(runs, tally):
     if not path:
         return
     generator, other, pair, all_else = stack_said()
-    deep = [(nested(depth), depth) for depth in (2, 8, 32, 64)] + [("product(" * 63 + "complete(1)" + ",complete(1),0,0)" * 63, 64)]
+    deep = [(nested(depth), depth) for depth in (2, 8, 32, 64)]
+    deep += [(f"{name}(" * 63 + "complete(1)" + ",complete(1),0,0)" * 63, 64) for name in ("product", "gunion")]
     most = {}
     for text, depth in STACKS + deep:
         is_generator = c_library.is_generator(text)

@@ -41,6 +41,8 @@ pub mod Marks
 pub mod Places
 -- the pairs of vertices of two graphs
 pub mod Pairs
+-- the steps of a product by arcs that are read
+pub mod Steps
 -- the graph that an operation ends with
 pub mod Results
 -- answers one after another

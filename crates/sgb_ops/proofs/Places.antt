@@ -1,13 +1,11 @@
 -- What is done place by place, or arc by arc, as events that are added one after another.
-use Rattle.sgb_vec.proofs.Common.{rules, ◌≡◌, ℕ, ℤ, Option, Some, ◌+◌, ◌<◌, ◌≤◌, Bool, List, [], ◌∷◌, ◌++◌, ap, subst, ◌∙◌, arith, All, range_with_len, All-head, All-tail}
-use Rattle.std.specs.Iterator.{YieldsFirst}
-use Rattle.sgb_vec.proofs.Lists.{steps_to}
+use Rattle.sgb_vec.proofs.Common.{rules, ◌≡◌, ℕ, ℤ, ◌+◌, ◌<◌, ◌≤◌, Bool, List, [], ◌∷◌, ◌++◌, length, drop, get_or, ap, ◌∙◌, arith, range_with_len, drop_more}
 use Rattle.sgb_graph.specs.Graphs.{GraphData}
 use Rattle.sgb_graph.specs.Events.{Event}
 use Rattle.sgb_graph.specs.Growth.{AddsEvents}
 use Rattle.sgb_graph.specs.declared.fields.Link.{Link}
-use Rattle.sgb_graph.proofs.AddedEvents.{AddsUpTo, up_to-none, up_to-more, up_to-all}
-use Rattle.sgb_ops.proofs.EventsWithin.{TipBelow}
+use Rattle.sgb_graph.proofs.AddedEvents.{AddsUpTo, up_to-more, up_to-all}
+use Rattle.sgb_ops.proofs.TallyLemmas.{no_arc}
 use Rattle.sgb_ops.proofs.PlainLists.{places_from, places-all, places-next, places-none}
 
 -- the same event, told in other words
@@ -28,25 +26,13 @@ module _ (directed : Bool) (old now : GraphData) (events : List ℕ → List Eve
   pub places_added : n ≤ i → PlacesLeft directed old now events n i → events [] ≡ [] → AddsEvents directed old now (events (range_with_len 0 n))
   places_added past left none = search (rules, places-all, up_to-all, places_from, places-none)
 
--- arcs that lead to vertices below n are left, and their events are still to come
-abbrev pub ArcsLeft : ℕ → Bool → GraphData → GraphData → (List Link → List Event) → List Link → List Event → Type 0
-ArcsLeft n directed old now events left all = All (TipBelow n) left × AddsUpTo directed old now (events left) all
+-- arcs of a list have their events added one after another; those from place i on are still to come
+abbrev pub ListLeft : Bool → GraphData → GraphData → (List Link → List Event) → List Link → ℕ → Type 0
+ListLeft directed old now events arcs i = AddsUpTo directed old now (events (drop i arcs)) (events arcs)
 
--- at first all are left
-pub arcs_first : (n : ℕ) (directed : Bool) (g : GraphData) (events : List Link → List Event) (left given arcs : List Link)
-    → left ≡ given → given ≡ arcs → All (TipBelow n) given → ArcsLeft n directed g g events left (events arcs)
-arcs_first n directed g events left given arcs is same tips = search (rules, up_to-none)
-
--- the next one leads to such a vertex
-pub next_tip : (n : ℕ) (left rest : List Link) (r : Option Link) (l : Link) → r ≡ Some l → YieldsFirst (λ x. x) left r rest → All (TipBelow n) left → l.tip < n
-next_tip n left rest r l is steps tips = All-head (TipBelow n) l rest (subst (All (TipBelow n)) (steps_to left rest r l is steps) tips)
-
--- its events are added
-pub arc_added : (n : ℕ) (directed : Bool) (old now new : GraphData) (events : List Link → List Event) (left rest : List Link) (r : Option Link) (l : Link) (es all : List Event)
-    → r ≡ Some l → YieldsFirst (λ x. x) left r rest → ArcsLeft n directed old now events left all → AddsEvents directed now new es → events (l ∷ rest) ≡ es ++ events rest
-    → ArcsLeft n directed old new events rest all
-arc_added n directed old now new events left rest r l es all is steps arcs added same =
-    let step = steps_to left rest r l is steps in (
-      All-tail (TipBelow n) l rest (subst (All (TipBelow n)) step arcs.0),
-      up_to-more directed old now new es (events rest) all (events left) arcs.1 (ap events step ∙ same) added,
-    )
+-- those of the arc at place i are added
+pub arc_added : (directed : Bool) (old now new : GraphData) (events : List Link → List Event) (arcs : List Link) (i : ℕ) (es : List Event)
+    → i < length arcs → ListLeft directed old now events arcs i → AddsEvents directed now new es
+    → events (get_or arcs i no_arc ∷ drop (i + 1) arcs) ≡ es ++ events (drop (i + 1) arcs) → ListLeft directed old new events arcs (i + 1)
+arc_added directed old now new events arcs i es below left added same =
+    up_to-more directed old now new es (events (drop (i + 1) arcs)) (events arcs) (events (drop i arcs)) left (ap events (drop_more arcs i no_arc below) ∙ same) added

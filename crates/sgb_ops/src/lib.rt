@@ -48,6 +48,6 @@ pub use laws::{
     taking_law,
 };
 pub use line_graphs::{directed_lines_of, lines};
-pub use products::product;
+pub use products::{product, product_of};
 pub use sources::Source;
 pub use wheels::wheel;

@@ -68,7 +68,7 @@ pub(crate) fn graph_with_room(alloc: Global, names: Names, records: usize) -> Re
     Ok(built)
 }
 
-/// Appends this name joined with that of each vertex of the graph, with the separator, a byte, between them.
+/// Appends this name joined with each of `n` others, with the separator, a byte, between them.
 ///
 /// `NoRoom` when out of memory, and nothing else.
 pub(crate) fn push_joined_names(
@@ -76,32 +76,36 @@ pub(crate) fn push_joined_names(
     names: &mut Names,
     name: &Text,
     separator: &[u8],
-    graph: &Graph,
+    others: &VertexNames<'_>,
+    n: u32,
 ) -> Result<(), Panic>
     requires short { length separator.now ≤ 1 }
     requires printable { All IsTextByte separator.now }
+    requires all { n ≡ length (names_held others.now) }
     ensures ok { OnOk result (names.new ≡ names.old
-        ++ map (joined_name name.now separator.now) (names_of graph.now)) }
+        ++ map (joined_name name.now separator.now) (names_held others.now)) }
     ensures memory { IsOkUnless result Panic.NoRoom }
 {
     let start = ended_name(alloc, name, MOST_PART, separator)?;
-    push_begun_names(alloc, names, &start, graph)
+    push_begun_names(alloc, names, &start, others, n)
 }
 
-// Appends this start with the name of each vertex of the graph after it.
+// Appends this start with each of `n` others after it.
 fn push_begun_names(
     alloc: Global,
     names: &mut Names,
     start: &Text,
-    graph: &Graph,
+    others: &VertexNames<'_>,
+    n: u32,
 ) -> Result<(), Panic>
-    requires { length start.now ≤ 2_048 }
+    requires start { length start.now ≤ 2_048 }
+    requires all { n ≡ length (names_held others.now) }
     ensures ok { OnOk result (names.new ≡ names.old
-        ++ map (begun_name start.now) (names_of graph.now)) }
+        ++ map (begun_name start.now) (names_held others.now)) }
     ensures memory { IsOkUnless result Panic.NoRoom }
 {
-    for w in 0..graph.n() {
-        push_name(names, begun_name(alloc, start, graph.name(w), MOST_PART)?)?;
+    for w in 0..n {
+        push_name(names, begun_name(alloc, start, others.get(w), MOST_PART)?)?;
     }
     Ok(())
 }

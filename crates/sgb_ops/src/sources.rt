@@ -36,6 +36,8 @@ use std::marker::Model;
 #[derive(Drop)]
 pub struct Source<'a> {
     kept: SourceKind<'a>,
+    // So many arcs are on its lists at most where that is known, and else 0. It is told for room alone.
+    most_arcs: usize,
 }
 
 // How it is kept.
@@ -65,6 +67,7 @@ impl<'a> Source<'a> {
     {
         Source {
             kept: SourceKind::Built(graph),
+            most_arcs: graph.records_len(),
         }
     }
 
@@ -74,6 +77,7 @@ impl<'a> Source<'a> {
     {
         Source {
             kept: SourceKind::Flat(lists),
+            most_arcs: 0,
         }
     }
 
@@ -83,6 +87,17 @@ impl<'a> Source<'a> {
     {
         Source {
             kept: SourceKind::Listed(lists),
+            most_arcs: 0,
+        }
+    }
+
+    /// The same graph, where the caller knows that so many arcs are on its lists at most. It is told for room alone.
+    pub fn with_most_arcs(self, most_arcs: usize) -> Source<'a>
+        ensures { result ≡ self.entry }
+    {
+        Source {
+            kept: self.kept,
+            most_arcs,
         }
     }
 
@@ -140,10 +155,7 @@ impl<'a> Source<'a> {
 
     /// So many arcs are on its lists at most where that is known, and else 0: it is told for room alone.
     pub(crate) fn most_arcs(&self) -> usize {
-        match &self.kept {
-            SourceKind::Built(graph) => graph.records_len(),
-            _ => 0,
-        }
+        self.most_arcs
     }
 
     /// A hint for who reads the lists of all vertices in order, at each vertex before its list. It changes nothing.
@@ -210,6 +222,28 @@ impl<'a> Source<'a> {
         }
     }
 
+    /// Makes `arcs` the whole list of vertex `v`, as `take_arcs` does: of a graph that is built with no call.
+    ///
+    /// `NoRoom` when out of memory, and nothing else.
+    #[inline(always)]
+    pub(crate) fn take_list(
+        &self,
+        arcs: &mut Vec<Link>,
+        v: u32,
+        events: &mut Vec<Event>,
+        room: &mut ListRoom,
+    ) -> Result<(), Panic>
+        requires vertex { v < length self.now.vertices }
+        ensures ok { OnOk result (map bare arcs.new.items ≡ map bare (chain_of self.now v)) }
+        ensures tips { OnOk result (All (λ l. l.tip < length self.now.vertices) arcs.new.items) }
+        ensures memory { IsOkUnless result Panic.NoRoom }
+    {
+        if let SourceKind::Built(graph) = &self.kept {
+            return put_list(arcs, graph, v);
+        }
+        self.take_arcs(arcs, true, v, events, room)
+    }
+
     /// Makes `tips` the vertices that the list of vertex `v` leads to, in its order. `events` and `room` are what they are
     /// found with: what the events are is open.
     ///
@@ -274,6 +308,21 @@ fn push_links(arcs: &mut Vec<Link>, graph: &Graph, directed: bool, v: u32) -> Re
     ensures memory { IsOkUnless result Panic.NoRoom }
 {
     for link in taken(graph, directed, v) {
+        arcs.push(link)?;
+    }
+    Ok(())
+}
+
+// Makes `arcs` the whole list of `v` in `graph`.
+#[inline(always)]
+fn put_list(arcs: &mut Vec<Link>, graph: &Graph, v: u32) -> Result<(), Panic>
+    requires { v < length graph.now.vertices }
+    ensures ok { OnOk result (arcs.new.items ≡ chain_of graph.now v) }
+    ensures tips { All (λ l. l.tip < length graph.now.vertices) (chain_of graph.now v) }
+    ensures memory { IsOkUnless result Panic.NoRoom }
+{
+    arcs.clear();
+    for link in graph.arcs(v) {
         arcs.push(link)?;
     }
     Ok(())

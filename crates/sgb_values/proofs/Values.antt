@@ -1,5 +1,5 @@
 -- Values of expressions, from those of their operands.
-use Rattle.std.proofs.Common.{arith, ◌≡◌, ◌+◌, ℕ, Result, Ok, Err, ap, refl, ◌||◌, ◌++◌, Bool, Box, Global, List, [], ◌∷◌, ◌∙◌, append_assoc, IfOk, IfErr}
+use Rattle.std.proofs.Common.{arith, ◌≡◌, ◌+◌, ℕ, Result, Ok, Err, ap, ◌||◌, ◌++◌, Bool, Box, Global, List, [], ◌∷◌, ◌∙◌, append_assoc, IfOk, IfErr}
 use Rattle.sgb_vec.specs.Results.{and_then, IsValue}
 use Rattle.sgb_vec.specs.declared.panics.Panic.{Panic}
 use Rattle.sgb_graph.specs.Descriptions.{Description, IsAnswerOf}
@@ -30,10 +30,6 @@ pub value_then : {T U : Type 0} (operand : Result T Panic) (x : T) (make : T →
     → operand ≡ Ok x → IsValue (make x) r → IsValue (and_then operand make) r
 value_then operand x make r e is = rw e is
 
--- two operands, one after the other
-pub value_both : {T U : Type 0} (first : Result T Panic) (second : Result U Panic) (x : T) (y : U) → first ≡ Ok x → second ≡ Ok y → both first second ≡ Ok (x, y)
-value_both first second x y e f = rw (e, f) refl
-
 -- the first one's refusal
 pub first_refused : {T U V : Type 0} (first : Result T Panic) (second : Result U Panic) (make : T × U → Result V Panic) (p : Panic) → IsValue first (Err p) → IsValue (and_then (both first second) make) (Err p)
 first_refused first second make p h = grind (arith)
@@ -42,15 +38,10 @@ first_refused first second make p h = grind (arith)
 pub both_refused : {T U : Type 0} (first : Result T Panic) (second : Result U Panic) (x : T) (p : Panic) → first ≡ Ok x → IsValue second (Err p) → IsValue (both first second) (Err p)
 both_refused first second x p e h = grind (arith)
 
--- the value of an operation on an operand that stands in a box, and on two
+-- the value of an operation on an operand that stands in a box
 pub value_one : (make : GraphData → Result Description Panic) (stdin : Result GraphData Panic) (e f : Expr) (g : GraphData) (r : Result GraphData Panic) → e ≡ f → value_of stdin (expression_of e) ≡ Ok g
     → IsAnswerOf (make g) r → IsValue (and_then (value_of stdin (expression_of f)) (λ x. made (make x))) r
 value_one make stdin e f g r same is answer = rw (← same, is) (value_made (make g) r answer)
-
-pub value_two : (make : GraphData → GraphData → Result Description Panic) (stdin : Result GraphData Panic) (e f e' f' : Expr) (operands : GraphData × GraphData) (r : Result GraphData Panic) → e ≡ e' → f ≡ f'
-    → both (value_of stdin (expression_of e)) (value_of stdin (expression_of f)) ≡ Ok operands
-    → IsAnswerOf (make operands.0 operands.1) r → IsValue (and_then (both (value_of stdin (expression_of e')) (value_of stdin (expression_of f'))) (λ x. made (make x.0 x.1))) r
-value_two make stdin e f e' f' operands r same alike is answer = rw (← same, ← alike, is) (value_made (make operands.0 operands.1) r answer)
 
 -- a refusal of what something is made of
 pub then_refused : {T U : Type 0} (v : Result T Panic) (make : T → Result U Panic) (p : Panic) → IsValue v (Err p) → IsValue (and_then v make) (Err p)

@@ -7,7 +7,7 @@ ghost use Rattle.sgb_expr.specs.Expression.{OfGraphs, entries_of, entry_of, expr
 ghost use Rattle.sgb_expr.specs.StdinUses.{entries_have_stdin, entry_has_stdin, has_stdin};
 ghost use Rattle.sgb_values.specs.FirstRefusals.{IsRefusedFirst};
 ghost use Rattle.sgb_vec.specs.Results.{IsValue};
-ghost use Rattle.sgb_values.specs.Values.{IsValueOn, both, entry_value, value_of, values_of};
+ghost use Rattle.sgb_values.specs.Values.{IsValueOn, entry_value, value_of, values_of};
 ghost use Rattle.sgb_values.specs.inner.EntryValues.{handed_entry};
 ghost use Rattle.sgb_values.specs.inner.Inputs.{left_after};
 ghost use Rattle.sgb_values.specs.inner.Operands.{graph_held, on_lists};
@@ -25,7 +25,7 @@ use list_operations::{
 };
 use sgb_expr::{EntryExpr, Expr, have_stdin};
 use sgb_graph::Graph;
-use sgb_ops::{bi_complete, induced_from, product, wheel};
+use sgb_ops::{bi_complete, induced_from, wheel};
 use sgb_vec::Panic;
 use std::alloc::Global;
 
@@ -131,10 +131,17 @@ fn evaluate(
             second,
             kind,
             directed,
-        } => {
-            let (left, right) = operands(alloc, first, second, input, more)?;
-            product(alloc, &left, &right, *kind, *directed)
-        }
+        } => by_lists(
+            alloc,
+            OnLists::Product {
+                kind: *kind,
+                directed: *directed,
+            },
+            first,
+            second,
+            input,
+            more,
+        ),
         Expr::Induced {
             graph,
             entries,
@@ -201,28 +208,6 @@ fn operand(
     }
     let graph = evaluate(alloc, expression, input, more)?;
     Ok(Operand::Built(graph))
-}
-
-// The graphs of two expressions; the first one's refusal before the second's.
-#[cycle(graphs)]
-fn operands(
-    alloc: Global,
-    first: &Expr,
-    second: &Expr,
-    input: &mut Kept<'_>,
-    more: bool,
-) -> Result<(Graph, Graph), Panic>
-    ensures value { (stdin : List ℕ → Result GraphData Panic) → GivesStdin stdin
-        → IsValue (both (value_of (stdin input.old) (expression_of first.now))
-        (value_of (stdin input.old) (expression_of second.now))) result }
-    ensures left { IfOk result (λ _. input.new ≡ left_after more
-        (has_stdin (expression_of first.now) || has_stdin (expression_of second.now)) input.old) }
-    ensures refused { (p : Panic) → IsRefusedFirst input.old (expression_of first.now) p
-        → result ≡ Err p }
-{
-    let left = evaluate(alloc, first, input, more_with(more, second))?;
-    let right = evaluate(alloc, second, input, more)?;
-    Ok((left, right))
 }
 
 // Whether standard input is read again where an expression is still to come.

@@ -10,18 +10,21 @@ use Rattle.sgb_ops.specs.Product.{product_events}
 use Rattle.sgb_ops.specs.inner.Compounds.{pair_name, product_id}
 use Rattle.sgb_ops.specs.declared.products.ProductType.{ProductType}
 
--- it has one vertex for each pair, not more than a graph can have, and its arcs use no utility fields
-abbrev pub HasRoomForPairs : GraphData → GraphData → GraphData → Type 0
-HasRoomForPairs built g h =
-    (order_of g * order_of h ≤ most_vertices) × (order_of built ≡ order_of g * order_of h) × HasPlainArcs built
+-- it has one vertex for each pair of n and h of them, not more than a graph can have, and its arcs use no utility fields
+abbrev pub HasRoomForPairs : GraphData → ℕ → ℕ → Type 0
+HasRoomForPairs built n h = (n * h ≤ most_vertices) × (order_of built ≡ n * h) × HasPlainArcs built
 
 -- the vertices of graphs with n and h of them make more pairs than a graph can have vertices
 abbrev pub has_too_many_pairs : ℕ → ℕ → Bool
 has_too_many_pairs n h = nat_lt most_vertices (n * h)
 
--- the names of the pairs
+-- the names of the pairs of these names and those
+abbrev pub paired_names : List (List ℕ) → List (List ℕ) → List (List ℕ)
+paired_names first second = flat_map (λ a. map (λ b. pair_name a b) second) first
+
+-- those of two graphs
 abbrev pub names_of_pairs : GraphData → GraphData → List (List ℕ)
-names_of_pairs g h = flat_map (λ a. map (λ b. pair_name a b) (names_of h)) (names_of g)
+names_of_pairs g h = paired_names (names_of g) (names_of h)
 
 -- the product of that type
 abbrev pub product_graph : ProductType → GraphData → GraphData → Bool → Description

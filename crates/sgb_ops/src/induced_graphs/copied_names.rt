@@ -11,7 +11,7 @@ ghost use Rattle.std.specs.Prelude.{◌<◌};
 
 use super::entries::Entry;
 use crate::compounds::{ended_name, joined_name};
-use crate::operands::{push_joined_names, push_name};
+use crate::operands::{VertexNames, push_joined_names, push_name};
 use sgb_graph::{Graph, Names};
 use sgb_vec::{Panic, Text, name_of};
 use std::alloc::Global;
@@ -84,7 +84,10 @@ fn push_copies(alloc: Global, names: &mut Names, name: &Text, entry: &Entry) -> 
 {
     match entry {
         Entry::Copies(count) => push_counted(alloc, names, name, *count),
-        Entry::Graph(inner) => push_joined_names(alloc, names, name, b":", inner),
+        Entry::Graph(inner) => {
+            let others = VertexNames::Of(inner);
+            push_joined_names(alloc, names, name, b":", &others, inner.n())
+        }
         Entry::Merged(_) => Ok(()),
     }
 }

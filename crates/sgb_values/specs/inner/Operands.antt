@@ -3,11 +3,11 @@ use Rattle.std.specs.Prelude.{true}
 use Rattle.sgb_graph.specs.Graphs.{GraphData}
 use Rattle.sgb_graph.specs.Made.{graph_described}
 use Rattle.sgb_gen.specs.Generators.{described}
-use Rattle.sgb_expr.specs.Expression.{OnGraph, Complement as OfComplement, Lines, OnGraphs, Gunion, Intersection as OfIntersection}
+use Rattle.sgb_expr.specs.Expression.{OnGraph, Complement as OfComplement, Lines, OnGraphs, Gunion, Intersection as OfIntersection, Product as OfProduct}
 use Rattle.sgb_values.specs.declared.evaluation.list_operations.OnList.{OnList}
 use Rattle.sgb_values.specs.declared.evaluation.list_operations.OnList.TheVariants.{Complement, DirectedLines}
 use Rattle.sgb_values.specs.declared.evaluation.list_operations.OnLists.{OnLists}
-use Rattle.sgb_values.specs.declared.evaluation.list_operations.OnLists.TheVariants.{Union, Intersection}
+use Rattle.sgb_values.specs.declared.evaluation.list_operations.OnLists.TheVariants.{Union, Intersection, Product}
 use Rattle.sgb_values.specs.declared.evaluation.list_operations.Operand.{Operand}
 use Rattle.sgb_values.specs.declared.evaluation.list_operations.Operand.TheVariants.{Built, Listed}
 
@@ -20,6 +20,7 @@ on_list DirectedLines = Lines true
 abbrev pub on_lists : OnLists → OnGraphs
 on_lists (Union multi directed) = Gunion multi directed
 on_lists (Intersection multi directed) = OfIntersection multi directed
+on_lists (Product kind directed) = OfProduct kind directed
 
 -- the graph of an operand
 abbrev pub graph_held : Operand → GraphData

@@ -13,7 +13,9 @@ ghost use Rattle.sgb_values.specs.inner.Operands.{graph_held, on_list, on_lists}
 
 use sgb_gen::{FlatLists, Generator, Local, LocalLists, local_of};
 use sgb_graph::Graph;
-use sgb_ops::{Source, complement_of, directed_lines_of, gunion_of, intersection_of, lines};
+use sgb_ops::{
+    Source, complement_of, directed_lines_of, gunion_of, intersection_of, lines, product_of,
+};
 use sgb_vec::Panic;
 use std::alloc::Global;
 
@@ -53,6 +55,8 @@ pub(crate) enum OnLists {
     Union { multi: bool, directed: bool },
     /// The intersection.
     Intersection { multi: bool, directed: bool },
+    /// The product.
+    Product { kind: i64, directed: bool },
 }
 
 impl OnLists {
@@ -65,6 +69,29 @@ impl OnLists {
             OnLists::Intersection { multi, directed } => {
                 intersection_of(alloc, first, second, multi, directed)
             }
+            OnLists::Product { kind, directed } => {
+                product_of(alloc, first, second, kind, directed)
+            }
+        }
+    }
+
+    // The second operand as it is read: where its lists are read again and again, it is built.
+    fn second(self, alloc: Global, operand: Operand) -> Result<Operand, Panic>
+        ensures ok { IfOk result (λ o. graph_held o ≡ graph_held operand) }
+        ensures memory { IsOkUnless result Panic.NoRoom }
+    {
+        if self.reads_once() {
+            return Ok(operand);
+        }
+        let graph = operand.graph(alloc)?;
+        Ok(Operand::Built(graph))
+    }
+
+    // Whether each list of the second operand is read once: in a product with steps in both coordinates none is.
+    fn reads_once(self) -> bool {
+        match self {
+            OnLists::Product { kind, directed: _ } => kind == 0,
+            OnLists::Union { .. } | OnLists::Intersection { .. } => true,
         }
     }
 }
@@ -97,6 +124,14 @@ impl Operand {
         match self {
             Operand::Listed(local) => local.lists(alloc),
             Operand::Built(_) => None,
+        }
+    }
+
+    // So many arcs are on its lists at most, where that is known at once, and else 0. It is told for room alone.
+    fn most_arcs(&self, alloc: Global) -> usize {
+        match self {
+            Operand::Listed(Local::Board(board)) => counted(board.arcs_count(alloc)),
+            _ => 0,
         }
     }
 
@@ -165,7 +200,8 @@ pub(crate) fn lines_of_operand(
 
 /// The answer of an operation on two operands, which are then dropped.
 ///
-/// The refusal of the second comes first.
+/// The refusal of the second comes first. It stands by itself: its stack is not that of operations in one another.
+#[inline(never)]
 pub(crate) fn answer_of(
     alloc: Global,
     operation: OnLists,
@@ -190,11 +226,15 @@ fn answer_of_two(
     ensures { IsAnswerOf (of_graphs (on_lists operation) (graph_held first) (graph_held second))
         result }
 {
+    let second = operation.second(alloc, second)?;
+    let most_arcs = first.most_arcs(alloc);
     if let Some(lists) = first.flat_lists(alloc) {
-        return answer_with(alloc, operation, &Source::flat(&lists), second);
+        let source = Source::flat(&lists).with_most_arcs(most_arcs);
+        return answer_with(alloc, operation, &source, second);
     }
     if let Some(lists) = first.lists(alloc) {
-        return answer_with(alloc, operation, &Source::listed(&lists), second);
+        let source = Source::listed(&lists).with_most_arcs(most_arcs);
+        return answer_with(alloc, operation, &source, second);
     }
     let graph = first.graph(alloc)?;
     answer_with(alloc, operation, &Source::built(&graph), second)
@@ -209,12 +249,23 @@ fn answer_with(
 ) -> Result<Graph, Panic>
     ensures { IsAnswerOf (of_graphs (on_lists operation) first.now (graph_held second)) result }
 {
+    let most_arcs = second.most_arcs(alloc);
     if let Some(lists) = second.flat_lists(alloc) {
-        return operation.answer(alloc, first, &Source::flat(&lists));
+        let source = Source::flat(&lists).with_most_arcs(most_arcs);
+        return operation.answer(alloc, first, &source);
     }
     if let Some(lists) = second.lists(alloc) {
-        return operation.answer(alloc, first, &Source::listed(&lists));
+        let source = Source::listed(&lists).with_most_arcs(most_arcs);
+        return operation.answer(alloc, first, &source);
     }
     let graph = second.graph(alloc)?;
     operation.answer(alloc, first, &Source::built(&graph))
+}
+
+// So many arcs, or 0 where it is not known how many.
+fn counted(arcs: Result<u128, Panic>) -> usize {
+    match arcs {
+        Ok(arcs) => usize::try_from(arcs).unwrap_or(0),
+        Err(_) => 0,
+    }
 }

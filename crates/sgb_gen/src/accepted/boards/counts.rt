@@ -38,9 +38,9 @@ const STEPS_WALKED: u64 = 16;
 impl Board {
     /// The number of arcs of the board's graph (GB_BASIC, board), where an edge counts as two. It is found by
     /// displacements, with no arc made: at once for each that moves on at most one side that does not wrap around, and
-    /// length by length for the others. Those of a leaper, or where no side wraps around, may be counted together, by a row
-    /// of numbers. Where the piece is 64 or more, and at most 131,071, the row takes 16 bytes for each number up to the
-    /// piece; where these are refused, the count goes on without it.
+    /// length by length for the others. Those of a leaper, or where no side wraps around, may be counted together, by a
+    /// row of numbers. Where the piece is 64 or more, and at most 131,071, the row takes 16 bytes for each number up to
+    /// the piece; where these are refused, the count goes on without it.
     ///
     /// `NoRoom` where the number is 2^128 or more, and nothing else: only a board that wraps around in hundreds of
     /// dimensions has so many arcs, and no time would do to list them.

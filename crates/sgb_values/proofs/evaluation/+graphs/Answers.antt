@@ -1,9 +1,9 @@
-use Rattle.sgb_vec.proofs.Common.{◌≡◌, ◌||◌, ◌∙◌, ◌++◌, ℤ, List, [], ◌∷◌, map, Result, Ok, Err, refl, ap, ap₂, sym, subst, w64, rules, arith, inr, ℕ, Bool, true, false, IfOk, IfErr, err_from_is_err_and, to_z-of_z, map-append}
+use Rattle.sgb_vec.proofs.Common.{◌≡◌, ◌||◌, ◌∙◌, ◌++◌, ℤ, List, [], ◌∷◌, map, Result, Ok, Err, refl, ap, sym, subst, w64, rules, arith, inr, ℕ, Bool, true, false, IfOk, IfErr, err_from_is_err_and, to_z-of_z, map-append}
 use Rattle.sgb_vec.specs.declared.panics.Panic.{Panic}
 use Rattle.sgb_graph.specs.Descriptions.{Description, IsAnswerOf}
 use Rattle.sgb_graph.specs.Graphs.{GraphData}
 use Rattle.sgb_expr.specs.Listed.{listed}
-use Rattle.sgb_expr.specs.Expression.{entries_of, expression_of, Expression, Entries, Gunion, Intersection}
+use Rattle.sgb_expr.specs.Expression.{entries_of, expression_of, Expression, Entries, Gunion, Intersection, Product}
 use Rattle.sgb_expr.specs.StdinUses.{entries_have_stdin, has_stdin}
 use Rattle.sgb_expr.specs.declared.expressions.Expr.{Expr}
 use Rattle.sgb_expr.specs.declared.entries.EntryExpr.{EntryExpr}
@@ -11,7 +11,6 @@ use Rattle.sgb_ops.specs.Induced.{induced_of}
 use Rattle.sgb_ops.specs.declared.induced_graphs.entries.Entry.{Entry}
 use Rattle.sgb_ops.specs.Complement.{complement_of}
 use Rattle.sgb_ops.specs.Lines.{line_graph_of}
-use Rattle.sgb_ops.specs.Product.{product_graph_of}
 use Rattle.sgb_ops.specs.BiComplete.{accepted_parts, bi_complete_of}
 use Rattle.sgb_ops.specs.Wheel.{accepted_rim, wheel_of}
 use Rattle.sgb_vec.specs.Results.{IsValue}
@@ -20,7 +19,7 @@ use Rattle.sgb_values.specs.Values.{value_of, values_of}
 use Rattle.sgb_values.specs.inner.EntryValues.{handed_entry}
 use Rattle.sgb_values.specs.inner.Inputs.{left_after}
 use Rattle.sgb_values.specs.inner.Operands.{graph_held, on_lists}
-use Rattle.sgb_values.proofs.Values.{and_values, both_refused, first_refused, induced_reads, induced_size, induced_value, one_more, size_of_entries, then_refused, lists_answered, lists_leave, lists_same, value_both, value_made, value_one, value_two}
+use Rattle.sgb_values.proofs.Values.{and_values, first_refused, induced_reads, induced_size, induced_value, one_more, size_of_entries, then_refused, lists_answered, lists_leave, lists_same, value_made, value_one}
 use Rattle.sgb_values.proofs.FirstRefusals.{exit_first, made_first, made_operands, numbers_refused}
 use Rattle.sgb_values.proofs.evaluation.+graphs.Goals as goal
 use Rattle.sgb_values.proofs.StdinValues.{value_same, values_same}
@@ -93,6 +92,20 @@ pub evaluate-returns-in-Intersection-clause-refused : goal.evaluate-returns-in-I
 evaluate-returns-in-Intersection-clause-refused t c =
     rw c.in-Intersection.is (rw c.deref-in-Intersection.ensures at c.by_lists-in-Intersection.ensures.refused)
 
+pub evaluate-returns-in-Product-clause-value : goal.evaluate-returns-in-Product-clause-value
+evaluate-returns-in-Product-clause-value t c =
+    let a = c.in-Product in
+    let kind = to_z-of_z w64 a.kind (search rules) in
+    rw a.is (λ stdin gives. lists_same (Product a.kind a.directed) (stdin c.args.input.now) c.deref-in-Product.result.now c.deref-in-Product-2.result.now a.first.value a.second.value _ c.deref-in-Product.ensures c.deref-in-Product-2.ensures (rw kind at c.by_lists-in-Product.ensures.value stdin gives))
+
+pub evaluate-returns-in-Product-clause-left : goal.evaluate-returns-in-Product-clause-left
+evaluate-returns-in-Product-clause-left t c =
+    rw c.in-Product.is (rw (c.deref-in-Product.ensures, c.deref-in-Product-2.ensures) at c.by_lists-in-Product.ensures.left)
+
+pub evaluate-returns-in-Product-clause-refused : goal.evaluate-returns-in-Product-clause-refused
+evaluate-returns-in-Product-clause-refused t c =
+    rw c.in-Product.is (rw c.deref-in-Product.ensures at c.by_lists-in-Product.ensures.refused)
+
 pub evaluate-returns-in_ok-operand-in-Complement-clause-left : goal.evaluate-returns-in_ok-operand-in-Complement-clause-left
 evaluate-returns-in_ok-operand-in-Complement-clause-left t c =
     if_ok c.answer_of_one.result _ (c.in_ok-operand-in-Complement.ensures.left ∙ ap (left_by c.args.more c.args.input.now) c.deref.ensures ∙ ap (left_by c.args.more c.args.input.now) (sym c.in-Complement.is))
@@ -101,22 +114,10 @@ pub evaluate-returns-in_ok-operand-in-Lines-clause-left : goal.evaluate-returns-
 evaluate-returns-in_ok-operand-in-Lines-clause-left t c =
     if_ok c.lines_of_operand.result _ (c.in_ok-operand-in-Lines.ensures.left ∙ ap (left_by c.args.more c.args.input.now) c.deref-in-Lines.ensures ∙ ap (left_by c.args.more c.args.input.now) (sym c.in-Lines.is))
 
-pub evaluate-returns-in_ok-left-in-Product-clause-left : goal.evaluate-returns-in_ok-left-in-Product-clause-left
-evaluate-returns-in_ok-left-in-Product-clause-left t c =
-    if_ok c.product.result _ (c.in_ok-left-in-Product.ensures.left
-    ∙ ap₂ (λ (e f : Expr). left_after c.args.more (has_stdin (expression_of e) || has_stdin (expression_of f)) c.args.input.now) c.deref-in-Product.ensures c.deref-in-Product-2.ensures
-    ∙ ap (left_by c.args.more c.args.input.now) (sym c.in-Product.is))
-
 pub evaluate-returns-in_ok-operand-in-Lines-clause-value : goal.evaluate-returns-in_ok-operand-in-Lines-clause-value
 evaluate-returns-in_ok-operand-in-Lines-clause-value t c =
     let a = c.in-Lines in
     rw a.is (λ stdin gives. value_one (λ g. line_graph_of g a.directed) (stdin c.args.input.now) _ a.graph.value _ _ c.deref-in-Lines.ensures (c.in_ok-operand-in-Lines.ensures.ok stdin gives) c.lines_of_operand.ensures)
-
-pub evaluate-returns-in_ok-left-in-Product-clause-value : goal.evaluate-returns-in_ok-left-in-Product-clause-value
-evaluate-returns-in_ok-left-in-Product-clause-value t c =
-    let a = c.in-Product in
-    rw a.is (λ stdin gives. value_two (λ g h. product_graph_of g h a.kind a.directed) (stdin c.args.input.now) _ _ a.first.value a.second.value _ _ c.deref-in-Product.ensures c.deref-in-Product-2.ensures (c.in_ok-left-in-Product.ensures.value stdin gives)
-    (subst (λ kind. IsAnswerOf (product_graph_of c.in_ok-left-in-Product.left c.in_ok-left-in-Product.right kind a.directed) c.product.result) (to_z-of_z w64 a.kind (search rules)) c.product.ensures.answer))
 
 -- the answer to two integers that stand for themselves
 at_numbers : (make : ℤ → ℤ → Result Description Panic) (m n m' n' : ℤ) (r : Result GraphData Panic) → m' ≡ m → n' ≡ n → IsAnswerOf (make m' n') r → IsAnswerOf (make m n) r
@@ -151,14 +152,6 @@ evaluate-returns-in_err-operand-in-Lines-clause-refused t c =
 pub evaluate-returns-in_ok-operand-in-Lines-clause-refused : goal.evaluate-returns-in_ok-operand-in-Lines-clause-refused
 evaluate-returns-in_ok-operand-in-Lines-clause-refused t c =
     rw c.in-Lines.is (made_first c.args.input.now c.deref-in-Lines.result.now c.in-Lines.graph.value _ _ c.deref-in-Lines.ensures c.in_ok-operand-in-Lines.ensures.refused)
-
-pub evaluate-returns-in_err-left-in-Product-clause-refused : goal.evaluate-returns-in_err-left-in-Product-clause-refused
-evaluate-returns-in_err-left-in-Product-clause-refused t c =
-    rw c.in-Product.is (exit_first c.args.input.now c.deref-in-Product.result.now c.in-Product.first.value _ _ c.from_residual-in_err-left-in-Product.ensures.1 c.deref-in-Product.ensures c.in_err-left-in-Product.ensures.refused)
-
-pub evaluate-returns-in_ok-left-in-Product-clause-refused : goal.evaluate-returns-in_ok-left-in-Product-clause-refused
-evaluate-returns-in_ok-left-in-Product-clause-refused t c =
-    rw c.in-Product.is (made_first c.args.input.now c.deref-in-Product.result.now c.in-Product.first.value _ _ c.deref-in-Product.ensures c.in_ok-left-in-Product.ensures.refused)
 
 pub evaluate-returns-in_err-operand-in-Induced-clause-refused : goal.evaluate-returns-in_err-operand-in-Induced-clause-refused
 evaluate-returns-in_err-operand-in-Induced-clause-refused t c =
@@ -260,27 +253,6 @@ operand-returns-in-Generator-clause-left t c = rw c.in-Generator.is (if_ok c.gen
 
 pub operand-returns-in-Generator-clause-refused : goal.operand-returns-in-Generator-clause-refused
 operand-returns-in-Generator-clause-refused t c = rw c.in-Generator.is c.generated.ensures.refused
-
-pub operands-returns-in_err-right-clause-value : goal.operands-returns-in_err-right-clause-value
-operands-returns-in_err-right-clause-value t c = λ stdin gives.
-    let p = err_from_is_err_and c.from_residual-in_err-right.result c.from_residual-in_err-right.ensures.1 in
-    let same = value_on _ _ _ _ _ stdin (expression_of c.args.second.now) c.more_with.ensures c.in_ok-left.ensures.left in
-    rw (p.1, p.2) (both_refused _ _ c.in_ok-left.left c.in_err-right.field-0.0 (c.in_ok-left.ensures.value stdin gives)
-    (subst (λ (v : Result GraphData Panic). IsValue v (Err c.in_err-right.field-0.0)) same (c.in_err-right.ensures.value stdin gives)))
-
-pub operands-returns-in_err-left-clause-refused : goal.operands-returns-in_err-left-clause-refused
-operands-returns-in_err-left-clause-refused t c = exit_first c.args.input.now c.args.first.now c.args.first.now _ _ c.from_residual.ensures.1 refl c.in_err-left.ensures.refused
-
-pub operands-returns-in_err-right-clause-refused : goal.operands-returns-in_err-right-clause-refused
-operands-returns-in_err-right-clause-refused t c = λ p is. made_operands _ _ (c.in_ok-left.ensures.refused p is)
-
-pub operands-returns-clause-refused : goal.operands-returns-clause-refused
-operands-returns-clause-refused t c = λ p is. made_operands _ _ (c.in_ok-left.ensures.refused p is)
-
-pub operands-returns-clause-value : goal.operands-returns-clause-value
-operands-returns-clause-value t c = λ stdin gives.
-    let same = value_on _ _ _ _ _ stdin (expression_of c.args.second.now) c.more_with.ensures c.in_ok-left.ensures.left in
-    value_both _ _ c.in_ok-left.left c.in_ok-right.right (c.in_ok-left.ensures.value stdin gives) (sym same ∙ (c.in_ok-right.ensures.value stdin gives))
 
 pub values_of-value_of_entry-requires : goal.values_of-value_of_entry-requires
 values_of-value_of_entry-requires t c =

@@ -21,9 +21,6 @@ decreases-by_lists l = size_of (expression_of l.first.now) + size_of (expression
 abbrev pub decreases-operand : goal.decreases-operand
 decreases-operand l = size_of (expression_of l.expression.now) + 1
 
-abbrev pub decreases-operands : goal.decreases-operands
-decreases-operands l = size_of (expression_of l.first.now) + size_of (expression_of l.second.now) + 1
-
 abbrev pub decreases-values_of : goal.decreases-values_of
 decreases-values_of l = size_of_entries (entries_of (listed l.entries.now)) + 1
 

@@ -1,0 +1,9 @@
+use Rattle.std.proofs.Common.{arith, refl}
+use Rattle.sgb_ops.specs.inner.Steps.{steps_by}
+use Rattle.sgb_ops.proofs.Places.{arc_added}
+use Rattle.sgb_ops.proofs.products.steps.Axis.add_steps_by.Goals as goal
+
+pub loop-arc-preserved : goal.loop-arc-preserved
+loop-arc-preserved c =
+    arc_added c.args.directed c.args.built.now c.loop-arc.built c.add_step.new.built (steps_by c.args.self c.args.along c.args.beside c.args.v) c.args.arcs.now c.loop-arc.arc-index _
+    (omega arith) c.loop-arc.invariant c.in_ok-add_step.ensures.ok refl
