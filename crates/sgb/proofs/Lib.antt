@@ -35,8 +35,6 @@ pub mod Named
 pub mod NamedMembers
 -- texts handed to a page of output, part by part
 pub mod Pages
--- texts put by their ends
-pub mod PutEnds
 -- refusals are never out of memory
 pub mod Refusals
 -- where a listing from vectors begins

@@ -84,9 +84,23 @@ impl Column {
         matches!(self, Column::Ints(_))
     }
 
-    // Takes room for one value more. The values stay, whether there is room or not.
+    // Takes room for one value more. The values stay, whether there is room or not. What most files have is tried first.
     #[inline(always)]
     pub(crate) fn reserve(&mut self) -> Result<(), AllocError>
+        ensures kind { column_kind self.new ≡ column_kind self.old }
+        ensures values { (n : ℕ) → values n self.new ≡ values n self.old }
+        ensures room { OnOk result (HasRoom self.new) }
+    {
+        match self {
+            Column::Unused => Ok(()),
+            Column::Ints(numbers) => numbers.reserve(1),
+            _ => self.reserve_other(),
+        }
+    }
+
+    // The same of any column.
+    #[inline(never)]
+    fn reserve_other(&mut self) -> Result<(), AllocError>
         ensures kind { column_kind self.new ≡ column_kind self.old }
         ensures values { (n : ℕ) → values n self.new ≡ values n self.old }
         ensures room { OnOk result (HasRoom self.new) }

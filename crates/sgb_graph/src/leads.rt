@@ -204,7 +204,7 @@ impl Leads {
                 short.push_reserved(last.short());
                 Ok(())
             }
-            _ => self.push_plain(last),
+            _ => self.push_plain(last.tip, last.next, last.len),
         }
     }
 
@@ -230,10 +230,11 @@ impl Leads {
         }
     }
 
-    // Puts any record after the others.
+    // Puts any record after the others. It is handed over by its parts, so that one in 32 bits each is put together once.
     #[inline(never)]
-    fn push_plain(&mut self, last: PlainRecord) -> Result<(), AllocError>
-        ensures ok { OnOk result (plain_records self.new ≡ plain_records self.old ++ last ∷ []) }
+    fn push_plain(&mut self, tip: Ref, next: usize, len: i64) -> Result<(), AllocError>
+        ensures ok { OnOk result (plain_records self.new
+            ≡ plain_records self.old ++ record { len = len; next = next; tip = tip } ∷ []) }
         ensures err { OnErr result (plain_records self.new ≡ plain_records self.old) }
     {
         self.make_plain()?;
@@ -241,7 +242,7 @@ impl Leads {
             Leads::Short(_) => {}
             Leads::Plain(records) => {
                 records.reserve(1)?;
-                records.push_reserved(last);
+                records.push_reserved(PlainRecord { len, next, tip });
             }
         }
         Ok(())

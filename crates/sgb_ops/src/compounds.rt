@@ -39,6 +39,7 @@ pub(crate) fn numbers_id(start: &[u8], n1: i64, n2: i64, directed: bool) -> Id
 /// between them.
 ///
 /// `NoRoom` when out of memory, and nothing else.
+#[inline(always)]
 pub(crate) fn joined_name(
     alloc: Global,
     first: &Text,

@@ -43,6 +43,8 @@ pub mod NamedNumbers
 pub mod Numerals
 -- the product of sizes
 pub mod Products
+-- texts put by their ends
+pub mod PutEnds
 -- the vectors from one to another, one less at either end
 pub mod RangeSteps
 -- neighbours in a list that rises
@@ -65,6 +67,8 @@ pub mod SumTails
 pub mod SumTriples
 -- the first, next, previous and last vector of a bounded sum
 pub mod SumWalks
+-- three texts, one after another
+pub mod TextParts
 -- the name of a vector, entry by entry
 pub mod VectorNames
 -- how many entries a step changes and visits

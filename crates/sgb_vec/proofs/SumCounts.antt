@@ -1,5 +1,5 @@
 -- How many vectors within bounds add to a number: one more bound sums the counts over a window.
-use Rattle.sgb_vec.proofs.Common.{◌≡◌, ℕ, suc, zero, ◌+◌, ◌<◌, ◌≤◌, Bool, false, eqb, List, [], ◌∷◌, ◌++◌, length, map, filter, take, sum, get_or, refl, sym, ap, ◌∙◌, add-one, arith, length-append, rules, flat_map, range_with_len, remove, ne_eqb, same_from_decides, Decides-like, Decides-eqb, length-map, filter-append, sum_by-cons}
+use Rattle.sgb_vec.proofs.Common.{◌≡◌, ℕ, suc, zero, ◌+◌, ◌<◌, ◌≤◌, Bool, false, eqb, List, [], ◌∷◌, ◌++◌, length, map, filter, take, sum, get_or, refl, sym, ap, ◌∙◌, add-one, arith, length-append, rules, flat_map, range_with_len, remove, ne_eqb, length-map, filter-append, sum_by-cons}
 use Rattle.sgb_vec.specs.Boxes.{box}
 use Rattle.sgb_vec.specs.Sums.{bounded_sums}
 use Rattle.sgb_vec.specs.inner.SumRows.{count_of_sum}

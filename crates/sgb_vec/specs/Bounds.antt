@@ -1,7 +1,7 @@
 -- The bounds of a simplex [GB_BASIC, simplex]: (n0, n1, n2, n3, n4, 0) is read up to the first entry that is
 -- not positive, the stop. The entries before it are the bounds, or are repeated where the stop is negative; no
 -- bound is above n. Where n0 itself is the stop, each bound is n.
-use Rattle.std.specs.Prelude.{ℕ, zero, suc, ◌+◌, min, ℤ, pos, negsuc, List, [], ◌∷◌, map, Result, Ok, Err, nat_lt, if◌then◌else◌}
+use Rattle.std.specs.Prelude.{ℕ, zero, ◌+◌, min, ℤ, pos, negsuc, List, [], ◌∷◌, map, Result, Ok, Err, nat_lt, if◌then◌else◌}
 use Rattle.sgb_vec.specs.Limits.{most_dimensions, most_vertices}
 use Rattle.sgb_vec.specs.Sizes.{Normalized, before_stop, count_by_stop, stop_of, repeated, zero_after_stop}
 use Rattle.sgb_vec.specs.declared.panics.Panic.{Panic}

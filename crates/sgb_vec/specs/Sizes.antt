@@ -1,6 +1,6 @@
 -- The sizes of a board [GB_BASIC, board]: (n1, n2, n3, n4, 0) is read up to the first entry that is not
 -- positive, the stop. The entries before it are the sizes, or are repeated where the stop is negative.
-use Rattle.std.specs.Prelude.{ℕ, ◌+◌, ◌%◌, ℤ, pos, negsuc, zero, suc, List, [], ◌∷◌, length, map, Result, Ok, Err, slice_index, nat_lt, if◌then◌else◌}
+use Rattle.std.specs.Prelude.{ℕ, ◌+◌, ◌%◌, ℤ, pos, negsuc, suc, List, [], ◌∷◌, length, map, Result, Ok, Err, slice_index, nat_lt, if◌then◌else◌}
 use Rattle.std.specs.List.{range_with_len, list_any}
 use Rattle.sgb_vec.specs.Limits.{most_dimensions, most_entry}
 use Rattle.sgb_vec.specs.declared.panics.Panic.{Panic}

@@ -1,6 +1,8 @@
 -- What only the private contracts and the proofs of sgb_vec speak of.
 -- the length of the vectors of a box
 pub mod BoxWidth
+-- how a text keeps its bytes
+pub mod KeptTexts
 -- what an iterator over vectors has left
 pub mod Ranges
 -- the vectors of the families rise

@@ -21,6 +21,8 @@ mod named;
 mod panics;
 // The sizes of a board and the bounds of a simplex.
 mod shapes;
+// Short texts put by few moves.
+mod short_texts;
 // How many entries a walk visits.
 mod steps;
 // The vectors of a bounded sum.
@@ -39,6 +41,7 @@ pub use limits::MOST_VERTICES;
 pub use named::vector_of;
 pub use panics::Panic;
 pub use shapes::{Shape, board_sizes, simplex_bounds};
+pub use short_texts::push_name;
 pub use steps::Steps;
 pub use sums::SumFamily;
 pub use texts::{NameText, Text, is_text_byte, name_len, name_of, put_name};

@@ -2,15 +2,14 @@
 //!
 //! A text of at most 16 bytes stands where it is kept: that spares an allocation for each name, and a look elsewhere
 //! when it is read. A longer one takes eight bytes more than it would as a `Vec`.
-ghost use Rattle.std.specs.Prelude.{◌≡◌, ◌+◌, ◌^◌, ◌≤◌, ◌++◌, ◌↔◌, All, length, decimal, IsTrue, IfOk, OnOk, OnErr, IsErrOf, IsOkUnless};
+ghost use Rattle.std.specs.Prelude.{◌≡◌, ◌+◌, ◌^◌, ◌≤◌, ◌++◌, ◌∷◌, ◌↔◌, [], All, length, decimal, IsTrue, IfOk, OnErr, IsErrOf, IsOkUnless};
 ghost use Rattle.sgb_vec.specs.Limits.{most_bytes, most_dimensions};
 ghost use Rattle.sgb_vec.specs.Names.{name_of_vector, IsTextByte, IsText};
 
 use crate::filled::Filled;
 use crate::panics::Panic;
-use itoa::Buffer;
-use smallvec::SmallVec;
-use std::alloc::{AllocError, Global};
+use crate::short_texts::push_name;
+use std::alloc::Global;
 use std::marker::Model;
 
 /// A string of at most 4,095 bytes of printable ASCII (32 to 126) without `"` and `\`, as a `.gb` file
@@ -26,18 +25,34 @@ impl Drop for Text {
     }
 }
 
-// Bytes that are kept in place where they are 16 at most: so many most names of vertices have.
-type Bytes = SmallVec<u8, 16>;
+// The bytes of a string: in place where they are 16 at most, and else in memory of their own.
+enum Bytes {
+    Few(ShortText),
+    Many(Vec<u8>),
+}
+
+// One function drops them, as it does a text.
+impl Drop for Bytes {
+    fn drop(self) {
+        match self {
+            Bytes::Few(_) => {}
+            Bytes::Many(_) => {}
+        }
+    }
+}
+
+const _: () = prove!(size_of::<Text>() == 32);
 
 impl Model for Text {
     ghost use Rattle.std.specs.Prelude.{List, ℕ};
     ghost use Rattle.sgb_vec.specs.Names.{IsText};
+    ghost use Rattle.sgb_vec.specs.inner.KeptTexts.{bytes_kept};
 
     ghost Value = { List ℕ };
 
-    ghost view = { λ t. t.bytes.items };
+    ghost view = { λ t. bytes_kept t.bytes };
 
-    ghost invariant = { λ t. IsText t.bytes.items };
+    ghost invariant = { λ t. IsText (bytes_kept t.bytes) };
 }
 
 // A string has at most this many bytes.
@@ -45,6 +60,9 @@ const MOST_BYTES: usize = 4_095;
 
 // So many bytes stand where the string is kept.
 const SHORT_BYTES: usize = 16;
+
+// Room for a string of so many bytes.
+type ShortText = Filled<SHORT_BYTES>;
 
 // A name has at most so many bytes: 251 numbers of at most ten digits, each with a dot.
 const MOST_NAME_BYTES: usize = 2_761;
@@ -71,18 +89,57 @@ impl Text {
     /// The string of these bytes, which are one.
     ///
     /// `NoRoom` when out of memory, and nothing else.
+    #[inline(always)]
     pub fn of_bytes(alloc: Global, bytes: &[u8]) -> Result<Text, Panic>
         requires { IsText bytes.now }
         ensures ok { IfOk result (λ text. text ≡ bytes.now) }
         ensures memory { IsOkUnless result Panic.NoRoom }
     {
-        let bytes = SmallVec::from_slice(alloc, bytes)?;
-        Ok(Text { bytes })
+        if bytes.len() > SHORT_BYTES {
+            return Text::of_many(alloc, bytes);
+        }
+        let mut text = ShortText::new();
+        push_name(&mut text, bytes);
+        Ok(Text::of_few(text))
+    }
+
+    // The string of these bytes, wherever they stand.
+    #[inline(never)]
+    fn of_many(alloc: Global, bytes: &[u8]) -> Result<Text, Panic>
+        requires { IsText bytes.now }
+        ensures ok { IfOk result (λ text. text ≡ bytes.now) }
+        ensures memory { IsOkUnless result Panic.NoRoom }
+    {
+        let mut kept = Vec::with_capacity(alloc, bytes.len())?;
+        kept.extend_from_slice(bytes)?;
+        Ok(Text::of_vec(kept))
+    }
+
+    // The string of these bytes, whose memory it keeps.
+    fn of_vec(bytes: Vec<u8>) -> Text
+        requires { IsText bytes.items }
+        ensures { result ≡ bytes.items }
+    {
+        Text {
+            bytes: Bytes::Many(bytes),
+        }
+    }
+
+    // The string of these bytes, which are moved whole.
+    #[inline(always)]
+    fn of_few(bytes: ShortText) -> Text
+        requires { IsText bytes }
+        ensures { result ≡ bytes }
+    {
+        Text {
+            bytes: Bytes::Few(bytes),
+        }
     }
 
     /// The string of three texts, one after another. They are put together where they stay.
     ///
     /// `NoRoom` when out of memory, and nothing else.
+    #[inline(always)]
     pub fn of_parts(alloc: Global, first: &[u8], second: &[u8], third: &[u8]) -> Result<Text, Panic>
         requires short { length first.now + length second.now + length third.now ≤ most_bytes }
         requires first { All IsTextByte first.now }
@@ -91,29 +148,37 @@ impl Text {
         ensures ok { IfOk result (λ text. text ≡ first.now ++ second.now ++ third.now) }
         ensures memory { IsOkUnless result Panic.NoRoom }
     {
-        let size = first.len() + second.len() + third.len();
-        if size <= SHORT_BYTES {
-            return Text::of_few(alloc, first, second, third);
+        if first.len() + second.len() + third.len() > SHORT_BYTES {
+            return Text::of_long_parts(alloc, first, second, third);
         }
-        let mut bytes = SmallVec::with_capacity(alloc, size)?;
-        bytes.extend_from_slice(first)?;
-        bytes.extend_from_slice(second)?;
-        bytes.extend_from_slice(third)?;
-        Ok(Text { bytes })
+        let mut text = ShortText::new();
+        push_name(&mut text, first);
+        push_name(&mut text, second);
+        push_name(&mut text, third);
+        Ok(Text::of_few(text))
     }
 
-    // The string of three texts that have few bytes, which are put together first: so the string is written once.
-    fn of_few(alloc: Global, first: &[u8], second: &[u8], third: &[u8]) -> Result<Text, Panic>
-        requires few { length first.now + length second.now + length third.now ≤ 16 }
-        requires text { IsText (first.now ++ second.now ++ third.now) }
+    // The same of three texts that may have any number of bytes.
+    #[inline(never)]
+    fn of_long_parts(
+        alloc: Global,
+        first: &[u8],
+        second: &[u8],
+        third: &[u8],
+    ) -> Result<Text, Panic>
+        requires short { length first.now + length second.now + length third.now ≤ most_bytes }
+        requires first { All IsTextByte first.now }
+        requires second { All IsTextByte second.now }
+        requires third { All IsTextByte third.now }
         ensures ok { IfOk result (λ text. text ≡ first.now ++ second.now ++ third.now) }
         ensures memory { IsOkUnless result Panic.NoRoom }
     {
-        let mut text = Filled::<SHORT_BYTES>::new();
-        text.push_text(first);
-        text.push_text(second);
-        text.push_text(third);
-        Text::of_bytes(alloc, text.bytes())
+        let size = first.len() + second.len() + third.len();
+        let mut bytes = Vec::with_capacity(alloc, size)?;
+        bytes.extend_from_slice(first)?;
+        bytes.extend_from_slice(second)?;
+        bytes.extend_from_slice(third)?;
+        Ok(Text::of_vec(bytes))
     }
 
     /// The bytes of the string.
@@ -121,7 +186,10 @@ impl Text {
         ensures value { result.now ≡ self.now }
         ensures text { IsText self.now }
     {
-        self.bytes.as_slice()
+        match &self.bytes {
+            Bytes::Few(few) => few.bytes(),
+            Bytes::Many(many) => many.as_slice(),
+        }
     }
 
     /// The same string once more. `NoRoom` when out of memory, and nothing else.
@@ -129,8 +197,7 @@ impl Text {
         ensures ok { IfOk result (λ text. text ≡ self.now) }
         ensures err { OnErr result (IsErrOf result Panic.NoRoom) }
     {
-        let bytes = SmallVec::from_slice(alloc, self.bytes())?;
-        Ok(Text { bytes })
+        Text::of_bytes(alloc, self.bytes())
     }
 }
 
@@ -157,14 +224,31 @@ pub fn name_of(alloc: Global, vector: &[u32]) -> Result<Text, Panic>
     ensures ok { IfOk result (λ name. name ≡ name_of_vector vector.now) }
     ensures err { OnErr result (IsErrOf result Panic.NoRoom) }
 {
-    let mut bytes = SmallVec::with_capacity(alloc, name_len(vector) as usize)?;
-    for (place, entry) in vector.iter().enumerate() {
-        if place > 0 {
-            bytes.push(b'.')?;
-        }
-        push_decimal(&mut bytes, *entry)?;
+    if vector.len() == 1 {
+        return Ok(name_of_number(vector[0]));
     }
-    Ok(Text { bytes })
+    name_of_any(alloc, vector)
+}
+
+// The name of a vector of one entry. It takes no memory.
+fn name_of_number(number: u32) -> Text
+    ensures { result ≡ name_of_vector (number ∷ []) }
+{
+    let mut text = ShortText::new();
+    text.push_count(number);
+    Text::of_few(text)
+}
+
+// The name of any vector, for which there is room of its own.
+#[inline(never)]
+fn name_of_any(alloc: Global, vector: &[u32]) -> Result<Text, Panic>
+    requires { length vector.now ≤ most_dimensions + 1 }
+    ensures ok { IfOk result (λ name. name ≡ name_of_vector vector.now) }
+    ensures err { OnErr result (IsErrOf result Panic.NoRoom) }
+{
+    let mut text = NameText::new();
+    put_name(vector, &mut text);
+    Text::of_bytes(alloc, text.bytes())
 }
 
 /// How many bytes the name of a vector of at most 251 entries has. The name is not made.
@@ -204,12 +288,4 @@ fn digit_count(number: u32) -> u64
         Some(power) => power as u64 + 1,
         None => 1,
     }
-}
-
-// Appends the number in decimal.
-fn push_decimal(bytes: &mut Bytes, number: u32) -> Result<(), AllocError>
-    ensures { OnOk result (bytes.new.items ≡ bytes.old.items ++ decimal number) }
-{
-    let mut buffer = Buffer::new();
-    bytes.extend_from_slice(buffer.format(number).as_bytes())
 }

@@ -1,5 +1,5 @@
 //! The lines of arcs, put together in place.
-ghost use Rattle.std.specs.Prelude.{◌≡◌, ◌≤◌, ◌<◌, ◌+◌, ◌++◌, codes, decimal, length, take};
+ghost use Rattle.std.specs.Prelude.{◌≡◌, ◌≤◌, ◌<◌, ◌+◌, ◌++◌, codes, decimal, length};
 ghost use Rattle.std.specs.Fmt.{signed_decimal};
 // For the search alone.
 ghost use Rattle.std.specs.Prelude.{[], ◌∷◌};
@@ -91,49 +91,4 @@ fn end_other_arc<const N: usize>(line: &mut Filled<N>, len: i64)
     line.push_text(b", length ");
     line.push_number(len);
     line.push_text(b"\n");
-}
-
-/// Appends a name. One of 4 to 16 bytes is put by two moves of four bytes, or of eight: its first bytes, and its last.
-#[inline(always)]
-pub(super) fn push_name<const N: usize>(line: &mut Filled<N>, name: &[u8])
-    requires { length line.old + length name.now ≤ N }
-    ensures put { line.new ≡ line.old ++ name.now }
-    ensures size { length line.new ≡ length line.old + length name.now }
-{
-    let len = name.len();
-    if len < 4 || len > 16 {
-        line.push_text(name);
-    } else if len < 8 {
-        push_ends::<4, N>(line, name);
-    } else {
-        push_ends::<8, N>(line, name);
-    }
-}
-
-// Appends a text of `M` to `2 * M` bytes: its first `M`, and over those of them that come once more its last `M`.
-#[inline(always)]
-fn push_ends<const M: usize, const N: usize>(line: &mut Filled<N>, text: &[u8])
-    requires least { M ≤ length text.now }
-    requires most { length text.now ≤ M + M }
-    requires room { length line.old + length text.now ≤ N }
-    ensures { line.new ≡ line.old ++ text.now }
-{
-    let start = line.len();
-    let left = text.len() - M;
-    line.push_text(&first_bytes::<M>(text));
-    line.cut(start + left);
-    line.push_text(&first_bytes::<M>(&text[left..]));
-}
-
-// The first bytes of a text, as a value: what is copied from it is seen to lie apart from where it goes.
-#[inline(always)]
-fn first_bytes<const M: usize>(text: &[u8]) -> [u8; M]
-    requires { M ≤ length text.now }
-    ensures value { result ≡ take M text.now }
-    ensures width { length result ≡ M }
-{
-    match text.first_chunk::<M>() {
-        Some(first) => *first,
-        None => [0; M],
-    }
 }

@@ -9,12 +9,13 @@ ghost use Rattle.sgb.specs.Writing.{IsEnded, IsWritten, effect};
 ghost use Rattle.sgb.specs.inner.Pages.{IsPaged, page_bytes};
 ghost use Rattle.sgb.specs.inner.Texts.{most_line_bytes};
 
-use super::arc_lines::{begin_arc, end_arc, push_name};
+use super::arc_lines::{begin_arc, end_arc};
 use super::pages::{Page, make_room, put_page};
 use super::vertices::{push_name_line, vertices_left_out};
 use sgb_file::Sink;
 use sgb_graph::{Graph, Id, Link};
 use sgb_requests::{Fault, Resume};
+use sgb_vec::push_name;
 
 // Lists are long where vertices have more arcs than this, on the mean.
 const LONG_LIST: u64 = 16;

@@ -10,11 +10,11 @@ ghost use Rattle.sgb.specs.Texts.{name_line, name_lines};
 ghost use Rattle.sgb.specs.Writing.{IsEnded, IsWritten, effect};
 ghost use Rattle.sgb.specs.inner.Pages.{IsPaged};
 
-use super::arc_lines::push_name;
 use super::pages::{Page, make_room, put_page};
 use sgb_file::Sink;
 use sgb_graph::Graph;
 use sgb_requests::{Fault, Resume};
+use sgb_vec::push_name;
 
 /// Writes the names of a graph's vertices, each on a line, from where the answer begins.
 ///

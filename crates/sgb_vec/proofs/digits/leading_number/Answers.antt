@@ -1,5 +1,4 @@
 use Rattle.std.proofs.Common.{rules, arith}
-use Rattle.sgb_vec.specs.Digits.{leading_digits}
 use Rattle.sgb_vec.proofs.NamedNumbers.{AreDigits, digits_are_below, leading_are_digits}
 use Rattle.sgb_vec.proofs.digits.leading_number.Goals as goal
 

@@ -1,4 +1,4 @@
-use Rattle.sgb_vec.proofs.Common.{rules, decimal, nat_eq, pointwise, bytes_decides}
+use Rattle.sgb_vec.proofs.Common.{rules, nat_eq, pointwise, bytes_decides}
 use Rattle.sgb_vec.specs.Digits.{leading_number}
 use Rattle.sgb_vec.proofs.NamedNumbers.{decimal_is_read_back}
 use Rattle.sgb_vec.proofs.named.entry_of.Goals as goal

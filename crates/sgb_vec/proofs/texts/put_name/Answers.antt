@@ -1,4 +1,4 @@
-use Rattle.sgb_vec.proofs.Common.{◌<◌, ◌^◌, rules, arith, All, All-from_get_or, common_steps}
+use Rattle.sgb_vec.proofs.Common.{◌<◌, ◌^◌, arith, All, All-from_get_or, common_steps}
 use Rattle.sgb_vec.proofs.VectorNames.{IsText-name_of_vector, name_of_none, name_of_vector-first, name_of_vector-more}
 use Rattle.sgb_vec.proofs.texts.put_name.Goals as goal
 

@@ -1,6 +1,6 @@
 use Rattle.std.proofs.Common.{◌-◌, length, arith}
-use Rattle.sgb.proofs.PutEnds.{ends_put}
-use Rattle.sgb.proofs.writing.arc_lines.push_ends.Goals as goal
+use Rattle.sgb_vec.proofs.PutEnds.{ends_put}
+use Rattle.sgb_vec.proofs.short_texts.push_ends.Goals as goal
 
 pub returns : goal.returns
 returns g c =
