@@ -1,7 +1,8 @@
 //! The starts of the edges that touch a vector, a range of them at a time.
 //!
-//! A start is the vertex where an edge starts, with the edge's length. Room is kept for 262,144 of them at most, which take two
-//! megabytes, and for fewer where memory is refused: a range that has more is cut in two.
+//! A start is the vertex where an edge starts, with the edge's length. Room is kept for 4,096 of them at first, so that the first
+//! range is found soon, and for twice as many after each range, up to 262,144, which take two megabytes. Where memory is refused
+//! there is room for fewer. A range that has more is cut in two.
 ghost use Rattle.std.specs.Prelude.{◌≡◌, ◌<◌, ◌++◌, [], ◌∷◌, ℕ, false, length, slice_get, true, IfNone, IfOk, IfSome, IsOkUnless, Some, if◌then◌else◌};
 ghost use Rattle.std.specs.Bool.{OnFalse, OnTrue};
 ghost use Rattle.std.specs.List.Sorted.{IsPermutation, IsSorted};
@@ -11,7 +12,8 @@ use crate::start_ranges::StartRange;
 use sgb_vec::Panic;
 use std::marker::Model;
 
-// At most so many starts are kept.
+// So many starts are kept at first, and at most.
+const FIRST_STARTS: usize = 4_096;
 const MOST_STARTS: usize = 262_144;
 
 impl StartRange {
@@ -91,6 +93,8 @@ impl StartRange {
 pub(crate) struct Starts {
     // There is room for one at least.
     kept: Vec<(u32, u32)>,
+    // No more than so many are kept.
+    most: usize,
 }
 
 impl Model for Starts {
@@ -100,7 +104,7 @@ impl Model for Starts {
 
     ghost view = { λ s. s.kept.items };
 
-    ghost invariant = { λ s. 0 < vec_capacity s.kept };
+    ghost invariant = { λ s. (0 < vec_capacity s.kept) × (0 < s.most) };
 }
 
 impl Starts {
@@ -114,7 +118,10 @@ impl Starts {
         let mut kept = room;
         kept.clear();
         kept.reserve(1)?;
-        Ok(Starts { kept })
+        Ok(Starts {
+            kept,
+            most: FIRST_STARTS,
+        })
     }
 
     /// The room.
@@ -139,10 +146,17 @@ impl Starts {
         if !range.has(v, l) {
             return true;
         }
-        if self.kept.len() >= MOST_STARTS {
+        if self.kept.len() >= self.most {
             return false;
         }
         self.kept.push((v, l)).is_ok()
+    }
+
+    /// Lets twice as many be kept from here on, up to the most of all.
+    pub(crate) fn grow(&mut self)
+        ensures { self.new ≡ self.old }
+    {
+        self.most = MOST_STARTS.min(self.most.saturating_mul(2));
     }
 
     /// Puts them in order.

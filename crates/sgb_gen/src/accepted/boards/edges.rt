@@ -85,6 +85,7 @@ impl Board {
         ensures ready { OnOk result (K.ready sink.now room.new out.new) }
     {
         if self.put_starts(u, x, t, back, range, there, starts) {
+            starts.grow();
             starts.sort();
             return self.give_edges(u, x, &*t, &*back, starts, there, sink, room, out);
         }

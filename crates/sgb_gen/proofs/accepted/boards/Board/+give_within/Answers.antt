@@ -17,7 +17,8 @@ returns-then-put_starts-clause-given g t c =
     let x = c.args.x.now in
     let t = c.args.t.now in
     let there = Contains-from_IsBelow b.sizes x c.requires.below in
-    let put : c.put_starts.new.starts ≡ starts_within b x t c.args.range = rw c.if-put_starts.true at c.put_starts.ensures.all in
+    let put : c.grow.new.self ≡ starts_within b x t c.args.range =
+    c.grow.ensures ∙ rw c.if-put_starts.true at c.put_starts.ensures.all in
     let sorted = passing_sorted b t x there (is_within c.args.range) c.sort.new.self (subst (λ (ss : List (ℕ × ℕ)). IsPermutation ss c.sort.new.self) put c.sort.ensures.same) c.sort.ensures.sorted in
     given_as (g.met.K.ArcSink.laws c.args.sink.now) _ _ _ _ _ _ _
     (ap₂ (λ u back. reverse (arcs_of_starts (sides_of b.sizes b.wrap) b.piece u x t back c.sort.new.self)) c.requires.vertex c.requires.back
