@@ -39,7 +39,7 @@ pub left-none : (b : BoardData) (t : List ℤ) (x : List ℕ) (l : ℕ) → long
 left-none b t x l h = grind (arith, moves_until)
 
 -- at a length up to it, that at the length itself comes first
-left-first : (b : BoardData) (t : List ℤ) (x : List ℕ) (l : ℕ) → l ≤ longest b → moves_left b t x l ≡ option_map_or (λ y. move x l y ∷ moves_left b t x (l + 1)) (leads b x t l) []
+pub left-first : (b : BoardData) (t : List ℤ) (x : List ℕ) (l : ℕ) → l ≤ longest b → moves_left b t x l ≡ option_map_or (λ y. move x l y ∷ moves_left b t x (l + 1)) (leads b x t l) []
 left-first b t x l h = grind (arith, moves_until)
 
 -- where the piece leads nowhere none are left

@@ -33,7 +33,7 @@ use Rattle.sgb_gen.proofs.TurnedMoves.{in_front-parts, side_itself}
 -- ---- a place by its coordinates
 
 -- a coordinate of the place there
-coordinate_there : (k : ℕ) (sizes : List ℕ) (wrap : ℤ) (x : List ℕ) (t : List ℤ) (l : ℕ) (y : List ℕ) (i : ℕ) → place (sides_from_bit k sizes wrap) x t l ≡ Some y → i < length sizes
+pub coordinate_there : (k : ℕ) (sizes : List ℕ) (wrap : ℤ) (x : List ℕ) (t : List ℤ) (l : ℕ) (y : List ℕ) (i : ℕ) → place (sides_from_bit k sizes wrap) x t l ≡ Some y → i < length sizes
     → coordinate_on (record { size = get_or sizes i 0; wraps = is_bit_set wrap (k + i) }) (pos (get_or x i 0) +ℤ pos l *ℤ get_or t i (pos 0)) ≡ Some (get_or y i 0)
 coordinate_there k [] wrap x t l y i e h = absurd (omega (arith, h))
 coordinate_there k (n ∷ sizes) wrap [] t l y i e h = absurd (cc)
@@ -79,7 +79,7 @@ first_at k (negsuc c ∷ t) some = (0, record { within = omega arith; number = o
 -- ---- one coordinate
 
 -- where so many steps back lead that go around the side k times
-around_at : (w : Bool) (n a s k d r : ℕ) → d < n → d + s ≡ a + k * n → coordinate_on (record { size = n; wraps = w }) (pos a +ℤ neg_ℤ (pos s)) ≡ Some r → r ≡ d
+pub around_at : (w : Bool) (n a s k d r : ℕ) → d < n → d + s ≡ a + k * n → coordinate_on (record { size = n; wraps = w }) (pos a +ℤ neg_ℤ (pos s)) ≡ Some r → r ≡ d
 around_at true n a s k d r less sum e =
     let is : (pos a +ℤ neg_ℤ (pos s)) +ℤ pos (k * n) ≡ pos d = omega (arith, ints, sum) in
     let rest : nat_abs (int_rem_euclid (pos a +ℤ neg_ℤ (pos s)) (pos n)) ≡ d = ap nat_abs (int_rem_euclid_is (pos a +ℤ neg_ℤ (pos s)) (pos n) n k d (omega (arith, less)) refl is) ∙ mod-eq_of_lt less in
@@ -88,7 +88,7 @@ around_at false n a s zero d r less sum e = omega (arith, ints, sum, within_is n
 around_at false n a s (suc k) d r less sum e = absurd (omega (arith, ints, less, sum, within_is n r (pos a +ℤ neg_ℤ (pos s)) e))
 
 -- so many steps back
-back_by : (a l c : ℕ) (u : ℤ) → u ≡ pos c → pos a +ℤ pos l *ℤ neg_ℤ u ≡ pos a +ℤ neg_ℤ (pos (l * c))
+pub back_by : (a l c : ℕ) (u : ℤ) → u ≡ pos c → pos a +ℤ pos l *ℤ neg_ℤ u ≡ pos a +ℤ neg_ℤ (pos (l * c))
 back_by a l c u is = rw is omega (arith, ints, ap (λ m. l * m) (neg_is (pos c)).0, ap (λ m. l * m) (neg_is (pos c)).1, (neg_is (pos (l * c))).0, (neg_is (pos (l * c))).1)
 
 -- a coordinate that is not moved

@@ -122,10 +122,16 @@ mod AroundStarts
 -- where they go around a side once at most
 mod FallingPlaces
 pub mod OnwardStarts
+-- how far a coordinate is from others, around a side
+mod WaysAround
 -- moves from a vector, length by length
 pub mod BoardWalks
 -- moves that never come home, at one look
 pub mod StraightMoves
+-- lengths that lead to no vertex of a range
+mod SkippedLengths
+-- the lengths of the moves that start at a vector itself, within a range
+mod OwnLengths
 -- moves that no side stops
 mod AroundMoves
 -- the list of a vertex, run by run

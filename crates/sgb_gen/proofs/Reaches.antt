@@ -52,7 +52,7 @@ pub moves_from-until : (sides : List Side) (piece : ℤ) (x : List ℕ) (t : Lis
 moves_from-until sides (pos p) x t = grind (arith, move)
 moves_from-until sides (negsuc p) x t = rider-moves x (place sides x t) (range_with_len 1 (places_count sides))
 
-destination-place : (sides : List Side) (piece : ℤ) (x : List ℕ) (t : List ℤ) (l : ℕ) (y : List ℕ) → destination sides piece x t l ≡ Some y → place sides x t l ≡ Some y
+pub destination-place : (sides : List Side) (piece : ℤ) (x : List ℕ) (t : List ℤ) (l : ℕ) (y : List ℕ) → destination sides piece x t l ≡ Some y → place sides x t l ≡ Some y
 destination-place sides piece x t l y e = grind (arith)
 
 -- where a piece moves is a place of the board

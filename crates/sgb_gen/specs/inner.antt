@@ -16,6 +16,8 @@ pub mod LocalArcs
 pub mod LocalBoards
 -- the starts of the edges that touch a vector, in ranges
 pub mod Starts
+-- coordinates between which those of the vectors of a range are
+pub mod VertexBounds
 -- the list of a vector of a simplex, by pairs of places
 pub mod LocalSimplexes
 -- the list of a vector of subsets, by a walk

@@ -14,6 +14,7 @@ use std::marker::Model;
 
 // So many starts are kept at first, and at most.
 const FIRST_STARTS: usize = 4_096;
+
 const MOST_STARTS: usize = 262_144;
 
 impl StartRange {

@@ -26,6 +26,7 @@ mod ordered_boards;
 mod orders;
 mod rows;
 mod runs;
+mod skips;
 mod strided_boards;
 mod strides;
 mod turns;

@@ -117,7 +117,7 @@ impl Board {
         ensures many { OnFalse result (1 < length (starts_within self.now x.now t.now range)) }
     {
         starts.clear();
-        if !self.put_own(u, x, t, range, there, starts) {
+        if !self.put_own(u, x, t, range, starts) {
             return false;
         }
         self.put_others(u, x, back, range, there, starts)
@@ -125,15 +125,7 @@ impl Board {
 
     // Puts the moves from `x`, which is vertex `u`, by `t` behind the others, those within a range. `false` where there is no room
     // for one of them: with the others there are two at least.
-    fn put_own(
-        &self,
-        u: u32,
-        x: &[u32],
-        t: &Step,
-        range: StartRange,
-        there: &mut Vector,
-        starts: &mut Starts,
-    ) -> bool
+    fn put_own(&self, u: u32, x: &[u32], t: &Step, range: StartRange, starts: &mut Starts) -> bool
         requires below { IsBelow x.now self.now.sizes }
         requires dimensions { length t.now ≡ length self.now.sizes }
         ensures all { OnTrue result (starts.new ≡ starts.old ++ filter (is_within range)
@@ -146,11 +138,9 @@ impl Board {
         if !range.has_vertex(u) {
             return true;
         }
-        for l in 1..=self.longest_move() {
-            if !self.lands(x, t, l, there) {
-                return true;
-            }
-            if !starts.put(range, u, l) {
+        let count = self.lengths_by(x, t);
+        for shorter in range.from..range.to.min(count) {
+            if !starts.put(range, u, shorter + 1) {
                 return false;
             }
         }
@@ -181,10 +171,22 @@ impl Board {
         if range.is_of(u) {
             return true;
         }
-        for l in 1..=self.longest_move() {
+        let last = self.lengths_by(x, back);
+        let (mut least, mut greatest) = (Vector::new(), Vector::new());
+        let count = self.put_bounds(range, &mut least, &mut greatest);
+        let mut done = 0;
+        while done < last {
+            let l = done + 1;
             let Some(v) = self.vertex_at(x, back, l, there) else {
                 return true;
             };
+            if !range.has_vertex(v) {
+                let (low, high) = (least.as_slice(), greatest.as_slice());
+                let steps = self.steps_between(x, back, l, count, low, high);
+                done += steps.min(last - done);
+                continue;
+            }
+            done = l;
             if v == u {
                 continue;
             }

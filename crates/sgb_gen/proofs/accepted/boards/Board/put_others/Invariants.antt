@@ -1,4 +1,4 @@
-use Rattle.std.proofs.Common.{◌≡◌, ◌++◌}
+use Rattle.std.proofs.Common.{◌≡◌, ◌++◌, ◌+◌, ◌-◌, ◌≤◌}
 use Rattle.std.specs.List.{filter}
 use Rattle.sgb_vec.specs.Boxes.{box}
 use Rattle.sgb_gen.specs.inner.LocalBoards.{other_starts}
@@ -6,8 +6,12 @@ use Rattle.sgb_gen.specs.inner.Starts.{is_within}
 use Rattle.sgb_gen.proofs.BoardWalks.{moves_left, moves_of}
 use Rattle.sgb_gen.proofs.accepted.boards.Board.put_others.Given as goal
 
--- the moves of the lengths from this one on are still to come
-abbrev pub invariant-loop-l : goal.invariant-loop-l
-invariant-loop-l l =
-    l.starts ++ filter (is_within l.range) (other_starts (box l.self.sizes) l.u (moves_left l.self l.back l.x l.l))
-    ≡ l.fn.starts ++ filter (is_within l.range) (other_starts (box l.self.sizes) l.u (moves_of l.self l.back l.x))
+-- the moves of the lengths above this one are still to come
+abbrev pub invariant-loop-done : goal.invariant-loop-done
+invariant-loop-done l =
+    (l.done ≤ l.last)
+    × (l.starts ++ filter (is_within l.range) (other_starts (box l.self.sizes) l.u (moves_left l.self l.back l.x (l.done + 1)))
+    ≡ l.fn.starts ++ filter (is_within l.range) (other_starts (box l.self.sizes) l.u (moves_of l.self l.back l.x)))
+
+abbrev pub decreases-loop-done : goal.decreases-loop-done
+decreases-loop-done l = l.last - l.done

@@ -1,26 +1,24 @@
-use Rattle.std.proofs.Common.{◌≡◌, ◌++◌, ◌+◌, ◌∙◌, Some, sym, ap, append-nil, arith}
+use Rattle.std.proofs.Common.{◌++◌, ◌+◌, ◌∙◌, sym, ap, append-nil, arith}
 use Rattle.std.specs.List.{filter}
-use Rattle.sgb_gen.specs.inner.LocalBoards.{own_starts}
 use Rattle.sgb_gen.specs.inner.Starts.{is_within}
-use Rattle.sgb_gen.specs.VectorGraphs.{Move}
-use Rattle.sgb_gen.proofs.BoardWalks.{leads, left-all, left-next, moves_left, moves_of, one_passing}
-use Rattle.sgb_gen.proofs.Reaches.{move}
+use Rattle.sgb_gen.proofs.BoardWalks.{moves_of}
+use Rattle.sgb_gen.proofs.OwnLengths.{all_lengths, all_put, begun, one_put}
 use Rattle.sgb_gen.proofs.StartRanges.{own_outside}
 use Rattle.sgb_gen.proofs.accepted.boards.Board.put_own.Goals as goal
 
-pub loop-l-init : goal.loop-l-init
-loop-l-init c = ap (λ ms. c.args.starts.now ++ filter (is_within c.args.range) (own_starts c.args.u ms)) (left-all c.args.self.now c.args.t.now c.args.x.now)
+pub loop-shorter-init : goal.loop-shorter-init
+loop-shorter-init c =
+    let n = c.lengths_by-count.result in
+    let all = all_lengths c.args.self.now c.args.t.now c.args.x.now n c.args.u c.lengths_by-count.ensures in
+    ap (λ ss. c.args.starts.now ++ ss) (sym (ap (filter (is_within c.args.range)) all ∙ begun c.args.u n c.args.range))
 
-pub loop-l-preserved : goal.loop-l-preserved
-loop-l-preserved c =
-    let b = c.args.self.now in
-    let t = c.args.t.now in
-    let x = c.args.x.now in
-    let l = c.loop-l.l in
-    let y = c.lands.new.there.items in
-    let lands : leads b x t l ≡ Some y = rw c.if-not-lands.false at c.lands.ensures.leads in
-    let next = left-next b t x l y (omega (arith, c.longest_move-l-end.ensures)) lands in
-    one_passing (is_within c.args.range) (λ (m : Move). (c.args.u, m.len)) c.loop-l.starts c.put.new.self _ (move x l y) (moves_left b t x l) (moves_left b t x (l + 1)) c.loop-l.invariant next (rw c.if-not-put.false at c.put.ensures.put)
+pub loop-shorter-preserved : goal.loop-shorter-preserved
+loop-shorter-preserved c =
+    one_put c.args.u c.lengths_by-count.result c.args.range (c.loop-shorter.shorter + 1) c.loop-shorter.starts c.put.new.self _ (omega (arith, c.loop-shorter-test.true, c.min-shorter-end.ensures)) c.loop-shorter.invariant (rw c.if-not-put.false at c.put.ensures.put)
+
+pub returns-clause-all : goal.returns-clause-all
+returns-clause-all c =
+    all_put c.args.u c.lengths_by-count.result c.args.range (c.loop-shorter.shorter + 1) c.loop-shorter.starts _ (omega (arith, c.loop-shorter-test.false, c.min-shorter-end.ensures)) c.loop-shorter.invariant
 
 pub returns-then-not-has_vertex-clause-all : goal.returns-then-not-has_vertex-clause-all
 returns-then-not-has_vertex-clause-all c =
