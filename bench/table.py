@@ -2,11 +2,15 @@
 """What requests cost: a table of processor seconds, peak memory and bytes of output.
 
     make && bench/table.py [WORD ..]
+    make && bench/table.py --beside PROGRAM [WORD ..]
 
 Each request is a run of ./sgb with its output read and counted; with words, only the requests that hold one of
 them are made. Where a request reads a file, another one writes it first, which is not counted. Where `make lib` has left
 libsgb.a, there are rows of a program in C (bench/hand_over.c) that opens a graph, and fetches its lists, or all of its
 arrays, with the bytes of these as output: to compare with the `save` of the same graph; and rows of chunks of great graphs.
+With --beside each operation is listed by ./sgb and by another program that takes the same words, in turn, and the least of
+eleven runs of each is told: as of conformance/out/graphbase, which `make graphbase` makes of GraphBase's calls and printf. It
+ends with status 1 where the two do not write as many bytes.
 It is no part of the gate.
 docs/PERFORMANCE.md has figures.
 """
@@ -101,6 +105,37 @@ READERS = [
     (["list", "gunion(stdin,stdin,0,0)"], ["save", "board(100,100,0,0,-1,0,0)"]),
 ]
 
+# operations, and boards whose sides wrap around, that are listed beside another program
+BESIDE = [
+    "gunion(board(80,80,0,0,-1,0,0),board(80,80,0,0,-2,0,0),0,0)",
+    "gunion(board(80,80,0,0,-1,0,0),board(80,80,0,0,-2,0,0),1,1)",
+    "intersection(board(80,80,0,0,-1,0,0),board(80,80,0,0,-2,0,0),1,0)",
+    "complement(board(1500,0,0,0,1,0,0),0,0,0)",
+    "complement(board(100,100,0,0,1,3,0),1,0,0)",
+    "lines(board(400,400,0,0,1,0,1),1)",
+    "lines(board(300,300,0,0,1,0,0),0)",
+    "lines(transitive(300),1)",
+    "product(board(300,300,0,0,1,0,0),board(2,0,0,0,1,0,0),0,0)",
+    "product(board(300,300,0,0,1,0,0),board(2,0,0,0,1,0,0),2,0)",
+    "product(circuit(400),circuit(400),0,0)",
+    "product(circuit(400),circuit(400),1,0)",
+    "product(circuit(400),circuit(400),2,0)",
+    "product(complete(40),complete(40),1,0)",
+    "induced(complete(6),[board(30,30,0,0,1,0,0),40,40,40,1,circuit(900)],0,0,1)",
+    TWICE,
+    "bi_complete(1000,1000,0)",
+    "wheel(200000,1,0)",
+    "wheel(100000,10,0)",
+    "board(100,100,0,0,-1,3,0)",
+    "board(64,64,64,0,-1,7,0)",
+    "board(100,100,0,0,-1,3,1)",
+    "board(200,200,0,0,-2,3,0)",
+    "stdin",
+]
+
+# how often each of them is run
+TIMES = 11
+
 # graphs that are handed over to C, and saved
 HANDED = [
     "board(600,600,0,0,1,0,0)",
@@ -133,15 +168,62 @@ def cost(words, source=subprocess.DEVNULL, most=None, program=PROGRAM):
     return run.returncode, usage.ru_utime + usage.ru_stime, usage.ru_maxrss, count
 
 
+def short(text):
+    """A text that is cut where it is long."""
+    return text if len(text) <= 90 else text[:60] + ".."
+
+
 def show(text, status, seconds, peak, count):
     """Prints a row of the table."""
     note = "" if status == 0 else f"  status {status}"
-    text = text if len(text) <= 90 else text[:60] + ".."
-    print(f"{text:<66} {seconds:>8.2f} {peak / 1024:>8.0f} {count:>12}{note}", flush=True)
+    print(f"{short(text):<66} {seconds:>8.2f} {peak / 1024:>8.0f} {count:>12}{note}", flush=True)
+
+
+def listed(program, text, path):
+    """What a listing costs that nobody reads: processor seconds and peak memory in kilobytes. Standard input is a file."""
+    with open(path, "rb") as source:
+        run = subprocess.Popen([program, "list", text], stdin=source, stdout=subprocess.DEVNULL)
+        _, status, usage = os.wait4(run.pid, 0)
+    run.returncode = os.waitstatus_to_exitcode(status)
+    if run.returncode:
+        sys.exit(f"{program} list {short(text)}: status {run.returncode}")
+    return usage.ru_utime + usage.ru_stime, usage.ru_maxrss
+
+
+def bytes_of(program, text, path):
+    """How many bytes a listing has."""
+    with open(path, "rb") as source:
+        return cost(["list", text], source, program=program)[3]
+
+
+def beside(other, wanted):
+    """Lists each operation by ./sgb and by another program, in turn, and tells the least of each."""
+    print(f"{'list':<76} {'sgb, s':>7} {'other':>7} {'times':>6} {'sgb, MB':>8} {'other':>6} {'times':>6}")
+    with tempfile.NamedTemporaryFile() as file:
+        subprocess.run([PROGRAM, "save", "board(600,600,0,0,1,0,0)"], stdout=file, check=True)
+        for text in BESIDE:
+            if wanted and not any(word in text for word in wanted):
+                continue
+            path = file.name if text == "stdin" else os.devnull
+            own_bytes, their_bytes = (bytes_of(program, text, path) for program in (PROGRAM, other))
+            if own_bytes != their_bytes:
+                sys.exit(f"list {short(text)}: {own_bytes} bytes of {PROGRAM}, {their_bytes} of {other}")
+            runs = [(listed(PROGRAM, text, path), listed(other, text, path)) for _ in range(TIMES)]
+            (own, own_peak), (their, their_peak) = (tuple(map(min, zip(*costs))) for costs in zip(*runs))
+            print(
+                f"{short(text):<76} {own:>7.3f} {their:>7.3f} {own / their:>6.3f} {own_peak / 1024:>8.1f}"
+                f" {their_peak / 1024:>6.0f} {own_peak / their_peak:>6.2f}",
+                flush=True,
+            )
 
 
 def main():
     wanted = sys.argv[1:]
+    if wanted[:1] == ["--beside"]:
+        if len(wanted) < 2:
+            sys.exit("bench/table.py --beside PROGRAM [WORD ..]")
+        beside(wanted[1], wanted[2:])
+        return
     print(f"{'request':<66} {'seconds':>8} {'peak MB':>8} {'bytes out':>12}")
     for words in REQUESTS:
         text = " ".join(words)

@@ -14,7 +14,7 @@ ghost use Rattle.sgb_file.specs.inner.LineRecords.{AreFieldsOf, IsArcLine, IsNam
 ghost use Rattle.std.specs.Prelude.{◌+◌};
 
 use super::heads::Counts;
-use super::plain::{after_comma, counted_integer, counted_record_number, counted_ref};
+use super::plain::{after_byte, after_comma, counted_integer, counted_record_number, counted_ref};
 use super::strings::place_of_quote;
 use crate::checksums::{MOST_AT_ONCE, checksum_after, remainder, value_after_byte};
 use sgb_graph::Ref;
@@ -98,7 +98,7 @@ pub(super) fn vertex_of_line<'a>(
 fn name_of_line(line: &[u8]) -> Option<(&[u8], &[u8])>
     ensures { IfSome result (λ x. IsNamedAt line.now x.0.now x.1.now) }
 {
-    let quoted = line.strip_prefix(b"\"")?;
+    let quoted = after_byte(line, b'"')?;
     let end = place_of_quote(quoted)?;
     let rest = after_comma(quoted, end + 1)?;
     Some((&quoted[..end], rest))

@@ -3,7 +3,7 @@
 //! A number of at most 18 digits is read in one pass and in 64 bits, and where it ends tells where its field ends: at a
 //! comma, or with the line. So no comma is looked for first. Any other text, as `0` and `1` in the place of a vertex,
 //! is found up to its comma and then read.
-ghost use Rattle.std.specs.Prelude.{◌≡◌, ◌≤◌, ◌<◌, ◌==◌, ◌^◌, ◌+◌, ◌∷◌, drop, length, nat_le, true, IfSome, neg_ℤ, option_map, pos};
+ghost use Rattle.std.specs.Prelude.{◌≡◌, ◌≢◌, ◌≤◌, ◌<◌, ◌==◌, ◌^◌, ◌+◌, [], ◌∷◌, drop, length, nat_le, take, true, IfNone, IfSome, neg_ℤ, option_map, pos};
 ghost use Rattle.std.specs.List.{before_first, position, take_while};
 ghost use Rattle.std.specs.Str.Parse.{digits_value};
 ghost use Rattle.sgb_file.specs.Fields.{most_number_digits};
@@ -28,6 +28,18 @@ pub(super) fn after_comma(text: &[u8], place: usize) -> Option<&[u8]>
     Some(&text[place + 1..])
 }
 
+// What follows this byte, where a text begins with it: one look, where `strip_prefix` compares slices.
+#[inline(always)]
+pub(super) fn after_byte(text: &[u8], byte: u8) -> Option<&[u8]>
+    ensures some { IfSome result (λ rest. text.now ≡ byte ∷ rest.now) }
+    ensures none { IfNone result (take 1 text.now ≢ byte ∷ []) }
+{
+    if text.is_empty() || text[0] != byte {
+        return None;
+    }
+    Some(&text[1..])
+}
+
 // The integer of 64 bits that the bytes before the first comma write, and how many they are.
 #[inline(always)]
 pub(super) fn integer_before_comma(line: &[u8]) -> Option<(i64, usize)>
@@ -47,7 +59,7 @@ pub(super) fn integer_before_comma(line: &[u8]) -> Option<(i64, usize)>
 pub(super) fn counted_integer(text: &[u8], value: u64) -> Option<(i64, usize, u64)>
     ensures { IfSome result (λ x. IsCountedField integer_of text.now value x.0 x.1 x.2) }
 {
-    if let Some(digits) = text.strip_prefix(b"-") {
+    if let Some(digits) = after_byte(text, b'-') {
         let begun = value_after_byte(value, b'-');
         let (number, len, after) = counted_number(digits, begun)?;
         return Some((minus(number), len + 1, after));
@@ -99,7 +111,7 @@ pub(super) fn counted_ref(counts: &Counts, line: &[u8], value: u64) -> Option<(R
     ensures { IfSome result (λ x. IsCountedField (ref_of counts.now.vertices) line.now value
         x.0 x.1 x.2) }
 {
-    let digits = line.strip_prefix(b"V")?;
+    let digits = after_byte(line, b'V')?;
     let begun = value_after_byte(value, b'V');
     let (v, len, after) = counted_number_below(counts.vertices, digits, begun)?;
     Some((Ref::At(v as u32), len + 1, after))
@@ -134,12 +146,12 @@ pub(super) fn counted_record_number(
     ensures { IfSome result (λ x. IsCountedField (record_number_of counts.now.arcs) line.now value
         x.0 x.1 x.2) }
 {
-    if let Some(digits) = line.strip_prefix(b"A") {
+    if let Some(digits) = after_byte(line, b'A') {
         let begun = value_after_byte(value, b'A');
         let (k, len, after) = counted_number_below(counts.arcs, digits, begun)?;
         return Some((Some(k as usize), len + 1, after));
     }
-    let rest = line.strip_prefix(b"0")?;
+    let rest = after_byte(line, b'0')?;
     if !is_at_end(rest) {
         return None;
     }
