@@ -23,6 +23,8 @@ pub mod DisplacementWalk
 pub mod DisplacementsBefore
 -- those before one that begin like it
 pub mod AlikeDisplacements
+-- the vectors before one that begin like it, and their signings
+pub mod AlikeVectors
 pub mod EarlierSignings
 pub mod EdgesInTurn
 pub mod EarlierVectors
