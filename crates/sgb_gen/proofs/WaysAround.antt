@@ -1,7 +1,7 @@
 -- How far a coordinate is from others, up or down, and around a side.
 use borrow.Author.Differences.{neg_is}
 use lib.Signed.{lt_z}
-use Rattle.std.proofs.Common.{◌≡◌, ℕ, zero, suc, ◌+◌, ◌-◌, ◌*◌, ◌/◌, ◌%◌, ◌<◌, ◌≤◌, ◌⊎◌, ℤ, pos, negsuc, ◌+ℤ◌, ◌*ℤ◌, neg_ℤ, nat_abs, Bool, true, false, Option, Some, None, refl, sym, ap, ◌∙◌, inl, inr, arith, true≢false}
+use Rattle.std.proofs.Common.{◌≡◌, ℕ, zero, suc, ◌+◌, ◌-◌, ◌*◌, ◌%◌, ◌<◌, ◌≤◌, ◌⊎◌, ℤ, pos, negsuc, ◌+ℤ◌, ◌*ℤ◌, neg_ℤ, nat_abs, Bool, true, false, Option, Some, None, refl, sym, ap, ◌∙◌, inl, inr, arith, true≢false}
 use Rattle.std.specs.Option.{IfNone, IfSome}
 use Rattle.std.proofs.Math.Nat.{mod-le}
 use Rattle.std.proofs.lemmas.Bool.{cases_lt, lt-ltb}
@@ -11,7 +11,7 @@ use Rattle.sgb_gen.specs.Moves.{coordinate_on}
 use Rattle.sgb_gen.specs.inner.VertexBounds.{Misses}
 use Rattle.sgb_gen.proofs.FallingPlaces.{around_at, back_by}
 use Rattle.sgb_gen.proofs.StrideTips.{flat_is, within_is}
-use Rattle.sgb_gen.proofs.TurnedMoves.{rem-moved, side_itself}
+use Rattle.sgb_gen.proofs.TurnedMoves.{side_itself}
 
 -- ---- up
 

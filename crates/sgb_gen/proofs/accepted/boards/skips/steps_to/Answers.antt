@@ -1,5 +1,5 @@
 use lib.Signed.{lt_z}
-use Rattle.std.proofs.Common.{◌≡◌, ◌+ℤ◌, ◌*◌, ℤ, ℕ, pos, neg_ℤ, nat_abs, true, false, subst, sym, rules}
+use Rattle.std.proofs.Common.{◌≡◌, ◌+ℤ◌, ◌*◌, pos, neg_ℤ, nat_abs, true, false, subst, sym, rules}
 use Rattle.std.proofs.lemmas.Int.{to_z-of_z}
 use Rattle.sgb_gen.specs.inner.VertexBounds.{Misses}
 use Rattle.sgb_gen.proofs.WaysAround.{steps_ahead, steps_back, way_misses}
