@@ -23,7 +23,7 @@ pub mod DisplacementWalk
 pub mod DisplacementsBefore
 -- those before one that begin like it
 pub mod AlikeDisplacements
--- the vectors before one that begin like it, and their signings
+-- the vectors that begin like one, their signings, and the vector before the first of them
 pub mod AlikeVectors
 pub mod EarlierSignings
 pub mod EdgesInTurn
