@@ -117,11 +117,6 @@ others_same b t x u l v few goes same =
     let fails = ap (λ i. not (i == u)) led.2 ∙ ap not (eq-eqb v u same) in
     ap (map (λ (m : Move). (vertex_among (box b.sizes) m.to, m.len))) (sym (not_one far (move x l led.0) (moves_left b t x l) (moves_left b t x (l + 1)) (left-next b t x l led.0 few led.1) fails))
 
--- none are left past the greatest length
-pub others_none : (b : BoardData) (t : List ℤ) (x : List ℕ) (u l : ℕ) (p : ℕ × ℕ → Bool) (done whole : List (ℕ × ℕ)) → longest b < l → done ++ filter p (other_starts (box b.sizes) u (moves_left b t x l)) ≡ whole → done ≡ whole
-others_none b t x u l p done whole past h =
-    sym (append-nil done) ∙ sym (ap (λ ms. done ++ filter p (other_starts (box b.sizes) u ms)) (left-none b t x l past)) ∙ h
-
 -- where the piece leads to has as many entries
 pub lands_width : (b : BoardData) (t : List ℤ) (x y : List ℕ) (l : ℕ) → IsBelow x b.sizes → leads b x t l ≡ Some y → length y ≡ length x
 lands_width b t x y l below e =

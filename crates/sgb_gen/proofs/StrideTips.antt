@@ -55,7 +55,7 @@ pub within_is : (n y : ℕ) (z : ℤ) → within_size n z ≡ Some y → pos y �
 within_is n y (pos a) e = grind (arith)
 within_is n y (negsuc a) e = absurd (cc)
 
-pub flat_is : (b : Bool) (n y : ℕ) (z : ℤ) → b ≡ false → coordinate_on (record { size = n; wraps = b }) z ≡ Some y → pos y ≡ z
+flat_is : (b : Bool) (n y : ℕ) (z : ℤ) → b ≡ false → coordinate_on (record { size = n; wraps = b }) z ≡ Some y → pos y ≡ z
 flat_is b n y z flat e = within_is n y z (rw flat at e)
 
 -- one side more
