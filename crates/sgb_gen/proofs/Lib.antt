@@ -124,7 +124,7 @@ mod AroundStarts
 -- where they go around a side once at most
 mod FallingPlaces
 pub mod OnwardStarts
--- how far a coordinate is from others, around a side
+-- steps of a coordinate on a side, and whether they lead to others
 mod WaysAround
 -- moves from a vector, length by length
 pub mod BoardWalks

@@ -1,4 +1,4 @@
--- How far a coordinate is from others, up or down, and around a side.
+-- Steps of a coordinate on a side, and whether they lead to others.
 use lib.Signed.{lt_z}
 use Rattle.std.proofs.Common.{◌≡◌, ℕ, zero, suc, ◌+◌, ◌-◌, ◌*◌, ◌<◌, ◌≤◌, ◌⊎◌, ℤ, pos, negsuc, ◌+ℤ◌, ◌*ℤ◌, neg_ℤ, nat_abs, Bool, true, false, Option, Some, None, refl, sym, ◌∙◌, arith, true≢false}
 use Rattle.std.specs.Option.{IfNone, IfSome}

@@ -12,9 +12,10 @@ use crate::start_ranges::StartRange;
 use sgb_vec::Panic;
 use std::marker::Model;
 
-// So many starts are kept at first, and at most.
+// At first no more than so many starts are kept.
 const FIRST_STARTS: usize = 4_096;
 
+// At most so many starts are kept.
 const MOST_STARTS: usize = 262_144;
 
 impl StartRange {
