@@ -17,6 +17,7 @@ use Rattle.sgb_ops.specs.Taken.{taken}
 use Rattle.sgb_ops.specs.inner.Copies.{IsKeptEntry, copies_start, count_by}
 use Rattle.sgb_ops.specs.inner.Ends.{AllWithin}
 use Rattle.sgb_ops.specs.inner.Parts.{has_loop_inside, has_loops_inside}
+use Rattle.sgb_ops.specs.inner.Slots.{inner_graph}
 use Rattle.sgb_ops.specs.inner.Entries.{inner_event, inner_events_from, total_of}
 use Rattle.sgb_ops.specs.inner.Induced.{copies_met, event_between, events_of_arc, events_of_copies, events_of_copy, is_met, is_wanted, wanted}
 use Rattle.sgb_ops.proofs.CopiesInOrder.{copy_between, firsts_order}
@@ -240,6 +241,13 @@ unfolding merged
 none_left multi directed = grind (arith)
 
 -- so none are inside an entry that is no graph
-pub none_inside : (self multi directed : Bool) (start : ℕ) (e : Entry) (g : GraphData) → ((x : ℕ) × (e ≡ entry.Copies x)) ⊎ ((x : ℕ) × (e ≡ entry.Merged x))
-    → AddsEvents directed g g (merged_unless multi directed (wanted self (inner_events directed start e)))
-none_inside self multi directed start e g h = search (rules, none_left, adds-none, AddsEvents)
+no_events : (directed : Bool) (start : ℕ) (e : Entry) → inner_graph e ≡ None → inner_events directed start e ≡ []
+no_events directed start e h = grind arith
+
+pub none_inside : (self multi directed : Bool) (start : ℕ) (e : Entry) (g : GraphData) → inner_graph e ≡ None → AddsEvents directed g g (merged_unless multi directed (wanted self (inner_events directed start e)))
+none_inside self multi directed start e g h =
+    subst (AddsEvents directed g g) (sym (ap (λ es. merged_unless multi directed (wanted self es)) (no_events directed start e h) ∙ none_left multi directed)) (adds-none directed g)
+
+-- an entry of which a graph is read is that graph
+pub graph_there : (e : Entry) (inner : GraphData) → inner_graph e ≡ Some inner → e ≡ entry.Graph inner
+graph_there e inner h = grind arith

@@ -31,6 +31,8 @@ pub mod Merged
 pub mod Pairs
 -- when events may be merged part by part
 pub mod Parts
+-- entries kept in few bytes, and the graph that one puts in
+pub mod Slots
 -- the graphs that an operation reads
 pub mod Sources
 -- the steps of a product, part by part

@@ -23,6 +23,8 @@ mod entries;
 mod events;
 // These events, merged and added part by part.
 mod parts;
+// The entries as they are read.
+mod slots;
 
 use crate::compounds::flag_byte;
 use crate::events::{Event, add_events};
@@ -32,6 +34,8 @@ pub use entries::Entry;
 use entries::{Copies, accept_entries};
 use events::{Flags, events_within, push_events_between};
 use parts::{add_events_between, add_events_within, are_in_parts};
+pub use slots::KeptEntry;
+use slots::Slots;
 use sgb_graph::{Graph, Id, compound_id};
 use sgb_vec::Panic;
 use std::alloc::Global;
@@ -70,17 +74,18 @@ pub fn induced(
         multi,
         directed,
     };
-    let merged = accept_entries(graph.n(), entries)?;
-    let begun = begun_by(alloc, graph, entries, merged, flags)?;
+    let slots = Slots::lent(entries);
+    let merged = accept_entries(graph.n(), &slots)?;
+    let begun = begun_by(alloc, graph, &slots, merged, flags)?;
     finished(alloc, graph, begun, flags)
 }
 
-/// The graph that `induced` gives, of entries that are given up: the graphs that they put in are dropped as soon as their
-/// names and the events inside them are taken. It has the errors of `induced`.
+/// The graph that `induced` gives, of small entries that are given up: the graphs that they put in are dropped as soon as
+/// their names and the events inside them are taken. It has the errors of `induced`.
 pub fn induced_from(
     alloc: Global,
     graph: &Graph,
-    entries: Vec<Entry>,
+    entries: Vec<KeptEntry>,
     self_loops: bool,
     multi: bool,
     directed: bool,
@@ -95,8 +100,9 @@ pub fn induced_from(
         multi,
         directed,
     };
-    let merged = accept_entries(graph.n(), &entries)?;
-    let begun = begun_by(alloc, graph, &entries, merged, flags)?;
+    let slots = Slots::kept(&entries);
+    let merged = accept_entries(graph.n(), &slots)?;
+    let begun = begun_by(alloc, graph, &slots, merged, flags)?;
     drop(entries);
     finished(alloc, graph, begun, flags)
 }
@@ -116,7 +122,7 @@ struct Begun {
 fn begun_by(
     alloc: Global,
     graph: &Graph,
-    entries: &[Entry],
+    entries: &Slots<'_>,
     merged: u32,
     flags: Flags,
 ) -> Result<Begun, Panic>
@@ -129,7 +135,7 @@ fn begun_by(
         flags.directed b.copies b.in_parts b.kept.items b.built) }
     ensures memory { IsOkUnless result Panic.NoRoom }
 {
-    let copies = Copies::new(alloc, entries, merged)?;
+    let copies = Copies::new(alloc, graph.n(), entries, merged)?;
     let names = names_by_entries(alloc, graph, entries, merged)?;
     let built = Graph::new(alloc, names)?;
     if are_in_parts(graph, entries, merged, flags.directed) {
@@ -148,7 +154,7 @@ fn begun_by(
 fn begun_in_parts(
     alloc: Global,
     n: u32,
-    entries: &[Entry],
+    entries: &Slots<'_>,
     copies: Copies,
     mut built: Graph,
     flags: Flags,

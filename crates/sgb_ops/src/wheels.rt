@@ -8,7 +8,7 @@ ghost use Rattle.sgb_ops.specs.inner.Boards.{rim_of_wheel};
 
 use crate::boards::{pair_of_vertices, rim_of_wheel};
 use crate::compounds::numbers_id;
-use crate::induced_graphs::{Entry, induced_from};
+use crate::induced_graphs::{KeptEntry, induced_from};
 use sgb_graph::Graph;
 use sgb_vec::{MOST_VERTICES, Panic};
 use std::alloc::Global;
@@ -33,7 +33,7 @@ fn wheel_around(
     alloc: Global,
     n: i64,
     n1: i64,
-    middle: Entry,
+    middle: KeptEntry,
     directed: bool,
 ) -> Result<Graph, Panic>
     requires { accepted_middle n1 ≡ Ok middle }
@@ -49,15 +49,16 @@ fn wheel_around(
 }
 
 // The entries: the middle, and then the rim.
-fn entries(alloc: Global, middle: Entry, rim: Graph) -> Result<Vec<Entry>, Panic>
+fn entries(alloc: Global, middle: KeptEntry, rim: Graph) -> Result<Vec<KeptEntry>, Panic>
     ensures ok { IfOk result (λ es. es.items ≡ middle ∷ entry.Graph rim ∷ []) }
     ensures memory { IsOkUnless result Panic.NoRoom }
 {
-    Ok(vec![in alloc; middle, Entry::Graph(rim)]?)
+    let rim = KeptEntry::graph(Box::new(alloc, rim)?);
+    Ok(vec![in alloc; middle, rim]?)
 }
 
 // The entry of so many vertices in the middle.
-fn accepted_middle(n1: i64) -> Result<Entry, Panic>
+fn accepted_middle(n1: i64) -> Result<KeptEntry, Panic>
     ensures ok { IfOk result (λ middle. accepted_middle n1 ≡ Ok middle) }
     ensures refused { IfErr result (λ e. accepted_middle n1 ≡ Err e) }
 {
@@ -67,5 +68,5 @@ fn accepted_middle(n1: i64) -> Result<Entry, Panic>
     if n1 > i64::from(MOST_VERTICES) {
         return Err(Panic::VeryBad);
     }
-    Ok(Entry::Copies(n1 as u32))
+    Ok(KeptEntry::copies(n1 as u32))
 }

@@ -9,7 +9,7 @@ ghost use Rattle.sgb_ops.specs.inner.Entries.{own_names};
 // For the search alone.
 ghost use Rattle.std.specs.Prelude.{◌<◌};
 
-use super::entries::Entry;
+use super::slots::{Slot, Slots};
 use crate::compounds::{ended_name, joined_name};
 use crate::operands::{VertexNames, push_joined_names, push_name};
 use sgb_graph::{Graph, Names};
@@ -31,7 +31,7 @@ const MOST_NUMBER: usize = 10;
 pub(super) fn names_by_entries(
     alloc: Global,
     graph: &Graph,
-    entries: &[Entry],
+    entries: &Slots<'_>,
     merged: u32,
 ) -> Result<Names, Panic>
     requires count { length entries.now ≡ length graph.now.vertices }
@@ -66,29 +66,28 @@ fn merged_name(alloc: Global, k: u32) -> Result<Text, Panic>
 }
 
 // Appends the names of the vertices that are not merged.
-fn push_own(alloc: Global, names: &mut Names, graph: &Graph, entries: &[Entry]) -> Result<(), Panic>
+fn push_own(alloc: Global, names: &mut Names, graph: &Graph, entries: &Slots<'_>) -> Result<(), Panic>
     requires { length entries.now ≡ length graph.now.vertices }
     ensures ok { OnOk result (names.new ≡ names.old ++ own_names (names_of graph.now) entries.now) }
     ensures memory { IsOkUnless result Panic.NoRoom }
 {
     for v in 0..graph.n() {
-        push_copies(alloc, names, graph.name(v), &entries[v as usize])?;
+        push_copies(alloc, names, graph.name(v), &entries.at(v))?;
     }
     Ok(())
 }
 
 // Appends the names of the vertices in the place of the one of this name alone.
-fn push_copies(alloc: Global, names: &mut Names, name: &Text, entry: &Entry) -> Result<(), Panic>
+fn push_copies(alloc: Global, names: &mut Names, name: &Text, entry: &Slot<'_>) -> Result<(), Panic>
     ensures ok { OnOk result (names.new ≡ names.old ++ names_of_copies name.now entry.now) }
     ensures memory { IsOkUnless result Panic.NoRoom }
 {
-    match entry {
-        Entry::Copies(count) => push_counted(alloc, names, name, *count),
-        Entry::Graph(inner) => {
+    match entry.graph() {
+        Some(inner) => {
             let others = VertexNames::Of(inner);
             push_joined_names(alloc, names, name, b":", &others, inner.n())
         }
-        Entry::Merged(_) => Ok(()),
+        None => push_counted(alloc, names, name, entry.size()),
     }
 }
 

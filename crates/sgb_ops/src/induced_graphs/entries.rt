@@ -1,8 +1,8 @@
 //! What is put in the place of each vertex of a graph (GB_BASIC, induced).
 //!
-//! An entry may be a graph, some 700 bytes. The entries are needed for the names and for the events inside the graphs
-//! that are put in. Of each vertex `Copies` then keeps what stands in its place as small numbers: so `induced_from`,
-//! which owns its entries, drops them before the arcs between copies are added.
+//! The entries are needed for the names and for the events inside the graphs that are put in. Of each vertex `Copies` then
+//! keeps what stands in its place as small numbers: so `induced_from`, which owns its entries, drops them before the arcs
+//! between copies are added.
 ghost use Rattle.std.specs.Prelude.{◌≡◌, ◌≤◌, ◌<◌, ◌*◌, ◌^◌, false, Ok, Err, length, map, All, OnOk, IfOk, IfErr, IsOkUnless};
 ghost use Rattle.sgb_vec.specs.Limits.{most_vertices};
 ghost use Rattle.std.specs.List.{list_any};
@@ -13,6 +13,7 @@ ghost use Rattle.sgb_ops.specs.Entries.{accepted_entries, first_copy, is_unnumbe
 // For the search alone.
 ghost use Rattle.std.specs.Prelude.{◌+◌};
 
+use super::slots::{Slot, Slots};
 use sgb_graph::Graph;
 use sgb_vec::{MOST_VERTICES, Panic};
 use std::alloc::Global;
@@ -29,41 +30,10 @@ pub enum Entry {
     Merged(u32),
 }
 
-impl Entry {
-    // How many vertices stand in the place of a vertex with this entry alone.
-    fn size(&self) -> u32
-        ensures value { result ≡ size_of_entry self.now }
-        ensures kept { IsKeptEntry self.now }
-    {
-        match self {
-            Entry::Copies(count) => *count,
-            Entry::Graph(graph) => graph.n(),
-            Entry::Merged(_) => 0,
-        }
-    }
-
-    // The number of its merged vertex, or 0.
-    fn number(&self) -> u32
-        ensures { result ≡ merged_number self.now }
-    {
-        match self {
-            Entry::Merged(number) => *number,
-            _ => 0,
-        }
-    }
-
-    // Whether its merged vertex has the number 0.
-    fn is_unnumbered(&self) -> bool
-        ensures { result ≡ is_unnumbered self.now }
-    {
-        matches!(self, Entry::Merged(0))
-    }
-}
-
 /// Refuses the entries for a graph of `n` vertices that are not one for each of them, and those with a merged vertex 0
 /// (`Bad`), and then those that make more than 1,000,000,000 vertices (`VeryBad`). Of others it tells how many merged
 /// vertices they make.
-pub(super) fn accept_entries(n: u32, entries: &[Entry]) -> Result<u32, Panic>
+pub(super) fn accept_entries(n: u32, entries: &Slots<'_>) -> Result<u32, Panic>
     ensures ok { OnOk result (accepted_entries n entries.now ≡ Ok entries.now) }
     ensures merged { IfOk result (λ merged. merged ≡ merged_count entries.now) }
     ensures refused { IfErr result (λ e. accepted_entries n entries.now ≡ Err e) }
@@ -72,24 +42,26 @@ pub(super) fn accept_entries(n: u32, entries: &[Entry]) -> Result<u32, Panic>
     ensures few { OnOk result (total_of entries.now ≤ most_vertices) }
     ensures kept { OnOk result (All IsKeptEntry entries.now) }
 {
-    if entries.len() != n as usize {
+    if !entries.are(n) {
         return Err(Panic::Bad);
     }
-    if has_unnumbered(entries) {
+    if has_unnumbered(n, entries) {
         return Err(Panic::Bad);
     }
-    let merged = merged_count(entries);
-    if u64::from(merged) + own_total(entries) > u64::from(MOST_VERTICES) {
+    let merged = merged_count(n, entries);
+    if u64::from(merged) + own_total(n, entries) > u64::from(MOST_VERTICES) {
         return Err(Panic::VeryBad);
     }
     Ok(merged)
 }
 
 // Whether some merged vertex has the number 0.
-fn has_unnumbered(entries: &[Entry]) -> bool
+fn has_unnumbered(n: u32, entries: &Slots<'_>) -> bool
+    requires { length entries.now ≡ n }
     ensures { result ≡ list_any is_unnumbered entries.now }
 {
-    for entry in entries {
+    for v in 0..n {
+        let entry = entries.at(v);
         if entry.is_unnumbered() {
             return true;
         }
@@ -98,25 +70,28 @@ fn has_unnumbered(entries: &[Entry]) -> bool
 }
 
 // How many merged vertices the entries make: the greatest number of all.
-fn merged_count(entries: &[Entry]) -> u32
+fn merged_count(n: u32, entries: &Slots<'_>) -> u32
+    requires { length entries.now ≡ n }
     ensures { result ≡ merged_count entries.now }
 {
     let mut greatest = 0;
-    for entry in entries {
+    for v in 0..n {
+        let entry = entries.at(v);
         greatest = entry.number().max(greatest);
     }
     greatest
 }
 
 // How many vertices the entries make that are not merged.
-fn own_total(entries: &[Entry]) -> u64
-    requires { length entries.now < 2 ^ 32 }
+fn own_total(n: u32, entries: &Slots<'_>) -> u64
+    requires { length entries.now ≡ n }
     ensures value { result ≡ own_total entries.now }
-    ensures bound { result ≤ length entries.now * 4_294_967_295 }
+    ensures bound { result ≤ n * 4_294_967_295 }
     ensures kept { All IsKeptEntry entries.now }
 {
     let mut total = 0;
-    for entry in entries {
+    for v in 0..n {
+        let entry = entries.at(v);
         total += u64::from(entry.size());
     }
     total
@@ -141,27 +116,13 @@ impl Model for Place {
 
 impl Place {
     // That of an entry, without the graph that it may be.
-    fn of(entry: &Entry) -> Place
+    fn of(entry: &Slot<'_>) -> Place
         requires { is_unnumbered entry.now ≡ false }
         ensures { result ≡ sized entry.now }
     {
-        match entry {
-            Entry::Copies(count) => Place::copies(*count),
-            Entry::Graph(graph) => Place::copies(graph.n()),
-            Entry::Merged(number) => Place {
-                copies: 0,
-                number: *number,
-            },
-        }
-    }
-
-    // So many copies.
-    fn copies(count: u32) -> Place
-        ensures { result ≡ entry.Copies count }
-    {
         Place {
-            copies: count,
-            number: 0,
+            copies: entry.size(),
+            number: entry.number(),
         }
     }
 
@@ -208,17 +169,23 @@ impl Model for Copies {
 }
 
 impl Copies {
-    /// The copies that these entries make, so many merged vertices among them, without the graphs that they put in.
+    /// The copies that these `n` entries make, so many merged vertices among them, without the graphs that they put in.
     ///
     /// `NoRoom` when out of memory, and nothing else.
-    pub(super) fn new(alloc: Global, entries: &[Entry], merged: u32) -> Result<Copies, Panic>
+    pub(super) fn new(
+        alloc: Global,
+        n: u32,
+        entries: &Slots<'_>,
+        merged: u32,
+    ) -> Result<Copies, Panic>
+        requires count { length entries.now ≡ n }
         requires merged { merged ≡ merged_count entries.now }
         requires numbered { list_any is_unnumbered entries.now ≡ false }
         requires few { total_of entries.now ≤ most_vertices }
         ensures ok { IfOk result (λ copies. copies ≡ map sized entries.now) }
         ensures memory { IsOkUnless result Panic.NoRoom }
     {
-        let places = places_of(alloc, entries)?;
+        let places = places_of(alloc, n, entries)?;
         let own_starts = first_copies(alloc, merged, &places)?;
         Ok(Copies { places, own_starts })
     }
@@ -255,14 +222,15 @@ impl Copies {
 }
 
 // The places of entries.
-fn places_of(alloc: Global, entries: &[Entry]) -> Result<Vec<Place>, Panic>
-    requires { list_any is_unnumbered entries.now ≡ false }
+fn places_of(alloc: Global, n: u32, entries: &Slots<'_>) -> Result<Vec<Place>, Panic>
+    requires count { length entries.now ≡ n }
+    requires numbered { list_any is_unnumbered entries.now ≡ false }
     ensures ok { IfOk result (λ places. places.items ≡ map sized entries.now) }
     ensures memory { IsOkUnless result Panic.NoRoom }
 {
-    let mut places = Vec::with_capacity(alloc, entries.len())?;
-    for entry in entries {
-        places.push(Place::of(entry))?;
+    let mut places = Vec::with_capacity(alloc, n as usize)?;
+    for v in 0..n {
+        places.push(Place::of(&entries.at(v)))?;
     }
     Ok(places)
 }

@@ -9,7 +9,8 @@ ghost use Rattle.sgb_ops.specs.Taken.{taken};
 ghost use Rattle.sgb_ops.specs.inner.Entries.{inner_events_from, total_of};
 ghost use Rattle.sgb_ops.specs.inner.Induced.{event_between, events_of_arc, events_of_copies, is_met, wanted};
 
-use super::entries::{Copies, Entry};
+use super::entries::Copies;
+use super::slots::{Slot, Slots};
 use crate::events::Event;
 use crate::taken::taken;
 use sgb_graph::{Graph, Link};
@@ -31,7 +32,7 @@ pub(super) struct Flags {
 pub(super) fn events_within(
     alloc: Global,
     n: u32,
-    entries: &[Entry],
+    entries: &Slots<'_>,
     copies: &Copies,
     flags: Flags,
 ) -> Result<Vec<Event>, Panic>
@@ -46,7 +47,7 @@ pub(super) fn events_within(
     for v in 0..n {
         push_inner_events(
             &mut events,
-            &entries[v as usize],
+            &entries.at(v),
             copies.own_start(v),
             flags,
         )?;
@@ -57,7 +58,7 @@ pub(super) fn events_within(
 // Appends the events inside an entry whose first vertex is `start`.
 fn push_inner_events(
     events: &mut Vec<Event>,
-    entry: &Entry,
+    entry: &Slot<'_>,
     start: u32,
     flags: Flags,
 ) -> Result<(), Panic>
@@ -66,9 +67,9 @@ fn push_inner_events(
         ++ wanted flags.self_loops (inner_events flags.directed start entry.now)) }
     ensures memory { IsOkUnless result Panic.NoRoom }
 {
-    match entry {
-        Entry::Graph(inner) => push_graph(events, inner, start, flags),
-        Entry::Copies(_) | Entry::Merged(_) => Ok(()),
+    match entry.graph() {
+        Some(inner) => push_graph(events, inner, start, flags),
+        None => Ok(()),
     }
 }
 

@@ -18,8 +18,9 @@ ghost use Rattle.sgb_ops.specs.inner.Parts.{AreInParts, has_loop_inside, has_loo
 ghost use Rattle.sgb_ops.specs.inner.Entries.{inner_events_from, total_of};
 ghost use Rattle.sgb_ops.specs.inner.Induced.{events_of_arc, events_of_copies, wanted};
 
-use super::entries::{Copies, Entry};
+use super::entries::Copies;
 use super::events::{Flags, arcs_to_copies, push_from_copy, push_inner_arcs};
+use super::slots::{Slot, Slots};
 use crate::events::{Event, add_events};
 use crate::merged::merged_unless;
 use crate::taken::taken;
@@ -29,7 +30,7 @@ use std::alloc::Global;
 
 /// Whether none of the entries, which make so many merged vertices, merges any, and no vertex with a graph in its place has a loop. Then events from different copies
 /// never have the same ends, nor has one inside a graph the ends of one between copies.
-pub(super) fn are_in_parts(graph: &Graph, entries: &[Entry], merged: u32, directed: bool) -> bool
+pub(super) fn are_in_parts(graph: &Graph, entries: &Slots<'_>, merged: u32, directed: bool) -> bool
     requires count { length entries.now ≡ length graph.now.vertices }
     requires merged { merged ≡ merged_count entries.now }
     ensures { OnTrue result (AreInParts graph.now entries.now directed) }
@@ -38,12 +39,12 @@ pub(super) fn are_in_parts(graph: &Graph, entries: &[Entry], merged: u32, direct
 }
 
 // Whether a vertex with a graph in its place has a loop.
-fn has_loops_inside(graph: &Graph, entries: &[Entry], directed: bool) -> bool
+fn has_loops_inside(graph: &Graph, entries: &Slots<'_>, directed: bool) -> bool
     requires { length entries.now ≡ length graph.now.vertices }
     ensures { result ≡ has_loops_inside graph.now entries.now directed }
 {
     for v in 0..graph.n() {
-        if has_loop_inside(graph, &entries[v as usize], directed, v) {
+        if has_loop_inside(graph, &entries.at(v), directed, v) {
             return true;
         }
     }
@@ -51,13 +52,13 @@ fn has_loops_inside(graph: &Graph, entries: &[Entry], directed: bool) -> bool
 }
 
 // Whether vertex `v` has a graph in its place, by this entry, and a loop.
-fn has_loop_inside(graph: &Graph, entry: &Entry, directed: bool, v: u32) -> bool
+fn has_loop_inside(graph: &Graph, entry: &Slot<'_>, directed: bool, v: u32) -> bool
     requires { v < length graph.now.vertices }
     ensures { result ≡ has_loop_inside graph.now directed v entry.now }
 {
-    match entry {
-        Entry::Graph(_) => has_loop(graph, directed, v),
-        Entry::Copies(_) | Entry::Merged(_) => false,
+    match entry.graph() {
+        Some(_) => has_loop(graph, directed, v),
+        None => false,
     }
 }
 
@@ -82,7 +83,7 @@ pub(super) fn add_events_within(
     built: &mut Graph,
     alloc: Global,
     n: u32,
-    entries: &[Entry],
+    entries: &Slots<'_>,
     copies: &Copies,
     flags: Flags,
 ) -> Result<(), Panic>
@@ -99,7 +100,7 @@ pub(super) fn add_events_within(
 {
     for v in 0..n {
         let start = copies.own_start(v);
-        add_inner_events(built, alloc, &entries[v as usize], start, flags)?;
+        add_inner_events(built, alloc, &entries.at(v), start, flags)?;
     }
     Ok(())
 }
@@ -108,7 +109,7 @@ pub(super) fn add_events_within(
 fn add_inner_events(
     built: &mut Graph,
     alloc: Global,
-    entry: &Entry,
+    entry: &Slot<'_>,
     start: u32,
     flags: Flags,
 ) -> Result<(), Panic>
@@ -121,9 +122,9 @@ fn add_inner_events(
         (wanted flags.self_loops (inner_events flags.directed start entry.now)))) }
     ensures memory { IsOkUnless result Panic.NoRoom }
 {
-    match entry {
-        Entry::Graph(inner) => add_graph(built, alloc, inner, start, flags),
-        Entry::Copies(_) | Entry::Merged(_) => Ok(()),
+    match entry.graph() {
+        Some(inner) => add_graph(built, alloc, inner, start, flags),
+        None => Ok(()),
     }
 }
 

@@ -79,7 +79,17 @@ pub returns-in_err-rim-clause-answer : goal.returns-in_err-rim-clause-answer
 returns-in_err-rim-clause-answer c = search (rules, err_from_is_err_and, IsAnswerOf, board, rim_of_wheel, to_z-of_z, refused_onward, after_rim, graph_described)
 
 pub returns-in_err-pair-clause-answer : goal.returns-in_err-pair-clause-answer
-returns-in_err-pair-clause-answer c = search (rules, err_from_is_err_and, rim_there, refused_onward, board, pair_of_vertices, after_pair, graph_described)
+returns-in_err-pair-clause-answer c =
+    let n = c.args.n in
+    let n1 = c.args.n1 in
+    let d = c.args.directed in
+    let middle = c.args.middle in
+    let rim = c.in_ok-rim.rim in
+    let e = c.in_err-pair.field-0.0 in
+    let p = err_from_is_err_and c.from_residual-in_err-pair.result c.from_residual-in_err-pair.ensures.1 in
+    rw (p.1, p.2)
+    (rim_there n n1 d middle rim (Err e) c.ranges.n c.requires c.in_ok-rim.ensures.answer
+    (refused_onward (board (pair_of_vertices d)) e (λ x. after_pair n n1 d middle rim (graph_described x)) c.in_err-pair.ensures))
 
 -- a rim that was made is not refused
 pub returns-clause-refused : goal.returns-clause-refused

@@ -5,12 +5,12 @@ use Rattle.sgb_ops.proofs.induced_graphs.entries.has_unnumbered.Goals as goal
 
 pub returns-then-is_unnumbered : goal.returns-then-is_unnumbered
 returns-then-is_unnumbered c =
-    let left = unnumbered_left c.args.entries.now c.loop-entry.entry-index c.entry-item.result (omega arith) c.entry-item.is in
+    let left = unnumbered_left c.args.entries.now c.loop-v.v c.at-entry.result (omega (arith, c.requires)) c.at-entry.ensures in
     grind (arith, left)
 
-pub loop-entry-preserved : goal.loop-entry-preserved
-loop-entry-preserved c =
-    let left = unnumbered_left c.args.entries.now c.loop-entry.entry-index c.entry-item.result (omega arith) c.entry-item.is in
+pub loop-v-preserved : goal.loop-v-preserved
+loop-v-preserved c =
+    let left = unnumbered_left c.args.entries.now c.loop-v.v c.at-entry.result (omega (arith, c.requires)) c.at-entry.ensures in
     grind (arith, left)
 
 pub returns : goal.returns

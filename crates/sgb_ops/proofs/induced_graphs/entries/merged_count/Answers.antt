@@ -3,10 +3,10 @@ use Rattle.sgb_ops.specs.Entries.{merged_count}
 use Rattle.sgb_ops.proofs.EntryTotals.{merged_left}
 use Rattle.sgb_ops.proofs.induced_graphs.entries.merged_count.Goals as goal
 
-pub loop-entry-preserved : goal.loop-entry-preserved
-loop-entry-preserved c =
-    let left = merged_left c.args.entries.now c.loop-entry.entry-index c.entry-item.result (omega arith) c.entry-item.is in
-    omega (arith, left, c.loop-entry.invariant, c.number.ensures, c.max-greatest.ensures)
+pub loop-v-preserved : goal.loop-v-preserved
+loop-v-preserved c =
+    let left = merged_left c.args.entries.now c.loop-v.v c.at-entry.result (omega (arith, c.requires)) c.at-entry.ensures in
+    omega (arith, left, c.loop-v.invariant, c.number.ensures, c.max-greatest.ensures)
 
 pub returns : goal.returns
-returns c = omega (arith, c.loop-entry.invariant, ap merged_count (drop_all c.loop-entry.entry-index c.args.entries.now (omega arith)))
+returns c = omega (arith, c.loop-v.invariant, ap merged_count (drop_all c.loop-v.v c.args.entries.now (omega (arith, c.requires))))

@@ -3,5 +3,5 @@ use Rattle.sgb_ops.specs.inner.Copies.{sized}
 use Rattle.sgb_ops.proofs.induced_graphs.entries.places_of.Given as goal
 
 -- those of the entries so far
-abbrev pub invariant-loop-entry : goal.invariant-loop-entry
-invariant-loop-entry l = l.places.items ≡ map sized (take l.entry-index l.entries)
+abbrev pub invariant-loop-v : goal.invariant-loop-v
+invariant-loop-v l = l.places.items ≡ map sized (take l.v l.entries)

@@ -20,5 +20,5 @@ pub loop-v-preserved : goal.loop-v-preserved
 loop-v-preserved c =
     let entries = c.args.entries.now in
     let first = first_read entries c.args.copies.now c.loop-v.v c.own_start.result c.requires.copies c.own_start.ensures.value in
-    let more = step entries c.args.flags.directed c.args.flags.self_loops c.loop-v.v c.index-entries-v.result (omega (arith, c.requires.count)) c.index-entries-v.is in
+    let more = step entries c.args.flags.directed c.args.flags.self_loops c.loop-v.v c.at.result (omega (arith, c.requires.count)) c.at.ensures in
     grind (arith, append_assoc, first, more)

@@ -18,7 +18,7 @@ loop-v-preserved c =
     let entries = c.args.entries.now in
     let v = c.loop-v.v in
     let below : v < length entries = omega (arith, c.requires.count) in
-    let inside : inner_events d c.own_start-start.result c.index-entries-v.result ≡ inside_at entries d v = search (rules, entry_there, first_read, inside_at, below) in
+    let inside : inner_events d c.own_start-start.result c.at.result ≡ inside_at entries d v = search (rules, entry_there, first_read, inside_at, below) in
     place_added d c.args.built.now c.loop-v.built (flat_map (inside_part self multi entries d)) (length entries) v c.add_inner_events.new.built _ below c.loop-v.invariant (rw inside at c.in_ok-add_inner_events.ensures.ok) refl
 
 pub returns-clause-ok : goal.returns-clause-ok
