@@ -1,6 +1,4 @@
 -- What only the private contracts and the proofs of sgb_values speak of.
--- entries whose expressions are evaluated
-pub mod EntryValues
 -- what is left of standard input
 pub mod Inputs
 -- operands that need not be built

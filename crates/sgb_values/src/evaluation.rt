@@ -1,5 +1,5 @@
 //! The graphs that expressions name (GB_BASIC).
-ghost use Rattle.std.specs.Prelude.{◌≡◌, ◌||◌, ℕ, List, Result, Err, Ok, map, IfErr, IfOk};
+ghost use Rattle.std.specs.Prelude.{◌≡◌, ◌||◌, ℕ, List, Result, Err, Ok, IfErr, IfOk};
 ghost use Rattle.sgb_vec.specs.declared.panics.Panic.{Panic};
 ghost use Rattle.sgb_graph.specs.Graphs.{GraphData};
 ghost use Rattle.sgb_expr.specs.Listed.{listed};
@@ -8,7 +8,6 @@ ghost use Rattle.sgb_expr.specs.StdinUses.{entries_have_stdin, entry_has_stdin, 
 ghost use Rattle.sgb_values.specs.FirstRefusals.{IsRefusedFirst};
 ghost use Rattle.sgb_vec.specs.Results.{IsValue};
 ghost use Rattle.sgb_values.specs.Values.{IsValueOn, entry_value, value_of, values_of};
-ghost use Rattle.sgb_values.specs.inner.EntryValues.{handed_entry};
 ghost use Rattle.sgb_values.specs.inner.Inputs.{left_after};
 ghost use Rattle.sgb_values.specs.inner.Operands.{graph_held, on_lists};
 ghost use Rattle.sgb_values.specs.inner.StdinValues.{GivesStdin};
@@ -19,13 +18,13 @@ mod list_operations;
 use crate::kept::Kept;
 use crate::stdin::read_kept;
 pub use entries::numbered_entry;
-use entries::{EntryValue, graph_value, handed_entries};
+use entries::{kept_graph, kept_number};
 use list_operations::{
     OnList, OnLists, Operand, answer_of, answer_of_one, generated, lines_of_operand,
 };
 use sgb_expr::{EntryExpr, Expr, have_stdin};
 use sgb_graph::Graph;
-use sgb_ops::{bi_complete, induced_from, wheel};
+use sgb_ops::{KeptEntry, bi_complete, induced_from, wheel};
 use sgb_vec::Panic;
 use std::alloc::Global;
 
@@ -152,8 +151,7 @@ fn evaluate(
             let entries = entries.as_slice();
             let operand = evaluate(alloc, graph, input, more_in(more, entries))?;
             let values = values_of(alloc, entries, input, more)?;
-            let list = handed_entries(alloc, values)?;
-            induced_from(alloc, &operand, list, *self_loops, *multi, *directed)
+            induced_from(alloc, &operand, values, *self_loops, *multi, *directed)
         }
         Expr::BiComplete { n1, n2, directed } => bi_complete(alloc, *n1, *n2, *directed),
         Expr::Wheel { n, n1, directed } => wheel(alloc, *n, *n1, *directed),
@@ -231,10 +229,10 @@ fn values_of(
     entries: &[EntryExpr],
     input: &mut Kept<'_>,
     more: bool,
-) -> Result<Vec<EntryValue>, Panic>
+) -> Result<Vec<KeptEntry>, Panic>
     ensures ok { (stdin : List ℕ → Result GraphData Panic) → GivesStdin stdin
         → IfOk result (λ values. values_of (stdin input.old) (entries_of (listed entries.now))
-        ≡ Ok (map handed_entry values.items)) }
+        ≡ Ok values.items) }
     ensures refused { (stdin : List ℕ → Result GraphData Panic) → GivesStdin stdin
         → IfErr result
         (λ p. IsValue (values_of (stdin input.old) (entries_of (listed entries.now))) (Err p)) }
@@ -259,10 +257,10 @@ fn value_of_entry(
     others: &[EntryExpr],
     input: &mut Kept<'_>,
     more: bool,
-) -> Result<EntryValue, Panic>
+) -> Result<KeptEntry, Panic>
     ensures ok { (stdin : List ℕ → Result GraphData Panic) → GivesStdin stdin
         → IfOk result (λ v. entry_value (stdin input.old) (entry_of entry.now)
-        ≡ Ok (handed_entry v)) }
+        ≡ Ok v) }
     ensures refused { (stdin : List ℕ → Result GraphData Panic) → GivesStdin stdin
         → IfErr result (λ p. IsValue (entry_value (stdin input.old) (entry_of entry.now)) (Err p)) }
     ensures left { IfOk result (λ _. input.new
@@ -270,10 +268,10 @@ fn value_of_entry(
         (entry_has_stdin (entry_of entry.now)) input.old) }
 {
     match entry {
-        EntryExpr::Number(number) => Ok(EntryValue::Number(*number)),
+        EntryExpr::Number(number) => Ok(kept_number(*number)),
         EntryExpr::Graph(expression) => {
             let graph = evaluate(alloc, expression, input, more_in(more, others))?;
-            graph_value(alloc, graph)
+            kept_graph(alloc, graph)
         }
     }
 }

@@ -15,12 +15,22 @@ use std::marker::Model;
 
 /// An entry of `induced_from`: what stands in the place of a vertex (GB_BASIC, induced). It takes 16 bytes; contracts see it
 /// as an `Entry`.
-#[derive(Drop)]
 pub struct KeptEntry {
     // So many copies, or the number of the merged vertex.
     count: u32,
     is_merged: bool,
     graph: Option<Box<Graph>>,
+}
+
+// One call for those who drop it.
+impl Drop for KeptEntry {
+    fn drop(self) {
+        let KeptEntry {
+            count: _,
+            is_merged: _,
+            graph: _,
+        } = self;
+    }
 }
 
 impl Model for KeptEntry {

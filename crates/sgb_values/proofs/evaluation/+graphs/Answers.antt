@@ -16,7 +16,6 @@ use Rattle.sgb_ops.specs.Wheel.{accepted_rim, wheel_of}
 use Rattle.sgb_vec.specs.Results.{IsValue}
 use Rattle.sgb_gen.specs.Generators.{made}
 use Rattle.sgb_values.specs.Values.{value_of, values_of}
-use Rattle.sgb_values.specs.inner.EntryValues.{handed_entry}
 use Rattle.sgb_values.specs.inner.Inputs.{left_after}
 use Rattle.sgb_values.specs.inner.Operands.{graph_held, on_lists}
 use Rattle.sgb_values.proofs.Values.{and_values, first_refused, induced_reads, induced_size, induced_value, one_more, size_of_entries, then_refused, lists_answered, lists_leave, lists_same, value_made, value_one}
@@ -157,16 +156,12 @@ pub evaluate-returns-in_err-operand-in-Induced-clause-refused : goal.evaluate-re
 evaluate-returns-in_err-operand-in-Induced-clause-refused t c =
     rw c.in-Induced.is (exit_first c.args.input.now c.deref-in-Induced.result.now c.in-Induced.graph.value _ _ c.from_residual-in_err-operand-in-Induced.ensures.1 c.deref-in-Induced.ensures c.in_err-operand-in-Induced.ensures.refused)
 
-pub evaluate-returns-in_ok-list-in-Induced-clause-refused : goal.evaluate-returns-in_ok-list-in-Induced-clause-refused
-evaluate-returns-in_ok-list-in-Induced-clause-refused t c =
+pub evaluate-returns-in_ok-values-in-Induced-clause-refused : goal.evaluate-returns-in_ok-values-in-Induced-clause-refused
+evaluate-returns-in_ok-values-in-Induced-clause-refused t c =
     rw c.in-Induced.is (made_first c.args.input.now c.deref-in-Induced.result.now c.in-Induced.graph.value _ _ c.deref-in-Induced.ensures c.in_ok-operand-in-Induced.ensures.refused)
 
 pub evaluate-returns-in_err-values-in-Induced-clause-refused : goal.evaluate-returns-in_err-values-in-Induced-clause-refused
 evaluate-returns-in_err-values-in-Induced-clause-refused t c =
-    rw c.in-Induced.is (made_first c.args.input.now c.deref-in-Induced.result.now c.in-Induced.graph.value _ _ c.deref-in-Induced.ensures c.in_ok-operand-in-Induced.ensures.refused)
-
-pub evaluate-returns-in_err-list-in-Induced-clause-refused : goal.evaluate-returns-in_err-list-in-Induced-clause-refused
-evaluate-returns-in_err-list-in-Induced-clause-refused t c =
     rw c.in-Induced.is (made_first c.args.input.now c.deref-in-Induced.result.now c.in-Induced.graph.value _ _ c.deref-in-Induced.ensures c.in_ok-operand-in-Induced.ensures.refused)
 
 pub evaluate-returns-in-BiComplete-clause-refused : goal.evaluate-returns-in-BiComplete-clause-refused
@@ -190,26 +185,18 @@ evaluate-returns-in_err-values-in-Induced-clause-value t c = λ stdin gives.
     rw (p.1, p.2) (induced_value (stdin c.args.input.now) c.args.expression.now _ _ _ _ (Err c.in_err-values-in-Induced.field-0.0) a.graph a.entries a.self_loops a.multi a.directed a.is c.deref-in-Induced.ensures c.as_slice-entries.ensures (c.in_ok-operand-in-Induced.ensures.value stdin gives)
     same (then_refused _ _ c.in_err-values-in-Induced.field-0.0 (c.in_err-values-in-Induced.ensures.refused stdin gives)))
 
-pub evaluate-returns-in_err-list-in-Induced-clause-value : goal.evaluate-returns-in_err-list-in-Induced-clause-value
-evaluate-returns-in_err-list-in-Induced-clause-value t c = λ stdin gives.
-    let a = c.in-Induced in
-    let p = err_from_is_err_and c.from_residual-in_err-list-in-Induced.result c.from_residual-in_err-list-in-Induced.ensures.1 in
-    let same = values_on _ _ _ _ _ stdin (entries_of (listed c.as_slice-entries.result.now)) c.more_in.ensures c.in_ok-operand-in-Induced.ensures.left in
-    rw (p.1, p.2) (induced_value (stdin c.args.input.now) c.args.expression.now _ _ _ (Ok (map handed_entry c.in_ok-values-in-Induced.values.items)) (Err c.in_err-list-in-Induced.field-0.0) a.graph a.entries a.self_loops a.multi a.directed a.is c.deref-in-Induced.ensures c.as_slice-entries.ensures (c.in_ok-operand-in-Induced.ensures.value stdin gives)
-    (sym (c.in_ok-values-in-Induced.ensures.ok stdin gives) ∙ same) (inr c.in_err-list-in-Induced.ensures.memory))
-
-pub evaluate-returns-in_ok-list-in-Induced-clause-value : goal.evaluate-returns-in_ok-list-in-Induced-clause-value
-evaluate-returns-in_ok-list-in-Induced-clause-value t c = λ stdin gives.
+pub evaluate-returns-in_ok-values-in-Induced-clause-value : goal.evaluate-returns-in_ok-values-in-Induced-clause-value
+evaluate-returns-in_ok-values-in-Induced-clause-value t c = λ stdin gives.
     let a = c.in-Induced in
     let operand = c.in_ok-operand-in-Induced.operand in
     let same = values_on _ _ _ _ _ stdin (entries_of (listed c.as_slice-entries.result.now)) c.more_in.ensures c.in_ok-operand-in-Induced.ensures.left in
-    let answer : IsAnswerOf (induced_of operand c.in_ok-list-in-Induced.list.items a.self_loops a.multi a.directed) c.induced_from.result = c.induced_from.ensures.answer in
-    induced_value (stdin c.args.input.now) c.args.expression.now _ _ _ (Ok (map handed_entry c.in_ok-values-in-Induced.values.items)) c.induced_from.result a.graph a.entries a.self_loops a.multi a.directed a.is c.deref-in-Induced.ensures c.as_slice-entries.ensures (c.in_ok-operand-in-Induced.ensures.value stdin gives)
+    let answer : IsAnswerOf (induced_of operand c.in_ok-values-in-Induced.values.items a.self_loops a.multi a.directed) c.induced_from.result = c.induced_from.ensures.answer in
+    induced_value (stdin c.args.input.now) c.args.expression.now _ _ _ (Ok c.in_ok-values-in-Induced.values.items) c.induced_from.result a.graph a.entries a.self_loops a.multi a.directed a.is c.deref-in-Induced.ensures c.as_slice-entries.ensures (c.in_ok-operand-in-Induced.ensures.value stdin gives)
     (sym (c.in_ok-values-in-Induced.ensures.ok stdin gives) ∙ same)
-    (subst (λ (es : List Entry). IsValue (made (induced_of operand es a.self_loops a.multi a.directed)) c.induced_from.result) c.in_ok-list-in-Induced.ensures.ok (value_made _ _ answer))
+    (value_made _ _ answer)
 
-pub evaluate-returns-in_ok-list-in-Induced-clause-left : goal.evaluate-returns-in_ok-list-in-Induced-clause-left
-evaluate-returns-in_ok-list-in-Induced-clause-left t c =
+pub evaluate-returns-in_ok-values-in-Induced-clause-left : goal.evaluate-returns-in_ok-values-in-Induced-clause-left
+evaluate-returns-in_ok-values-in-Induced-clause-left t c =
     let a = c.in-Induced in
     let left = left_on c.args.more _ _ _ _ (entries_have_stdin (entries_of (listed c.as_slice-entries.result.now))) _ c.more_in.ensures c.in_ok-operand-in-Induced.ensures.left c.in_ok-values-in-Induced.ensures.left in
     let all = induced_reads c.args.expression.now _ _ a.graph a.entries a.self_loops a.multi a.directed a.is c.deref-in-Induced.ensures c.as_slice-entries.ensures in
@@ -263,12 +250,11 @@ pub values_of-loop-entry-preserved : goal.values_of-loop-entry-preserved
 values_of-loop-entry-preserved t c =
     let taken = c.in-Some.ensures.cases.0 in
     let others = entries_of (listed c.in-Some.others.now) in
-    let before = map handed_entry c.loop-entry.values.items in
-    let value = handed_entry c.in_ok-value.value in
-    let put = ap (map handed_entry) c.in_ok-push.ensures.items ∙ map-append handed_entry c.loop-entry.values.items (c.in_ok-value.value ∷ []) in
+    let before = c.loop-entry.values.items in
+    let value = c.in_ok-value.value in
     let left = c.in_ok-value.ensures.left in (
       λ stdin gives.
-          ap (λ (es : List Entry). and_values es (values_of (stdin c.value_of_entry.new.input) others)) put
+          ap (λ (es : List Entry). and_values es (values_of (stdin c.value_of_entry.new.input) others)) c.in_ok-push.ensures.items
           ∙ ap (and_values (before ++ value ∷ [])) (values_on c.args.more _ _ c.loop-entry.input _ stdin others refl left)
           ∙ one_more before value _ (values_of (stdin c.loop-entry.input) others) (c.in_ok-value.ensures.ok stdin gives)
           ∙ ap (λ (es : List EntryExpr). and_values before (values_of (stdin c.loop-entry.input) (entries_of (listed es)))) (sym taken)

@@ -1,11 +1,10 @@
-use Rattle.std.proofs.Common.{◌≡◌, ◌≤◌, ◌+◌, ℕ, List, Result, length, map}
+use Rattle.std.proofs.Common.{◌≡◌, ◌≤◌, ◌+◌, ℕ, List, Result, length}
 use Rattle.sgb_vec.specs.declared.panics.Panic.{Panic}
 use Rattle.sgb_graph.specs.Graphs.{GraphData}
 use Rattle.sgb_expr.specs.Listed.{listed}
 use Rattle.sgb_expr.specs.Expression.{entries_of, entry_of, expression_of}
 use Rattle.sgb_expr.specs.StdinUses.{entries_have_stdin}
 use Rattle.sgb_values.specs.Values.{values_of}
-use Rattle.sgb_values.specs.inner.EntryValues.{handed_entry}
 use Rattle.sgb_values.specs.inner.Inputs.{left_after}
 use Rattle.sgb_values.specs.inner.StdinValues.{GivesStdin}
 use Rattle.sgb_values.proofs.Values.{and_values, size_of, size_of_entries, size_of_entry}
@@ -31,7 +30,7 @@ decreases-value_of_entry l = size_of_entry (entry_of l.entry.now)
 abbrev pub invariant-values_of-loop-entry : goal.invariant-values_of-loop-entry
 invariant-values_of-loop-entry l =
     ((stdin : List ℕ → Result GraphData Panic) → GivesStdin stdin
-    → and_values (map handed_entry l.values.items) (values_of (stdin l.input) (entries_of (listed l.later))) ≡ values_of (stdin l.initial.input) (entries_of (listed l.entries)))
+    → and_values l.values.items (values_of (stdin l.input) (entries_of (listed l.later))) ≡ values_of (stdin l.initial.input) (entries_of (listed l.entries)))
     × (left_after l.more (entries_have_stdin (entries_of (listed l.later))) l.input ≡ left_after l.more (entries_have_stdin (entries_of (listed l.entries))) l.initial.input)
     × (size_of_entries (entries_of (listed l.later)) ≤ size_of_entries (entries_of (listed l.entries)))
 
