@@ -69,6 +69,8 @@ pub mod SizedEntries
 pub mod RisingParts
 -- events whose ends have rising sums
 pub mod RisingSums
+-- events whose ends have different sums
+pub mod OwnSums
 -- the events of an induced graph, part by part
 pub mod InducedParts
 -- an induced graph under way

@@ -1,5 +1,5 @@
 //! The events of which the graph of an operation is made (GB_GRAPH, gb_new_arc and gb_new_edge).
-ghost use Rattle.std.specs.Prelude.{◌≡◌, ◌≤◌, ◌<◌, ◌==◌, ◌+◌, ◌^◌, length, OnOk, IfOk, IsOkUnless};
+ghost use Rattle.std.specs.Prelude.{◌≡◌, ◌≤◌, ◌<◌, ◌==◌, ◌+◌, ◌++◌, ◌^◌, [], ◌∷◌, length, OnOk, IfOk, IsOkUnless};
 ghost use Rattle.sgb_vec.specs.Limits.{most_vertices};
 ghost use Rattle.sgb_graph.specs.Descriptions.{IsGraphOf};
 ghost use Rattle.sgb_graph.specs.Growth.{AddsEvents, HasPlainArcs};
@@ -92,6 +92,19 @@ impl Event {
             ..self
         }
     }
+}
+
+/// Appends an event.
+///
+/// `NoRoom` when out of memory, and nothing else.
+#[inline(always)]
+pub(crate) fn push_event(events: &mut Vec<Event>, event: Event) -> Result<(), Panic>
+    ensures ok { OnOk result (events.new.items ≡ events.old.items ++ event ∷ []) }
+    ensures memory { IsOkUnless result Panic.NoRoom }
+{
+    events.reserve(1)?;
+    events.push_reserved(event);
+    Ok(())
 }
 
 /// The graph of these names, whose arcs are those of `events`, in their order, and edges unless `directed`. The ends of

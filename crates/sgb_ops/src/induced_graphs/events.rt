@@ -11,7 +11,7 @@ ghost use Rattle.sgb_ops.specs.inner.Induced.{event_between, events_of_arc, even
 
 use super::entries::Copies;
 use super::slots::{Slot, Slots};
-use crate::events::Event;
+use crate::events::{Event, push_event};
 use crate::taken::taken;
 use sgb_graph::{Graph, Link};
 use sgb_vec::Panic;
@@ -109,13 +109,14 @@ pub(super) fn push_inner_arcs(
 }
 
 // Appends the event, unless it is a loop and none is wanted.
+#[inline(always)]
 fn push_wanted(events: &mut Vec<Event>, event: Event, flags: Flags) -> Result<(), Panic>
     ensures ok { OnOk result (events.new.items ≡ events.old.items
         ++ wanted flags.self_loops (event ∷ [])) }
     ensures memory { IsOkUnless result Panic.NoRoom }
 {
     if flags.self_loops || !event.is_loop() {
-        events.push(event)?;
+        push_event(events, event)?;
     }
     Ok(())
 }
@@ -136,17 +137,19 @@ pub(super) fn push_events_between(
         ++ wanted flags.self_loops (events_between graph.now copies.now flags.directed)) }
     ensures memory { IsOkUnless result Panic.NoRoom }
 {
+    // The arcs of each vertex take the memory of those of the vertex before.
+    let mut arcs = Vec::new(alloc);
     for v in 0..graph.n() {
         graph.read_ahead(v);
-        push_from_copies(alloc, events, graph, copies, flags, v)?;
+        push_from_copies(events, &mut arcs, graph, copies, flags, v)?;
     }
     Ok(())
 }
 
-// Appends those from the copies of vertex `v`.
+// Appends those from the copies of vertex `v`. `arcs` is what its arcs are put in.
 fn push_from_copies(
-    alloc: Global,
     events: &mut Vec<Event>,
+    arcs: &mut Vec<Link>,
     graph: &Graph,
     copies: &Copies,
     flags: Flags,
@@ -158,36 +161,39 @@ fn push_from_copies(
         ++ wanted flags.self_loops (events_of_copies graph.now copies.now flags.directed v)) }
     ensures memory { IsOkUnless result Panic.NoRoom }
 {
-    let arcs = arcs_to_copies(alloc, graph, copies, flags.directed, v)?;
+    put_arcs_to_copies(arcs, graph, copies, flags.directed, v)?;
+    let arcs = arcs.as_slice();
     for u in copies.start(v)..copies.end(v) {
-        push_from_copy(events, copies, &arcs, flags, v, u)?;
+        push_from_copy(events, copies, arcs, flags, v, u)?;
     }
     Ok(())
 }
 
-/// The arcs taken of vertex `v` that lead to vertices with copies: the others are not looked at for each copy of `v`.
-pub(super) fn arcs_to_copies(
-    alloc: Global,
+/// Puts the arcs taken of vertex `v` that lead to vertices with copies in the place of those in `arcs`: the others are not
+/// looked at for each copy of `v`.
+pub(super) fn put_arcs_to_copies(
+    arcs: &mut Vec<Link>,
     graph: &Graph,
     copies: &Copies,
     directed: bool,
     v: u32,
-) -> Result<Vec<Link>, Panic>
+) -> Result<(), Panic>
     requires count { length copies.now ≡ length graph.now.vertices }
     requires vertex { v < length graph.now.vertices }
-    ensures ok { IfOk result (λ arcs. arcs.items
+    ensures ok { OnOk result (arcs.new.items
         ≡ filter (leads_to_copies copies.now) (taken directed graph.now v)) }
-    ensures tips { IfOk result (λ arcs. All (λ l. l.tip < length copies.now) arcs.items) }
+    ensures tips { OnOk result (All (λ l. l.tip < length copies.now) arcs.new.items) }
     ensures memory { IsOkUnless result Panic.NoRoom }
 {
-    let mut arcs = Vec::new(alloc);
+    arcs.clear();
     for arc in taken(graph, directed, v) {
-        push_arc_to_copies(&mut arcs, copies, arc)?;
+        push_arc_to_copies(arcs, copies, arc)?;
     }
-    Ok(arcs)
+    Ok(())
 }
 
 // Appends the arc where it leads to a vertex with copies.
+#[inline(always)]
 fn push_arc_to_copies(arcs: &mut Vec<Link>, copies: &Copies, arc: Link) -> Result<(), Panic>
     requires { arc.tip < length copies.now }
     ensures ok { OnOk result (arcs.new.items ≡ arcs.old.items
@@ -195,7 +201,8 @@ fn push_arc_to_copies(arcs: &mut Vec<Link>, copies: &Copies, arc: Link) -> Resul
     ensures memory { IsOkUnless result Panic.NoRoom }
 {
     if copies.start(arc.tip) < copies.end(arc.tip) {
-        arcs.push(arc)?;
+        arcs.reserve(1)?;
+        arcs.push_reserved(arc);
     }
     Ok(())
 }
@@ -222,6 +229,7 @@ pub(super) fn push_from_copy(
 }
 
 // Appends those for one arc: to the copies of its tip.
+#[inline(always)]
 fn push_to_copies(
     events: &mut Vec<Event>,
     copies: &Copies,
@@ -242,6 +250,7 @@ fn push_to_copies(
 }
 
 // Appends the one to copy `t` of the tip, where `u` is joined to it.
+#[inline(always)]
 fn push_met(
     events: &mut Vec<Event>,
     arc: Link,

@@ -19,10 +19,10 @@ ghost use Rattle.sgb_ops.specs.inner.Entries.{inner_events_from, total_of};
 ghost use Rattle.sgb_ops.specs.inner.Induced.{events_of_arc, events_of_copies, wanted};
 
 use super::entries::Copies;
-use super::events::{Flags, arcs_to_copies, push_from_copy, push_inner_arcs};
+use super::events::{Flags, push_from_copy, push_inner_arcs, put_arcs_to_copies};
 use super::slots::{Slot, Slots};
 use crate::events::{Event, add_events};
-use crate::merged::merged_unless;
+use crate::merged::{are_merged, merged};
 use crate::taken::taken;
 use sgb_graph::{Graph, Link};
 use sgb_vec::Panic;
@@ -149,47 +149,43 @@ fn add_graph(
     let mut room = Vec::new(alloc);
     for w in 0..inner.n() {
         inner.read_ahead(w);
-        let part = events_inside(room, inner, start, flags, w)?;
-        room = add_part(built, alloc, part, flags)?;
+        put_events_inside(&mut room, inner, start, flags, w)?;
+        add_part(built, alloc, &room, flags)?;
     }
     Ok(())
 }
 
-// The events of the arcs of its vertex `w`. They take the memory of those in `events`.
-fn events_inside(
-    mut events: Vec<Event>,
+// Puts the events of the arcs of its vertex `w` in the place of those in `events`.
+fn put_events_inside(
+    events: &mut Vec<Event>,
     inner: &Graph,
     start: u32,
     flags: Flags,
     w: u32,
-) -> Result<Vec<Event>, Panic>
+) -> Result<(), Panic>
     requires few { start + length inner.now.vertices ≤ most_vertices }
     requires vertex { w < length inner.now.vertices }
-    ensures ok { IfOk result (λ part. part.items
+    ensures ok { OnOk result (events.new.items
         ≡ wanted flags.self_loops (inner_events_from flags.directed start inner.now w)) }
     ensures memory { IsOkUnless result Panic.NoRoom }
 {
     events.clear();
-    push_inner_arcs(&mut events, inner, start, flags, w)?;
-    Ok(events)
+    push_inner_arcs(events, inner, start, flags, w)
 }
 
-// Adds these events, merged by themselves. Their memory is handed back.
-fn add_part(
-    built: &mut Graph,
-    alloc: Global,
-    part: Vec<Event>,
-    flags: Flags,
-) -> Result<Vec<Event>, Panic>
-    requires within { AllWithin (length built.old.vertices) part.items }
+// Adds these events, merged by themselves.
+fn add_part(built: &mut Graph, alloc: Global, part: &[Event], flags: Flags) -> Result<(), Panic>
+    requires within { AllWithin (length built.old.vertices) part.now }
     requires plain { HasPlainArcs built.old }
     ensures ok { OnOk result (AddsEvents flags.directed built.old built.new
-        (merged_unless flags.multi flags.directed part.items)) }
+        (merged_unless flags.multi flags.directed part.now)) }
     ensures memory { IsOkUnless result Panic.NoRoom }
 {
-    let events = merged_unless(alloc, flags.multi, flags.directed, part)?;
-    add_events(built, flags.directed, &events)?;
-    Ok(events)
+    if are_merged(flags.multi, part) {
+        return add_events(built, flags.directed, part);
+    }
+    let events = merged(alloc, flags.directed, part)?;
+    add_events(built, flags.directed, &events)
 }
 
 /// Adds the events between copies: those of each copy are merged by themselves.
@@ -212,17 +208,36 @@ pub(super) fn add_events_between(
         (wanted flags.self_loops (events_between graph.now copies.now flags.directed)))) }
     ensures memory { IsOkUnless result Panic.NoRoom }
 {
+    let mut rooms = Rooms::new(alloc);
     for v in 0..graph.n() {
         graph.read_ahead(v);
-        add_from_copies(built, alloc, graph, copies, flags, v)?;
+        add_from_copies(built, alloc, &mut rooms, graph, copies, flags, v)?;
     }
     Ok(())
+}
+
+// What the arcs of a vertex are put in, and the events of a copy of it: those of each take the memory of those before.
+#[derive(Drop)]
+struct Rooms {
+    arcs: Vec<Link>,
+    events: Vec<Event>,
+}
+
+impl Rooms {
+    // Such room, which takes no memory yet.
+    fn new(alloc: Global) -> Rooms {
+        Rooms {
+            arcs: Vec::new(alloc),
+            events: Vec::new(alloc),
+        }
+    }
 }
 
 // Adds those from the copies of vertex `v`.
 fn add_from_copies(
     built: &mut Graph,
     alloc: Global,
+    rooms: &mut Rooms,
     graph: &Graph,
     copies: &Copies,
     flags: Flags,
@@ -239,31 +254,29 @@ fn add_from_copies(
         (wanted flags.self_loops (events_of_copies graph.now copies.now flags.directed v)))) }
     ensures memory { IsOkUnless result Panic.NoRoom }
 {
-    let arcs = arcs_to_copies(alloc, graph, copies, flags.directed, v)?;
-    // The events of each copy take the memory of those of the copy before.
-    let mut room = Vec::new(alloc);
+    put_arcs_to_copies(&mut rooms.arcs, graph, copies, flags.directed, v)?;
+    let arcs = rooms.arcs.as_slice();
     for u in copies.start(v)..copies.end(v) {
-        let part = events_from_copy(room, copies, &arcs, flags, v, u)?;
-        room = add_part(built, alloc, part, flags)?;
+        put_events_from_copy(&mut rooms.events, copies, arcs, flags, v, u)?;
+        add_part(built, alloc, &rooms.events, flags)?;
     }
     Ok(())
 }
 
-// The events from copy `u` of vertex `v` for these arcs from `v`. They take the memory of those in `events`.
-fn events_from_copy(
-    mut events: Vec<Event>,
+// Puts the events from copy `u` of vertex `v` for these arcs from `v` in the place of those in `events`.
+fn put_events_from_copy(
+    events: &mut Vec<Event>,
     copies: &Copies,
     arcs: &[Link],
     flags: Flags,
     v: u32,
     u: u32,
-) -> Result<Vec<Event>, Panic>
+) -> Result<(), Panic>
     requires { All (λ l. l.tip < length copies.now) arcs.now }
-    ensures ok { IfOk result (λ part. part.items ≡ wanted flags.self_loops
+    ensures ok { OnOk result (events.new.items ≡ wanted flags.self_loops
         (flat_map (events_of_arc copies.now flags.directed v u) arcs.now)) }
     ensures memory { IsOkUnless result Panic.NoRoom }
 {
     events.clear();
-    push_from_copy(&mut events, copies, arcs, flags, v, u)?;
-    Ok(events)
+    push_from_copy(events, copies, arcs, flags, v, u)
 }

@@ -1,4 +1,4 @@
-use Rattle.std.proofs.Common.{rules, ap, subst, refl, arith, flat_map}
+use Rattle.std.proofs.Common.{rules, ◌∙◌, ap, subst, refl, arith, flat_map}
 use Rattle.sgb_graph.specs.Growth.{AddsEvents}
 use Rattle.sgb_ops.specs.Merged.{merged_unless}
 use Rattle.sgb_graph.specs.Vertices.{order_of}
@@ -15,7 +15,7 @@ loop-w-preserved c =
     let multi = c.args.flags.multi in
     let d = c.args.flags.directed in
     let g = c.args.inner.now in
-    let added = subst (AddsEvents d c.loop-w.built c.add_part.new.built) (ap (merged_unless multi d) c.in_ok-part.ensures.ok) c.in_ok-room.ensures.ok in
+    let added = subst (AddsEvents d c.loop-w.built c.add_part.new.built) (ap (merged_unless multi d) (c.deref.ensures.value ∙ c.in_ok-put_events_inside.ensures.ok)) c.in_ok-add_part.ensures.ok in
     place_added d c.args.built.now c.loop-w.built (flat_map (graph_part c.args.flags.self_loops multi d c.args.start g)) (order_of g) c.loop-w.w c.add_part.new.built _ (omega arith) c.loop-w.invariant added refl
 
 pub returns-clause-ok : goal.returns-clause-ok

@@ -2,7 +2,7 @@ use Rattle.std.proofs.Common.{◌≡◌, ◌++◌, filter, length, All}
 use Rattle.sgb_ops.specs.inner.Copies.{leads_to_copies}
 use Rattle.sgb_ops.specs.Taken.{taken}
 use Rattle.sgb_ops.proofs.EventsWithin.{TipBelow}
-use Rattle.sgb_ops.proofs.induced_graphs.events.arcs_to_copies.Given as goal
+use Rattle.sgb_ops.proofs.induced_graphs.events.put_arcs_to_copies.Given as goal
 
 -- with those of the arcs that are left, they are all
 abbrev pub invariant-loop-arc : goal.invariant-loop-arc

@@ -4,7 +4,7 @@ use Rattle.sgb_ops.specs.Taken.{taken}
 use Rattle.sgb_ops.proofs.EventsWithin.{TipBelow}
 use Rattle.sgb_ops.proofs.PlainLists.{part_more, parts_all}
 use Rattle.sgb_vec.proofs.Lists.{steps_to}
-use Rattle.sgb_ops.proofs.induced_graphs.events.arcs_to_copies.Goals as goal
+use Rattle.sgb_ops.proofs.induced_graphs.events.put_arcs_to_copies.Goals as goal
 
 pub loop-arc-init : goal.loop-arc-init
 loop-arc-init c = search (rules, leads_to_copies, All, TipBelow, taken)

@@ -2,7 +2,7 @@ use Rattle.sgb_vec.proofs.Common.{◌≡◌, ◌≢◌, ◌∙◌, ◌+◌, ◌/
 use Rattle.std.proofs.lemmas.Nat.Bits.{shr_and_one}
 use Rattle.sgb_ops.specs.inner.Ends.{bit_place}
 use Rattle.sgb_ops.proofs.Apart.{so_far_more}
-use Rattle.sgb_ops.proofs.merged.are_apart.Goals as goal
+use Rattle.sgb_ops.proofs.merged.have_own_bits.Goals as goal
 
 pub loop-event-preserved : goal.loop-event-preserved
 loop-event-preserved c =
