@@ -19,6 +19,8 @@ pub mod EntryTotals
 pub mod EventsWithin
 -- the wanted events of an induced graph, part by part
 pub mod WantedEvents
+-- what is told of arcs by their tips and lengths alone
+pub mod ReadArcs
 -- the names and the events of copies fit
 pub mod CopiesWithin
 -- the events of a list by its tips and lengths

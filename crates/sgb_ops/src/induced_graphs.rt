@@ -23,12 +23,15 @@ mod entries;
 mod events;
 // These events, merged and added part by part.
 mod parts;
+// What the arcs of a vertex are read with.
+mod rooms;
 // The entries as they are read.
 mod slots;
 
 use crate::compounds::flag_byte;
 use crate::events::{Event, add_events};
 use crate::merged::merged_unless;
+use crate::sources::Source;
 use copied_names::names_by_entries;
 pub use entries::Entry;
 use entries::{Copies, accept_entries};
@@ -74,10 +77,11 @@ pub fn induced(
         multi,
         directed,
     };
+    let source = Source::built(graph);
     let slots = Slots::lent(entries);
-    let merged = accept_entries(graph.n(), &slots)?;
-    let begun = begun_by(alloc, graph, &slots, merged, flags)?;
-    finished(alloc, graph, begun, flags)
+    let merged = accept_entries(source.n(), &slots)?;
+    let begun = begun_by(alloc, &source, &slots, merged, flags)?;
+    finished(alloc, &source, begun, flags)
 }
 
 /// The graph that `induced` gives, of small entries that are given up: the graphs that they put in are dropped as soon as
@@ -85,6 +89,32 @@ pub fn induced(
 pub fn induced_from(
     alloc: Global,
     graph: &Graph,
+    entries: Vec<KeptEntry>,
+    self_loops: bool,
+    multi: bool,
+    directed: bool,
+) -> Result<Graph, Panic>
+    ensures answer { IsAnswerOf (induced_of graph.now entries.items self_loops multi directed)
+        result }
+    ensures refused { (e : Panic)
+        → accepted_entries (order_of graph.now) entries.items ≡ Err e → result ≡ Err e }
+{
+    induced_of(
+        alloc,
+        &Source::built(graph),
+        entries,
+        self_loops,
+        multi,
+        directed,
+    )
+}
+
+/// The same of a graph that need not be built.
+///
+/// It has the errors of `induced`.
+pub fn induced_of(
+    alloc: Global,
+    graph: &Source<'_>,
     entries: Vec<KeptEntry>,
     self_loops: bool,
     multi: bool,
@@ -121,7 +151,7 @@ struct Begun {
 // themselves are needed.
 fn begun_by(
     alloc: Global,
-    graph: &Graph,
+    graph: &Source<'_>,
     entries: &Slots<'_>,
     merged: u32,
     flags: Flags,
@@ -138,7 +168,7 @@ fn begun_by(
     let copies = Copies::new(alloc, graph.n(), entries, merged)?;
     let names = names_by_entries(alloc, graph, entries, merged)?;
     let built = Graph::new(alloc, names)?;
-    if are_in_parts(graph, entries, merged, flags.directed) {
+    if are_in_parts(alloc, graph, entries, merged, flags.directed)? {
         return begun_in_parts(alloc, graph.n(), entries, copies, built, flags);
     }
     let kept = events_within(alloc, graph.n(), entries, &copies, flags)?;
@@ -182,7 +212,7 @@ fn begun_in_parts(
 }
 
 // The graph under way with the events that are still to come, and with its id.
-fn finished(alloc: Global, graph: &Graph, begun: Begun, flags: Flags) -> Result<Graph, Panic>
+fn finished(alloc: Global, graph: &Source<'_>, begun: Begun, flags: Flags) -> Result<Graph, Panic>
     requires count { length begun.copies ≡ length graph.now.vertices }
     requires numbered { list_any is_unnumbered begun.copies ≡ false }
     requires parts { begun.in_parts ≡ true → merged_count begun.copies ≡ 0 }
@@ -209,7 +239,7 @@ fn finished(alloc: Global, graph: &Graph, begun: Begun, flags: Flags) -> Result<
 fn add_later(
     built: &mut Graph,
     alloc: Global,
-    graph: &Graph,
+    graph: &Source<'_>,
     copies: &Copies,
     in_parts: bool,
     kept: Vec<Event>,
@@ -236,7 +266,7 @@ fn add_later(
 fn add_merged(
     built: &mut Graph,
     alloc: Global,
-    graph: &Graph,
+    graph: &Source<'_>,
     copies: &Copies,
     kept: Vec<Event>,
     flags: Flags,

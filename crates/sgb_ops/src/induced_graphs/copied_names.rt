@@ -6,13 +6,15 @@ ghost use Rattle.sgb_ops.specs.Entries.{merged_count, names_by_entries, names_of
 ghost use Rattle.sgb_graph.specs.Vertices.{names_of};
 ghost use Rattle.sgb_ops.specs.inner.Compounds.{merged_name, numbered_name};
 ghost use Rattle.sgb_ops.specs.inner.Entries.{own_names};
+ghost use Rattle.sgb_ops.specs.inner.Sources.{names_held};
 // For the search alone.
 ghost use Rattle.std.specs.Prelude.{◌<◌};
 
 use super::slots::{Slot, Slots};
 use crate::compounds::{ended_name, joined_name};
 use crate::operands::{VertexNames, push_joined_names, push_name};
-use sgb_graph::{Graph, Names};
+use crate::sources::Source;
+use sgb_graph::Names;
 use sgb_vec::{Panic, Text, name_of};
 use std::alloc::Global;
 
@@ -30,7 +32,7 @@ const MOST_NUMBER: usize = 10;
 /// `NoRoom` when out of memory, and nothing else.
 pub(super) fn names_by_entries(
     alloc: Global,
-    graph: &Graph,
+    graph: &Source<'_>,
     entries: &Slots<'_>,
     merged: u32,
 ) -> Result<Names, Panic>
@@ -41,7 +43,8 @@ pub(super) fn names_by_entries(
 {
     let mut names = Names::new(alloc);
     push_merged(alloc, &mut names, merged)?;
-    push_own(alloc, &mut names, graph, entries)?;
+    let held = graph.vertex_names(alloc)?;
+    push_own(alloc, &mut names, graph.n(), &held, entries)?;
     Ok(names)
 }
 
@@ -66,13 +69,21 @@ fn merged_name(alloc: Global, k: u32) -> Result<Text, Panic>
 }
 
 // Appends the names of the vertices that are not merged.
-fn push_own(alloc: Global, names: &mut Names, graph: &Graph, entries: &Slots<'_>) -> Result<(), Panic>
-    requires { length entries.now ≡ length graph.now.vertices }
-    ensures ok { OnOk result (names.new ≡ names.old ++ own_names (names_of graph.now) entries.now) }
+fn push_own(
+    alloc: Global,
+    names: &mut Names,
+    n: u32,
+    held: &VertexNames<'_>,
+    entries: &Slots<'_>,
+) -> Result<(), Panic>
+    requires count { length entries.now ≡ n }
+    requires held { length (names_held held.now) ≡ n }
+    ensures ok { OnOk result (names.new
+        ≡ names.old ++ own_names (names_held held.now) entries.now) }
     ensures memory { IsOkUnless result Panic.NoRoom }
 {
-    for v in 0..graph.n() {
-        push_copies(alloc, names, graph.name(v), &entries.at(v))?;
+    for v in 0..n {
+        push_copies(alloc, names, held.get(v), &entries.at(v))?;
     }
     Ok(())
 }

@@ -10,8 +10,10 @@ ghost use Rattle.sgb_ops.specs.inner.Entries.{inner_events_from, total_of};
 ghost use Rattle.sgb_ops.specs.inner.Induced.{event_between, events_of_arc, events_of_copies, is_met, wanted};
 
 use super::entries::Copies;
+use super::rooms::Rooms;
 use super::slots::{Slot, Slots};
 use crate::events::{Event, push_event};
+use crate::sources::Source;
 use crate::taken::taken;
 use sgb_graph::{Graph, Link};
 use sgb_vec::Panic;
@@ -128,7 +130,7 @@ fn push_wanted(events: &mut Vec<Event>, event: Event, flags: Flags) -> Result<()
 pub(super) fn push_events_between(
     alloc: Global,
     events: &mut Vec<Event>,
-    graph: &Graph,
+    graph: &Source<'_>,
     copies: &Copies,
     flags: Flags,
 ) -> Result<(), Panic>
@@ -137,20 +139,19 @@ pub(super) fn push_events_between(
         ++ wanted flags.self_loops (events_between graph.now copies.now flags.directed)) }
     ensures memory { IsOkUnless result Panic.NoRoom }
 {
-    // The arcs of each vertex take the memory of those of the vertex before.
-    let mut arcs = Vec::new(alloc);
+    let mut rooms = Rooms::new(alloc);
     for v in 0..graph.n() {
         graph.read_ahead(v);
-        push_from_copies(events, &mut arcs, graph, copies, flags, v)?;
+        push_from_copies(events, &mut rooms, graph, copies, flags, v)?;
     }
     Ok(())
 }
 
-// Appends those from the copies of vertex `v`. `arcs` is what its arcs are put in.
+// Appends those from the copies of vertex `v`.
 fn push_from_copies(
     events: &mut Vec<Event>,
-    arcs: &mut Vec<Link>,
-    graph: &Graph,
+    rooms: &mut Rooms,
+    graph: &Source<'_>,
     copies: &Copies,
     flags: Flags,
     v: u32,
@@ -161,48 +162,10 @@ fn push_from_copies(
         ++ wanted flags.self_loops (events_of_copies graph.now copies.now flags.directed v)) }
     ensures memory { IsOkUnless result Panic.NoRoom }
 {
-    put_arcs_to_copies(arcs, graph, copies, flags.directed, v)?;
-    let arcs = arcs.as_slice();
+    rooms.take_arcs(graph, copies, flags.directed, v)?;
+    let arcs = rooms.arcs.as_slice();
     for u in copies.start(v)..copies.end(v) {
         push_from_copy(events, copies, arcs, flags, v, u)?;
-    }
-    Ok(())
-}
-
-/// Puts the arcs taken of vertex `v` that lead to vertices with copies in the place of those in `arcs`: the others are not
-/// looked at for each copy of `v`.
-pub(super) fn put_arcs_to_copies(
-    arcs: &mut Vec<Link>,
-    graph: &Graph,
-    copies: &Copies,
-    directed: bool,
-    v: u32,
-) -> Result<(), Panic>
-    requires count { length copies.now ≡ length graph.now.vertices }
-    requires vertex { v < length graph.now.vertices }
-    ensures ok { OnOk result (arcs.new.items
-        ≡ filter (leads_to_copies copies.now) (taken directed graph.now v)) }
-    ensures tips { OnOk result (All (λ l. l.tip < length copies.now) arcs.new.items) }
-    ensures memory { IsOkUnless result Panic.NoRoom }
-{
-    arcs.clear();
-    for arc in taken(graph, directed, v) {
-        push_arc_to_copies(arcs, copies, arc)?;
-    }
-    Ok(())
-}
-
-// Appends the arc where it leads to a vertex with copies.
-#[inline(always)]
-fn push_arc_to_copies(arcs: &mut Vec<Link>, copies: &Copies, arc: Link) -> Result<(), Panic>
-    requires { arc.tip < length copies.now }
-    ensures ok { OnOk result (arcs.new.items ≡ arcs.old.items
-        ++ (if leads_to_copies copies.now arc then arc ∷ [] else [])) }
-    ensures memory { IsOkUnless result Panic.NoRoom }
-{
-    if copies.start(arc.tip) < copies.end(arc.tip) {
-        arcs.reserve(1)?;
-        arcs.push_reserved(arc);
     }
     Ok(())
 }

@@ -2,7 +2,7 @@
 //!
 //! So no list of all events is made. It is possible where no vertices are merged and no vertex with a graph in its
 //! place has a loop; else all are merged at once (`induced_graphs`).
-ghost use Rattle.std.specs.Prelude.{◌≡◌, ◌<◌, ◌≤◌, ◌+◌, ◌==◌, false, length, map, flat_map, All, OnOk, IfOk, IsOkUnless};
+ghost use Rattle.std.specs.Prelude.{◌≡◌, ◌<◌, ◌≤◌, ◌+◌, false, length, map, flat_map, All, OnOk, IfOk, IsOkUnless};
 ghost use Rattle.std.specs.Bool.{OnTrue};
 ghost use Rattle.std.specs.List.{list_any};
 ghost use Rattle.sgb_vec.specs.Limits.{most_vertices};
@@ -11,7 +11,6 @@ ghost use Rattle.sgb_ops.specs.declared.induced_graphs.entries.Entry.TheVariants
 ghost use Rattle.sgb_ops.specs.Entries.{events_within, inner_events, is_unnumbered, merged_count, size_of_entry};
 ghost use Rattle.sgb_ops.specs.Induced.{events_between};
 ghost use Rattle.sgb_ops.specs.Merged.{merged_unless};
-ghost use Rattle.sgb_ops.specs.Taken.{taken};
 ghost use Rattle.sgb_ops.specs.inner.Copies.{IsKeptEntry, sized};
 ghost use Rattle.sgb_ops.specs.inner.Ends.{AllWithin};
 ghost use Rattle.sgb_ops.specs.inner.Parts.{AreInParts, has_loop_inside, has_loops_inside};
@@ -19,60 +18,76 @@ ghost use Rattle.sgb_ops.specs.inner.Entries.{inner_events_from, total_of};
 ghost use Rattle.sgb_ops.specs.inner.Induced.{events_of_arc, events_of_copies, wanted};
 
 use super::entries::Copies;
-use super::events::{Flags, push_from_copy, push_inner_arcs, put_arcs_to_copies};
+use super::events::{Flags, push_from_copy, push_inner_arcs};
+use super::rooms::Rooms;
 use super::slots::{Slot, Slots};
 use crate::events::{Event, add_events};
 use crate::merged::{are_merged, merged};
-use crate::taken::taken;
+use crate::sources::Source;
 use sgb_graph::{Graph, Link};
 use sgb_vec::Panic;
 use std::alloc::Global;
 
 /// Whether none of the entries, which make so many merged vertices, merges any, and no vertex with a graph in its place has a loop. Then events from different copies
 /// never have the same ends, nor has one inside a graph the ends of one between copies.
-pub(super) fn are_in_parts(graph: &Graph, entries: &Slots<'_>, merged: u32, directed: bool) -> bool
+///
+/// `NoRoom` when out of memory, and nothing else.
+pub(super) fn are_in_parts(
+    alloc: Global,
+    graph: &Source<'_>,
+    entries: &Slots<'_>,
+    merged: u32,
+    directed: bool,
+) -> Result<bool, Panic>
     requires count { length entries.now ≡ length graph.now.vertices }
     requires merged { merged ≡ merged_count entries.now }
-    ensures { OnTrue result (AreInParts graph.now entries.now directed) }
+    ensures ok { IfOk result (λ are. OnTrue are (AreInParts graph.now entries.now directed)) }
+    ensures memory { IsOkUnless result Panic.NoRoom }
 {
-    merged == 0 && !has_loops_inside(graph, entries, directed)
+    if merged > 0 {
+        return Ok(false);
+    }
+    let mut rooms = Rooms::new(alloc);
+    let has = has_loops_inside(&mut rooms, graph, entries, directed)?;
+    Ok(!has)
 }
 
 // Whether a vertex with a graph in its place has a loop.
-fn has_loops_inside(graph: &Graph, entries: &Slots<'_>, directed: bool) -> bool
+fn has_loops_inside(
+    rooms: &mut Rooms,
+    graph: &Source<'_>,
+    entries: &Slots<'_>,
+    directed: bool,
+) -> Result<bool, Panic>
     requires { length entries.now ≡ length graph.now.vertices }
-    ensures { result ≡ has_loops_inside graph.now entries.now directed }
+    ensures ok { IfOk result (λ has. has ≡ has_loops_inside graph.now entries.now directed) }
+    ensures memory { IsOkUnless result Panic.NoRoom }
 {
     for v in 0..graph.n() {
-        if has_loop_inside(graph, &entries.at(v), directed, v) {
-            return true;
+        let has = has_loop_inside(rooms, graph, &entries.at(v), directed, v)?;
+        if has {
+            return Ok(true);
         }
     }
-    false
+    Ok(false)
 }
 
 // Whether vertex `v` has a graph in its place, by this entry, and a loop.
-fn has_loop_inside(graph: &Graph, entry: &Slot<'_>, directed: bool, v: u32) -> bool
+fn has_loop_inside(
+    rooms: &mut Rooms,
+    graph: &Source<'_>,
+    entry: &Slot<'_>,
+    directed: bool,
+    v: u32,
+) -> Result<bool, Panic>
     requires { v < length graph.now.vertices }
-    ensures { result ≡ has_loop_inside graph.now directed v entry.now }
+    ensures ok { IfOk result (λ has. has ≡ has_loop_inside graph.now directed v entry.now) }
+    ensures memory { IsOkUnless result Panic.NoRoom }
 {
     match entry.graph() {
-        Some(_) => has_loop(graph, directed, v),
-        None => false,
+        Some(_) => rooms.have_loop(graph, directed, v),
+        None => Ok(false),
     }
-}
-
-// Whether an arc taken of vertex `v` is a loop.
-fn has_loop(graph: &Graph, directed: bool, v: u32) -> bool
-    requires { v < length graph.now.vertices }
-    ensures { result ≡ list_any (λ l. l.tip == v) (taken directed graph.now v) }
-{
-    for arc in taken(graph, directed, v) {
-        if arc.tip == v {
-            return true;
-        }
-    }
-    false
 }
 
 /// Adds the events inside the `n` entries, of which these are the copies: those of each vertex of a graph that is put in are
@@ -194,7 +209,7 @@ fn add_part(built: &mut Graph, alloc: Global, part: &[Event], flags: Flags) -> R
 pub(super) fn add_events_between(
     built: &mut Graph,
     alloc: Global,
-    graph: &Graph,
+    graph: &Source<'_>,
     copies: &Copies,
     flags: Flags,
 ) -> Result<(), Panic>
@@ -216,29 +231,12 @@ pub(super) fn add_events_between(
     Ok(())
 }
 
-// What the arcs of a vertex are put in, and the events of a copy of it: those of each take the memory of those before.
-#[derive(Drop)]
-struct Rooms {
-    arcs: Vec<Link>,
-    events: Vec<Event>,
-}
-
-impl Rooms {
-    // Such room, which takes no memory yet.
-    fn new(alloc: Global) -> Rooms {
-        Rooms {
-            arcs: Vec::new(alloc),
-            events: Vec::new(alloc),
-        }
-    }
-}
-
 // Adds those from the copies of vertex `v`.
 fn add_from_copies(
     built: &mut Graph,
     alloc: Global,
     rooms: &mut Rooms,
-    graph: &Graph,
+    graph: &Source<'_>,
     copies: &Copies,
     flags: Flags,
     v: u32,
@@ -254,7 +252,7 @@ fn add_from_copies(
         (wanted flags.self_loops (events_of_copies graph.now copies.now flags.directed v)))) }
     ensures memory { IsOkUnless result Panic.NoRoom }
 {
-    put_arcs_to_copies(&mut rooms.arcs, graph, copies, flags.directed, v)?;
+    rooms.take_arcs(graph, copies, flags.directed, v)?;
     let arcs = rooms.arcs.as_slice();
     for u in copies.start(v)..copies.end(v) {
         put_events_from_copy(&mut rooms.events, copies, arcs, flags, v, u)?;

@@ -20,10 +20,8 @@ loop-u-preserved c =
     let last = copies_end copies v in
     let events = events_of_copy g copies d v in
     let before = c.loop-u.events.items in
-    let arcs = c.as_slice-arcs.ensures.value ∙ c.in_ok-put_arcs_to_copies.ensures.ok in
+    let arcs = c.as_slice-arcs.ensures.value in
     wanted_more self before c.push_from_copy.new.events.items (events u) (events_until events last (u + 1)) (events_until events last u)
     (c.args.events.now.items ++ wanted self (events_of_copies g copies d v))
     (until_more events last u (omega (arith, c.end-u-end.ensures.value))) c.loop-u.invariant
-    (c.in_ok-push_from_copy.ensures.ok
-    ∙ (ap (λ ls. before ++ wanted self (flat_map (events_of_arc copies d v u) ls)) arcs
-    ∙ ap (λ es. before ++ wanted self es) (arcs_to_copies copies d v u (taken d g v))))
+    (c.in_ok-push_from_copy.ensures.ok ∙ ap (λ es. before ++ wanted self es) (ap (flat_map (events_of_arc copies d v u)) arcs ∙ c.in_ok-take_arcs.ensures.ok u))

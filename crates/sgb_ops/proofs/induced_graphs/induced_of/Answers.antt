@@ -5,7 +5,7 @@ use Rattle.sgb_ops.specs.inner.Begun.{IsBegun}
 use Rattle.sgb_ops.specs.inner.Copies.{IsKeptEntry}
 use Rattle.sgb_ops.proofs.BegunGraphs.{begun_count, begun_numbered, begun_own, begun_size, begun_within, finished_answer}
 use Rattle.sgb_ops.proofs.Refusals.{not_refused, same_refusal}
-use Rattle.sgb_ops.proofs.induced_graphs.induced_from.Goals as goal
+use Rattle.sgb_ops.proofs.induced_graphs.induced_of.Goals as goal
 
 pub finished-requires : goal.finished-requires
 finished-requires c = search (rules, list_any, is_unnumbered, IsBegun, begun_count, begun_numbered, begun_own, begun_size, begun_within, IsKeptEntry)
