@@ -37,10 +37,10 @@ pub use entries::Entry;
 use entries::{Copies, accept_entries};
 use events::{Flags, events_within, push_events_between};
 use parts::{add_events_between, add_events_within, are_in_parts};
-pub use slots::KeptEntry;
-use slots::Slots;
 use sgb_graph::{Graph, Id, compound_id};
 use sgb_vec::Panic;
+pub use slots::KeptEntry;
+use slots::Slots;
 use std::alloc::Global;
 
 /// An induced graph (GB_BASIC, induced): by the entries, one for each vertex of `graph`, each vertex is dropped, kept,

@@ -20,11 +20,12 @@ use crate::stdin::read_kept;
 pub use entries::numbered_entry;
 use entries::{kept_graph, kept_number};
 use list_operations::{
-    OnList, OnLists, Operand, answer_of, answer_of_one, generated, lines_of_operand,
+    OnList, OnLists, Operand, answer_of, answer_of_one, generated, induced_of_operand,
+    lines_of_operand,
 };
 use sgb_expr::{EntryExpr, Expr, have_stdin};
 use sgb_graph::Graph;
-use sgb_ops::{KeptEntry, bi_complete, induced_from, wheel};
+use sgb_ops::{KeptEntry, bi_complete, wheel};
 use sgb_vec::Panic;
 use std::alloc::Global;
 
@@ -149,9 +150,9 @@ fn evaluate(
             directed,
         } => {
             let entries = entries.as_slice();
-            let operand = evaluate(alloc, graph, input, more_in(more, entries))?;
+            let operand = operand(alloc, graph, input, more_in(more, entries))?;
             let values = values_of(alloc, entries, input, more)?;
-            induced_from(alloc, &operand, values, *self_loops, *multi, *directed)
+            induced_of_operand(alloc, operand, values, *self_loops, *multi, *directed)
         }
         Expr::BiComplete { n1, n2, directed } => bi_complete(alloc, *n1, *n2, *directed),
         Expr::Wheel { n, n1, directed } => wheel(alloc, *n, *n1, *directed),

@@ -47,12 +47,7 @@ pub(super) fn events_within(
 {
     let mut events = Vec::new(alloc);
     for v in 0..n {
-        push_inner_events(
-            &mut events,
-            &entries.at(v),
-            copies.own_start(v),
-            flags,
-        )?;
+        push_inner_events(&mut events, &entries.at(v), copies.own_start(v), flags)?;
     }
     Ok(events)
 }

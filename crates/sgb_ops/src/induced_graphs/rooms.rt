@@ -48,7 +48,13 @@ impl Rooms {
             ≡ list_any (λ l. l.tip == v) (taken directed graph.now v)) }
         ensures memory { IsOkUnless result Panic.NoRoom }
     {
-        graph.take_arcs(&mut self.all, directed, v, &mut self.events, &mut self.lists)?;
+        graph.take_arcs(
+            &mut self.all,
+            directed,
+            v,
+            &mut self.events,
+            &mut self.lists,
+        )?;
         Ok(lead_to(&self.all, v))
     }
 
@@ -71,7 +77,13 @@ impl Rooms {
         ensures tips { OnOk result (All (λ l. l.tip < length copies.now) self.new.arcs.items) }
         ensures memory { IsOkUnless result Panic.NoRoom }
     {
-        graph.take_arcs(&mut self.all, directed, v, &mut self.events, &mut self.lists)?;
+        graph.take_arcs(
+            &mut self.all,
+            directed,
+            v,
+            &mut self.events,
+            &mut self.lists,
+        )?;
         self.arcs.clear();
         push_arcs_to_copies(&mut self.arcs, copies, &self.all)
     }
@@ -90,11 +102,7 @@ fn lead_to(arcs: &[Link], v: u32) -> bool
 }
 
 // Appends those of the arcs that lead to vertices with copies.
-fn push_arcs_to_copies(
-    arcs: &mut Vec<Link>,
-    copies: &Copies,
-    all: &[Link],
-) -> Result<(), Panic>
+fn push_arcs_to_copies(arcs: &mut Vec<Link>, copies: &Copies, all: &[Link]) -> Result<(), Panic>
     requires { All (λ l. l.tip < length copies.now) all.now }
     ensures ok { OnOk result (arcs.new.items
         ≡ arcs.old.items ++ filter (leads_to_copies copies.now) all.now) }

@@ -8,13 +8,15 @@ ghost use Rattle.sgb_gen.specs.Boards.{board_vector_graph};
 ghost use Rattle.sgb_gen.specs.Generators.{IsGeneratorRefused, described, generator_value, made};
 ghost use Rattle.sgb_gen.specs.VectorGraphs.{described_by};
 ghost use Rattle.sgb_expr.specs.Expression.{Lines};
+ghost use Rattle.sgb_ops.specs.Induced.{induced_of};
 ghost use Rattle.sgb_values.specs.Values.{of_graph, of_graphs};
 ghost use Rattle.sgb_values.specs.inner.Operands.{graph_held, on_list, on_lists};
 
 use sgb_gen::{FlatLists, Generator, Local, LocalLists, local_of};
 use sgb_graph::Graph;
 use sgb_ops::{
-    Source, complement_of, directed_lines_of, gunion_of, intersection_of, lines, product_of,
+    KeptEntry, Source, complement_of, directed_lines_of, gunion_of, induced_of, intersection_of,
+    lines, product_of,
 };
 use sgb_vec::Panic;
 use std::alloc::Global;
@@ -196,6 +198,34 @@ pub(crate) fn lines_of_operand(
     }
     let graph = operand.graph(alloc)?;
     lines(alloc, &graph, false)
+}
+
+/// The graph that entries induce of an operand, which are both dropped then: with loops, parallel arcs and arcs, or without them.
+///
+/// The refusal of the operation, or `NoRoom` when out of memory. It stands by itself, as `answer_of` does.
+#[inline(never)]
+pub(crate) fn induced_of_operand(
+    alloc: Global,
+    operand: Operand,
+    entries: Vec<KeptEntry>,
+    self_loops: bool,
+    multi: bool,
+    directed: bool,
+) -> Result<Graph, Panic>
+    ensures { IsAnswerOf (induced_of (graph_held operand) entries.items self_loops multi directed)
+        result }
+{
+    if let Some(lists) = operand.flat_lists(alloc) {
+        let source = Source::flat(&lists);
+        return induced_of(alloc, &source, entries, self_loops, multi, directed);
+    }
+    if let Some(lists) = operand.lists(alloc) {
+        let source = Source::listed(&lists);
+        return induced_of(alloc, &source, entries, self_loops, multi, directed);
+    }
+    let graph = operand.graph(alloc)?;
+    let source = Source::built(&graph);
+    induced_of(alloc, &source, entries, self_loops, multi, directed)
 }
 
 /// The answer of an operation on two operands, which are then dropped.

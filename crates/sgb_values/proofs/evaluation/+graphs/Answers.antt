@@ -182,16 +182,16 @@ evaluate-returns-in_err-values-in-Induced-clause-value t c = λ stdin gives.
     let a = c.in-Induced in
     let p = err_from_is_err_and c.from_residual-in_err-values-in-Induced.result c.from_residual-in_err-values-in-Induced.ensures.1 in
     let same = values_on _ _ _ _ _ stdin (entries_of (listed c.as_slice-entries.result.now)) c.more_in.ensures c.in_ok-operand-in-Induced.ensures.left in
-    rw (p.1, p.2) (induced_value (stdin c.args.input.now) c.args.expression.now _ _ _ _ (Err c.in_err-values-in-Induced.field-0.0) a.graph a.entries a.self_loops a.multi a.directed a.is c.deref-in-Induced.ensures c.as_slice-entries.ensures (c.in_ok-operand-in-Induced.ensures.value stdin gives)
+    rw (p.1, p.2) (induced_value (stdin c.args.input.now) c.args.expression.now _ _ _ _ (Err c.in_err-values-in-Induced.field-0.0) a.graph a.entries a.self_loops a.multi a.directed a.is c.deref-in-Induced.ensures c.as_slice-entries.ensures (c.in_ok-operand-in-Induced.ensures.ok stdin gives)
     same (then_refused _ _ c.in_err-values-in-Induced.field-0.0 (c.in_err-values-in-Induced.ensures.refused stdin gives)))
 
 pub evaluate-returns-in_ok-values-in-Induced-clause-value : goal.evaluate-returns-in_ok-values-in-Induced-clause-value
 evaluate-returns-in_ok-values-in-Induced-clause-value t c = λ stdin gives.
     let a = c.in-Induced in
-    let operand = c.in_ok-operand-in-Induced.operand in
+    let operand = graph_held c.in_ok-operand-in-Induced.operand in
     let same = values_on _ _ _ _ _ stdin (entries_of (listed c.as_slice-entries.result.now)) c.more_in.ensures c.in_ok-operand-in-Induced.ensures.left in
-    let answer : IsAnswerOf (induced_of operand c.in_ok-values-in-Induced.values.items a.self_loops a.multi a.directed) c.induced_from.result = c.induced_from.ensures.answer in
-    induced_value (stdin c.args.input.now) c.args.expression.now _ _ _ (Ok c.in_ok-values-in-Induced.values.items) c.induced_from.result a.graph a.entries a.self_loops a.multi a.directed a.is c.deref-in-Induced.ensures c.as_slice-entries.ensures (c.in_ok-operand-in-Induced.ensures.value stdin gives)
+    let answer : IsAnswerOf (induced_of operand c.in_ok-values-in-Induced.values.items a.self_loops a.multi a.directed) c.induced_of_operand.result = c.induced_of_operand.ensures in
+    induced_value (stdin c.args.input.now) c.args.expression.now _ _ _ (Ok c.in_ok-values-in-Induced.values.items) c.induced_of_operand.result a.graph a.entries a.self_loops a.multi a.directed a.is c.deref-in-Induced.ensures c.as_slice-entries.ensures (c.in_ok-operand-in-Induced.ensures.ok stdin gives)
     (sym (c.in_ok-values-in-Induced.ensures.ok stdin gives) ∙ same)
     (value_made _ _ answer)
 
@@ -200,7 +200,7 @@ evaluate-returns-in_ok-values-in-Induced-clause-left t c =
     let a = c.in-Induced in
     let left = left_on c.args.more _ _ _ _ (entries_have_stdin (entries_of (listed c.as_slice-entries.result.now))) _ c.more_in.ensures c.in_ok-operand-in-Induced.ensures.left c.in_ok-values-in-Induced.ensures.left in
     let all = induced_reads c.args.expression.now _ _ a.graph a.entries a.self_loops a.multi a.directed a.is c.deref-in-Induced.ensures c.as_slice-entries.ensures in
-    if_ok c.induced_from.result _ (left ∙ ap (λ reads. left_after c.args.more reads c.args.input.now) (sym all))
+    if_ok c.induced_of_operand.result _ (left ∙ ap (λ reads. left_after c.args.more reads c.args.input.now) (sym all))
 
 pub by_lists-returns-in_err-left-clause-value : goal.by_lists-returns-in_err-left-clause-value
 by_lists-returns-in_err-left-clause-value t c = λ stdin gives.
