@@ -1,6 +1,6 @@
 -- The events of an induced graph where parts have no ends in common: those of each vertex of a graph that is put in, and
 -- those of each copy.
-use Rattle.sgb_vec.proofs.Common.{◌≡◌, ◌⊎◌, ◌<◌, ◌≤◌, ◌+◌, ◌==◌, ℕ, zero, suc, Bool, true, false, List, [], ◌∷◌, ◌++◌, length, get_or, Option, Some, None, inl, inr, refl, sym, ap, subst, ◌∙◌, arith, rules, All, Contains, flat_map, slice_get, list_any, enumerate_from, range_with_len, option_map_or, both_ways, cases_eq, cases_lt, eq-eqb, or_parts, nat_tests, list_any_at, All-nil, All-map, All-filter, All-weaker, All-contains_itself, filter_passes, filter-append, get_or_from_slice_get, slice_get_within}
+use Rattle.sgb_vec.proofs.Common.{◌≡◌, ◌<◌, ◌≤◌, ◌+◌, ◌==◌, ℕ, zero, suc, Bool, true, false, List, [], ◌∷◌, ◌++◌, length, get_or, Option, Some, None, inl, inr, refl, sym, ap, subst, ◌∙◌, arith, rules, All, Contains, flat_map, slice_get, list_any, enumerate_from, range_with_len, option_map_or, both_ways, cases_eq, cases_lt, eq-eqb, or_parts, nat_tests, list_any_at, All-nil, All-map, All-filter, All-weaker, All-contains_itself, filter_passes, filter-append, get_or_from_slice_get, slice_get_within}
 use Rattle.sgb_vec.proofs.Lists.{All-flat_map, Contains-range, never_true, range-within}
 use Rattle.sgb_graph.specs.Graphs.{GraphData}
 use Rattle.sgb_graph.specs.Events.{Event, HasEndsBelow}

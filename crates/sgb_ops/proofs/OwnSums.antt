@@ -1,5 +1,5 @@
 -- Events whose ends have different sums: no two of them have the same ends.
-use Rattle.sgb_vec.proofs.Common.{◌≡◌, ◌≢◌, ◌<◌, ◌+◌, ◌++◌, ◌∷◌, [], ◌∙◌, ℕ, List, length, take, get_or, sym, ap, arith, take_more, All, AllPairs, All-nil, All-cons, All-append}
+use Rattle.sgb_vec.proofs.Common.{◌≡◌, ◌≢◌, ◌<◌, ◌+◌, ◌++◌, ◌∷◌, [], ◌∙◌, ℕ, List, length, take, get_or, sym, ap, take_more, All, AllPairs, All-nil, All-cons, All-append}
 use Rattle.std.proofs.lemmas.List.Quantifiers.{all_pairs_push}
 use Rattle.sgb_graph.specs.Events.{Event}
 

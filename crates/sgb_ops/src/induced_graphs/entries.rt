@@ -3,13 +3,13 @@
 //! The entries are needed for the names and for the events inside the graphs that are put in. Of each vertex `Copies` then
 //! keeps what stands in its place as small numbers: so `induced_from`, which owns its entries, drops them before the arcs
 //! between copies are added.
-ghost use Rattle.std.specs.Prelude.{◌≡◌, ◌≤◌, ◌<◌, ◌*◌, ◌^◌, false, Ok, Err, length, map, All, OnOk, IfOk, IfErr, IsOkUnless};
+ghost use Rattle.std.specs.Prelude.{◌≡◌, ◌≤◌, ◌<◌, ◌*◌, false, Ok, Err, length, map, All, OnOk, IfOk, IfErr, IsOkUnless};
 ghost use Rattle.sgb_vec.specs.Limits.{most_vertices};
 ghost use Rattle.std.specs.List.{list_any};
 ghost use Rattle.sgb_ops.specs.declared.induced_graphs.entries.Entry.TheVariants as entry;
 ghost use Rattle.sgb_ops.specs.inner.Copies.{IsKeptEntry, copies_end, copies_start, first_copies, merged_of, sized};
 ghost use Rattle.sgb_ops.specs.inner.Entries.{own_total, total_of};
-ghost use Rattle.sgb_ops.specs.Entries.{accepted_entries, first_copy, is_unnumbered, merged_count, merged_number, size_of_entry};
+ghost use Rattle.sgb_ops.specs.Entries.{accepted_entries, first_copy, is_unnumbered, merged_count, size_of_entry};
 // For the search alone.
 ghost use Rattle.std.specs.Prelude.{◌+◌};
 

@@ -1,11 +1,10 @@
 //! The events of an induced graph (GB_BASIC, induced).
-ghost use Rattle.std.specs.Prelude.{◌≡◌, ◌<◌, ◌≤◌, ◌+◌, ◌++◌, [], ◌∷◌, length, map, filter, flat_map, All, OnOk, IfOk, IsOkUnless, if◌then◌else◌};
+ghost use Rattle.std.specs.Prelude.{◌≡◌, ◌<◌, ◌≤◌, ◌+◌, ◌++◌, [], ◌∷◌, length, map, filter, flat_map, All, OnOk, IfOk, IsOkUnless};
 ghost use Rattle.sgb_vec.specs.Limits.{most_vertices};
 ghost use Rattle.sgb_ops.specs.declared.induced_graphs.entries.Entry.TheVariants as entry;
-ghost use Rattle.sgb_ops.specs.inner.Copies.{leads_to_copies, sized};
+ghost use Rattle.sgb_ops.specs.inner.Copies.{sized};
 ghost use Rattle.sgb_ops.specs.Entries.{events_within, inner_events, size_of_entry};
 ghost use Rattle.sgb_ops.specs.Induced.{events_between};
-ghost use Rattle.sgb_ops.specs.Taken.{taken};
 ghost use Rattle.sgb_ops.specs.inner.Entries.{inner_events_from, total_of};
 ghost use Rattle.sgb_ops.specs.inner.Induced.{event_between, events_of_arc, events_of_copies, is_met, wanted};
 

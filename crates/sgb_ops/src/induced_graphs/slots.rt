@@ -1,7 +1,7 @@
 //! The entries of an induced graph for who reads them (GB_BASIC, induced).
 //!
-//! An `Entry` is as large as a graph, some 700 bytes. So `induced_from` takes entries of 16 bytes, with each graph behind a
-//! box; and entries of both kinds are read as slots, each of which is made where it is looked at.
+//! An `Entry` is as large as a graph, 760 bytes. So `induced_from` takes entries of 24 bytes, with each graph behind a box;
+//! and entries of both kinds are read as slots, each of which is made where it is looked at.
 ghost use Rattle.std.specs.Prelude.{◌≡◌, ◌<◌, ◌==◌, length, get_or};
 ghost use Rattle.std.specs.Option.{option_map};
 ghost use Rattle.sgb_ops.specs.declared.induced_graphs.entries.Entry.TheVariants as entry;
@@ -13,8 +13,8 @@ use super::entries::Entry;
 use sgb_graph::Graph;
 use std::marker::Model;
 
-/// An entry of `induced_from`: what stands in the place of a vertex (GB_BASIC, induced). It takes 16 bytes; contracts see it
-/// as an `Entry`.
+/// An entry of `induced_from`: what stands in the place of a vertex (GB_BASIC, induced). It takes 24 bytes; contracts see
+/// it as an `Entry`.
 pub struct KeptEntry {
     // So many copies, or the number of the merged vertex.
     count: u32,

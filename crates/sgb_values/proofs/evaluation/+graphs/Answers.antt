@@ -1,4 +1,4 @@
-use Rattle.sgb_vec.proofs.Common.{◌≡◌, ◌||◌, ◌∙◌, ◌++◌, ℤ, List, [], ◌∷◌, map, Result, Ok, Err, refl, ap, sym, subst, w64, rules, arith, inr, ℕ, Bool, true, false, IfOk, IfErr, err_from_is_err_and, to_z-of_z, map-append}
+use Rattle.sgb_vec.proofs.Common.{◌≡◌, ◌||◌, ◌∙◌, ◌++◌, ℤ, List, [], ◌∷◌, Result, Ok, Err, refl, ap, sym, subst, w64, rules, arith, ℕ, Bool, true, false, IfOk, IfErr, err_from_is_err_and, to_z-of_z}
 use Rattle.sgb_vec.specs.declared.panics.Panic.{Panic}
 use Rattle.sgb_graph.specs.Descriptions.{Description, IsAnswerOf}
 use Rattle.sgb_graph.specs.Graphs.{GraphData}
@@ -14,7 +14,6 @@ use Rattle.sgb_ops.specs.Lines.{line_graph_of}
 use Rattle.sgb_ops.specs.BiComplete.{accepted_parts, bi_complete_of}
 use Rattle.sgb_ops.specs.Wheel.{accepted_rim, wheel_of}
 use Rattle.sgb_vec.specs.Results.{IsValue}
-use Rattle.sgb_gen.specs.Generators.{made}
 use Rattle.sgb_values.specs.Values.{value_of, values_of}
 use Rattle.sgb_values.specs.inner.Inputs.{left_after}
 use Rattle.sgb_values.specs.inner.Operands.{graph_held, on_lists}

@@ -1,5 +1,4 @@
 use Rattle.std.proofs.Common.{rules}
-use Rattle.sgb_ops.specs.Entries.{accepted_entries}
 use Rattle.sgb_ops.specs.inner.Entries.{total_of}
 use Rattle.sgb_ops.proofs.EntryTotals.{few_accepted}
 use Rattle.sgb_ops.proofs.induced_graphs.entries.accept_entries.Goals as goal

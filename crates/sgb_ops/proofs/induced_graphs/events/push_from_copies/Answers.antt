@@ -1,9 +1,8 @@
 use Rattle.std.proofs.Common.{rules, ◌++◌, ◌+◌, ◌∙◌, ap, arith, flat_map}
 use Rattle.sgb_ops.specs.inner.Copies.{copies_end}
 use Rattle.sgb_ops.specs.inner.Induced.{events_of_arc, events_of_copies, events_of_copy, wanted}
-use Rattle.sgb_ops.specs.Taken.{taken}
 use Rattle.sgb_ops.proofs.EntryTotals.{copies_between}
-use Rattle.sgb_ops.proofs.WantedEvents.{arcs_to_copies, wanted_more, events_until, until_more}
+use Rattle.sgb_ops.proofs.WantedEvents.{wanted_more, events_until, until_more}
 use Rattle.sgb_ops.proofs.induced_graphs.events.push_from_copies.Goals as goal
 
 pub loop-u-init : goal.loop-u-init
