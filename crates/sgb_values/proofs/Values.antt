@@ -74,7 +74,7 @@ abbrev mutual
   size_of (OfNumbers operation) = 1
   size_of (OfGraph operation e) = size_of e + 2
   size_of (OfGraphs operation e f) = size_of e + size_of f + 3
-  size_of (Induced e entries self_loops multi directed) = size_of e + size_of_entries entries + 2
+  size_of (Induced e entries self_loops multi directed) = size_of e + size_of_entries entries + 3
   size_of Stdin = 1
 
   -- how large an entry is
@@ -96,18 +96,24 @@ pub one_more : {T : Type 0} (done : List T) (value : T) (first : Result T Panic)
     → and_values (done ++ value ∷ []) others ≡ and_values done (and_then (both first others) (λ p. Ok (p.0 ∷ p.1)))
 one_more done value first others e = grind (arith, append_assoc)
 
--- the value of an induced graph of the code, of which the graph and the entries are known
-pub induced_value : (stdin : Result GraphData Panic) (e f : Expr) (es : List EntryExpr) (g : GraphData) (values : Result (List handed.Entry) Panic) (r : Result GraphData Panic) (graph : Box Expr Global) (entries : code_entries.Entries)
-    (self_loops multi directed : Bool) → e ≡ expr.Induced graph entries self_loops multi directed → f ≡ graph.value → es ≡ items_of entries
-    → value_of stdin (expression_of f) ≡ Ok g → values ≡ values_of stdin (entries_of (listed es)) → IsValue (and_then values (λ list. made (induced_of g list self_loops multi directed))) r
+-- the value of an induced graph, of which that of the operand and those of the entries are known
+pub induced_value : (stdin : Result GraphData Panic) (e : Expression) (es : Entries) (g : GraphData) (values : Result (List handed.Entry) Panic) (r : Result GraphData Panic) (self_loops multi directed : Bool)
+    → value_of stdin e ≡ Ok g → values ≡ values_of stdin es → IsValue (and_then values (λ list. made (induced_of g list self_loops multi directed))) r
+    → IsValue (value_of stdin (Induced e es self_loops multi directed)) r
+induced_value stdin e es g values r self_loops multi directed one all h = grind (arith)
+
+-- that of the code has the same
+pub induced_same : (stdin : Result GraphData Panic) (e f : Expr) (es : List EntryExpr) (r : Result GraphData Panic) (graph : Box Expr Global) (entries : code_entries.Entries) (self_loops multi directed : Bool)
+    → e ≡ expr.Induced graph entries self_loops multi directed → f ≡ graph.value → es ≡ items_of entries
+    → IsValue (value_of stdin (Induced (expression_of f) (entries_of (listed es)) self_loops multi directed)) r
     → IsValue (value_of stdin (expression_of e)) r
-induced_value stdin e f es g values r graph entries self_loops multi directed is alike same one all h =
+induced_same stdin e f es r graph entries self_loops multi directed is alike same h =
     let whole = ap (λ x. value_of stdin (expression_of x)) is ∙ ap (value_of stdin) (induced_is graph entries self_loops multi directed) in
     grind (arith)
 
 -- its size
 pub induced_size : (e : Expr) (graph : Box Expr Global) (entries : code_entries.Entries) (self_loops multi directed : Bool) → e ≡ expr.Induced graph entries self_loops multi directed
-    → size_of (expression_of e) ≡ size_of (expression_of graph.value) + size_of_entries (entries_of (listed (items_of entries))) + 2
+    → size_of (expression_of e) ≡ size_of (expression_of graph.value) + size_of_entries (entries_of (listed (items_of entries))) + 3
 induced_size e graph entries self_loops multi directed is =
     ap (λ x. size_of (expression_of x)) is ∙ ap size_of (induced_is graph entries self_loops multi directed)
 

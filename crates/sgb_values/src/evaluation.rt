@@ -3,7 +3,7 @@ ghost use Rattle.std.specs.Prelude.{◌≡◌, ◌||◌, ℕ, List, Result, Err,
 ghost use Rattle.sgb_vec.specs.declared.panics.Panic.{Panic};
 ghost use Rattle.sgb_graph.specs.Graphs.{GraphData};
 ghost use Rattle.sgb_expr.specs.Listed.{listed};
-ghost use Rattle.sgb_expr.specs.Expression.{OfGraphs, entries_of, entry_of, expression_of};
+ghost use Rattle.sgb_expr.specs.Expression.{Induced, OfGraphs, entries_of, entry_of, expression_of};
 ghost use Rattle.sgb_expr.specs.StdinUses.{entries_have_stdin, entry_has_stdin, has_stdin};
 ghost use Rattle.sgb_values.specs.FirstRefusals.{IsRefusedFirst};
 ghost use Rattle.sgb_vec.specs.Results.{IsValue};
@@ -20,8 +20,8 @@ use crate::stdin::read_kept;
 pub use entries::numbered_entry;
 use entries::{kept_graph, kept_number};
 use list_operations::{
-    OnList, OnLists, Operand, answer_of, answer_of_one, generated, induced_of_operand,
-    lines_of_operand,
+    OnList, OnLists, Operand, answer_of, answer_of_one, generated, generated_graph,
+    induced_of_operand, lines_of_operand,
 };
 use sgb_expr::{EntryExpr, Expr, have_stdin};
 use sgb_graph::Graph;
@@ -75,7 +75,7 @@ fn evaluate(
         → result ≡ Err p }
 {
     match expression {
-        Expr::Generator(generator) => generator.graph(alloc),
+        Expr::Generator(generator) => generated_graph(alloc, generator),
         Expr::Complement {
             graph,
             copy,
@@ -150,9 +150,16 @@ fn evaluate(
             directed,
         } => {
             let entries = entries.as_slice();
-            let operand = operand(alloc, graph, input, more_in(more, entries))?;
-            let values = values_of(alloc, entries, input, more)?;
-            induced_of_operand(alloc, operand, values, *self_loops, *multi, *directed)
+            by_entries(
+                alloc,
+                graph,
+                entries,
+                *self_loops,
+                *multi,
+                *directed,
+                input,
+                more,
+            )
         }
         Expr::BiComplete { n1, n2, directed } => bi_complete(alloc, *n1, *n2, *directed),
         Expr::Wheel { n, n1, directed } => wheel(alloc, *n, *n1, *directed),
@@ -162,6 +169,7 @@ fn evaluate(
 
 // The graph of an operation that reads the lists of the graphs of two expressions; the first one's refusal before the second's.
 #[cycle(graphs)]
+#[inline(never)]
 fn by_lists(
     alloc: Global,
     operation: OnLists,
@@ -183,8 +191,37 @@ fn by_lists(
     answer_of(alloc, operation, left, right)
 }
 
+// The graph that entries induce of the graph of an expression; the refusal of this one before those of the entries. It stands by
+// itself: an operand takes more stack than the graph of an expression.
+#[cycle(graphs)]
+#[inline(never)]
+fn by_entries(
+    alloc: Global,
+    graph: &Expr,
+    entries: &[EntryExpr],
+    self_loops: bool,
+    multi: bool,
+    directed: bool,
+    input: &mut Kept<'_>,
+    more: bool,
+) -> Result<Graph, Panic>
+    ensures value { (stdin : List ℕ → Result GraphData Panic) → GivesStdin stdin
+        → IsValue (value_of (stdin input.old) (Induced (expression_of graph.now)
+        (entries_of (listed entries.now)) self_loops multi directed)) result }
+    ensures left { IfOk result (λ _. input.new ≡ left_after more
+        (has_stdin (expression_of graph.now) || entries_have_stdin
+        (entries_of (listed entries.now))) input.old) }
+    ensures refused { (p : Panic) → IsRefusedFirst input.old (expression_of graph.now) p
+        → result ≡ Err p }
+{
+    let operand = operand(alloc, graph, input, more_in(more, entries))?;
+    let values = values_of(alloc, entries, input, more)?;
+    induced_of_operand(alloc, operand, values, self_loops, multi, directed)
+}
+
 // The graph of an expression, which need not be built where a generator names it.
 #[cycle(graphs)]
+#[inline(never)]
 fn operand(
     alloc: Global,
     expression: &Expr,
@@ -252,6 +289,7 @@ fn values_of(
 
 // The value of an entry, after which these others come.
 #[cycle(graphs)]
+#[inline(never)]
 fn value_of_entry(
     alloc: Global,
     entry: &EntryExpr,

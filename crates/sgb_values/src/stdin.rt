@@ -22,6 +22,7 @@ pub const MOST_INPUT: usize = 1 << 30;
 /// again.
 ///
 /// The code of a text that is a file of none; `Syntax` where it has more than 2^30 bytes; `NoRoom` when out of memory.
+#[inline(never)]
 pub(crate) fn read_kept(alloc: Global, input: &mut Kept<'_>, more: bool) -> Result<Graph, Panic>
     ensures value { (value : Result GraphData Panic) → IsStdinValue input.old value
         → IsValue value result }

@@ -161,10 +161,22 @@ pub(crate) fn generated(alloc: Global, generator: &Generator) -> Result<Operand,
     Ok(Operand::Listed(local))
 }
 
+/// The graph of a generator.
+///
+/// The generator's refusal, or `NoRoom` when out of memory. It stands by itself, as `answer_of` does.
+#[inline(never)]
+pub(crate) fn generated_graph(alloc: Global, generator: &Generator) -> Result<Graph, Panic>
+    ensures answer { IsAnswerOf (generator_value generator.now) result }
+    ensures refused { (p : Panic) → IsGeneratorRefused generator.now p → result ≡ Err p }
+{
+    generator.graph(alloc)
+}
+
 /// The answer of an operation on an operand, which is then dropped. The lists of a generator's graph are read with no graph built:
 /// those of a board with no side that wraps around by strides, and others as they are handed out.
 ///
-/// The refusal of the operation, or `NoRoom` when out of memory.
+/// The refusal of the operation, or `NoRoom` when out of memory. It stands by itself, as `answer_of` does.
+#[inline(never)]
 pub(crate) fn answer_of_one(
     alloc: Global,
     operation: OnList,
@@ -185,7 +197,8 @@ pub(crate) fn answer_of_one(
 /// The line graph of an operand, which is then dropped. Where it is not directed the operand is built: whether it consists of
 /// edges is told by its records.
 ///
-/// The refusal of the operation, or `NoRoom` when out of memory.
+/// The refusal of the operation, or `NoRoom` when out of memory. It stands by itself, as `answer_of` does.
+#[inline(never)]
 pub(crate) fn lines_of_operand(
     alloc: Global,
     operand: Operand,

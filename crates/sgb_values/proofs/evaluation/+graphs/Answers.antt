@@ -17,7 +17,7 @@ use Rattle.sgb_vec.specs.Results.{IsValue}
 use Rattle.sgb_values.specs.Values.{value_of, values_of}
 use Rattle.sgb_values.specs.inner.Inputs.{left_after}
 use Rattle.sgb_values.specs.inner.Operands.{graph_held, on_lists}
-use Rattle.sgb_values.proofs.Values.{and_values, first_refused, induced_reads, induced_size, induced_value, one_more, size_of_entries, then_refused, lists_answered, lists_leave, lists_same, value_made, value_one}
+use Rattle.sgb_values.proofs.Values.{and_values, first_refused, induced_reads, induced_same, induced_size, induced_value, one_more, size_of, size_of_entries, then_refused, lists_answered, lists_leave, lists_same, value_made, value_one}
 use Rattle.sgb_values.proofs.FirstRefusals.{exit_first, made_first, made_operands, numbers_refused}
 use Rattle.sgb_values.proofs.evaluation.+graphs.Goals as goal
 use Rattle.sgb_values.proofs.StdinValues.{value_same, values_same}
@@ -57,7 +57,7 @@ if_ok r P p = grind (arith)
 
 pub evaluate-returns-in-Generator-clause-value : goal.evaluate-returns-in-Generator-clause-value
 evaluate-returns-in-Generator-clause-value t c =
-    rw c.in-Generator.is (λ stdin gives. value_made _ _ c.graph.ensures.answer)
+    rw c.in-Generator.is (λ stdin gives. value_made _ _ c.generated_graph.ensures.answer)
 
 pub evaluate-returns-in_ok-operand-in-Complement-clause-value : goal.evaluate-returns-in_ok-operand-in-Complement-clause-value
 evaluate-returns-in_ok-operand-in-Complement-clause-value t c =
@@ -133,7 +133,7 @@ evaluate-returns-in-Stdin-clause-value t c =
 
 pub evaluate-returns-in-Generator-clause-refused : goal.evaluate-returns-in-Generator-clause-refused
 evaluate-returns-in-Generator-clause-refused t c =
-    rw c.in-Generator.is c.graph.ensures.refused
+    rw c.in-Generator.is c.generated_graph.ensures.refused
 
 pub evaluate-returns-in_err-operand-in-Complement-clause-refused : goal.evaluate-returns-in_err-operand-in-Complement-clause-refused
 evaluate-returns-in_err-operand-in-Complement-clause-refused t c =
@@ -151,18 +151,6 @@ pub evaluate-returns-in_ok-operand-in-Lines-clause-refused : goal.evaluate-retur
 evaluate-returns-in_ok-operand-in-Lines-clause-refused t c =
     rw c.in-Lines.is (made_first c.args.input.now c.deref-in-Lines.result.now c.in-Lines.graph.value _ _ c.deref-in-Lines.ensures c.in_ok-operand-in-Lines.ensures.refused)
 
-pub evaluate-returns-in_err-operand-in-Induced-clause-refused : goal.evaluate-returns-in_err-operand-in-Induced-clause-refused
-evaluate-returns-in_err-operand-in-Induced-clause-refused t c =
-    rw c.in-Induced.is (exit_first c.args.input.now c.deref-in-Induced.result.now c.in-Induced.graph.value _ _ c.from_residual-in_err-operand-in-Induced.ensures.1 c.deref-in-Induced.ensures c.in_err-operand-in-Induced.ensures.refused)
-
-pub evaluate-returns-in_ok-values-in-Induced-clause-refused : goal.evaluate-returns-in_ok-values-in-Induced-clause-refused
-evaluate-returns-in_ok-values-in-Induced-clause-refused t c =
-    rw c.in-Induced.is (made_first c.args.input.now c.deref-in-Induced.result.now c.in-Induced.graph.value _ _ c.deref-in-Induced.ensures c.in_ok-operand-in-Induced.ensures.refused)
-
-pub evaluate-returns-in_err-values-in-Induced-clause-refused : goal.evaluate-returns-in_err-values-in-Induced-clause-refused
-evaluate-returns-in_err-values-in-Induced-clause-refused t c =
-    rw c.in-Induced.is (made_first c.args.input.now c.deref-in-Induced.result.now c.in-Induced.graph.value _ _ c.deref-in-Induced.ensures c.in_ok-operand-in-Induced.ensures.refused)
-
 pub evaluate-returns-in-BiComplete-clause-refused : goal.evaluate-returns-in-BiComplete-clause-refused
 evaluate-returns-in-BiComplete-clause-refused t c = search (rules, numbers_refused, accepted_parts, to_z-of_z)
 
@@ -173,33 +161,57 @@ pub evaluate-returns-in-Stdin-clause-refused : goal.evaluate-returns-in-Stdin-cl
 evaluate-returns-in-Stdin-clause-refused t c =
     rw c.in-Stdin.is c.read_kept.ensures.refused
 
-pub evaluate-values_of-requires : goal.evaluate-values_of-requires
-evaluate-values_of-requires t c = search (rules, induced_size, size_of_entries, entries_of, listed)
-
-pub evaluate-returns-in_err-values-in-Induced-clause-value : goal.evaluate-returns-in_err-values-in-Induced-clause-value
-evaluate-returns-in_err-values-in-Induced-clause-value t c = λ stdin gives.
+pub evaluate-by_entries-requires : goal.evaluate-by_entries-requires
+evaluate-by_entries-requires t c =
     let a = c.in-Induced in
-    let p = err_from_is_err_and c.from_residual-in_err-values-in-Induced.result c.from_residual-in_err-values-in-Induced.ensures.1 in
-    let same = values_on _ _ _ _ _ stdin (entries_of (listed c.as_slice-entries.result.now)) c.more_in.ensures c.in_ok-operand-in-Induced.ensures.left in
-    rw (p.1, p.2) (induced_value (stdin c.args.input.now) c.args.expression.now _ _ _ _ (Err c.in_err-values-in-Induced.field-0.0) a.graph a.entries a.self_loops a.multi a.directed a.is c.deref-in-Induced.ensures c.as_slice-entries.ensures (c.in_ok-operand-in-Induced.ensures.ok stdin gives)
-    same (then_refused _ _ c.in_err-values-in-Induced.field-0.0 (c.in_err-values-in-Induced.ensures.refused stdin gives)))
+    let size = induced_size c.args.expression.now a.graph a.entries a.self_loops a.multi a.directed a.is in
+    let first = ap (λ x. size_of (expression_of x)) c.deref-in-Induced.ensures in
+    let rest = ap (λ (es : List EntryExpr). size_of_entries (entries_of (listed es))) c.as_slice-entries.ensures in
+    (omega (arith, size, first, rest), tt)
 
-pub evaluate-returns-in_ok-values-in-Induced-clause-value : goal.evaluate-returns-in_ok-values-in-Induced-clause-value
-evaluate-returns-in_ok-values-in-Induced-clause-value t c = λ stdin gives.
+pub evaluate-returns-in-Induced-clause-value : goal.evaluate-returns-in-Induced-clause-value
+evaluate-returns-in-Induced-clause-value t c = λ stdin gives.
     let a = c.in-Induced in
-    let operand = graph_held c.in_ok-operand-in-Induced.operand in
-    let same = values_on _ _ _ _ _ stdin (entries_of (listed c.as_slice-entries.result.now)) c.more_in.ensures c.in_ok-operand-in-Induced.ensures.left in
-    let answer : IsAnswerOf (induced_of operand c.in_ok-values-in-Induced.values.items a.self_loops a.multi a.directed) c.induced_of_operand.result = c.induced_of_operand.ensures in
-    induced_value (stdin c.args.input.now) c.args.expression.now _ _ _ (Ok c.in_ok-values-in-Induced.values.items) c.induced_of_operand.result a.graph a.entries a.self_loops a.multi a.directed a.is c.deref-in-Induced.ensures c.as_slice-entries.ensures (c.in_ok-operand-in-Induced.ensures.ok stdin gives)
-    (sym (c.in_ok-values-in-Induced.ensures.ok stdin gives) ∙ same)
+    induced_same (stdin c.args.input.now) c.args.expression.now _ _ _ a.graph a.entries a.self_loops a.multi a.directed a.is c.deref-in-Induced.ensures c.as_slice-entries.ensures (c.by_entries.ensures.value stdin gives)
+
+pub evaluate-returns-in-Induced-clause-left : goal.evaluate-returns-in-Induced-clause-left
+evaluate-returns-in-Induced-clause-left t c =
+    let a = c.in-Induced in
+    let all = induced_reads c.args.expression.now _ _ a.graph a.entries a.self_loops a.multi a.directed a.is c.deref-in-Induced.ensures c.as_slice-entries.ensures in
+    rw all c.by_entries.ensures.left
+
+pub evaluate-returns-in-Induced-clause-refused : goal.evaluate-returns-in-Induced-clause-refused
+evaluate-returns-in-Induced-clause-refused t c =
+    rw c.in-Induced.is (rw c.deref-in-Induced.ensures at c.by_entries.ensures.refused)
+
+pub by_entries-returns-in_err-operand-clause-refused : goal.by_entries-returns-in_err-operand-clause-refused
+by_entries-returns-in_err-operand-clause-refused t c = exit_first c.args.input.now c.args.graph.now c.args.graph.now _ _ c.from_residual.ensures.1 refl c.in_err-operand.ensures.refused
+
+pub by_entries-returns-in_err-values-clause-refused : goal.by_entries-returns-in_err-values-clause-refused
+by_entries-returns-in_err-values-clause-refused t c = made_first c.args.input.now c.args.graph.now c.args.graph.now _ _ refl c.in_ok-operand.ensures.refused
+
+pub by_entries-returns-clause-refused : goal.by_entries-returns-clause-refused
+by_entries-returns-clause-refused t c = made_first c.args.input.now c.args.graph.now c.args.graph.now _ _ refl c.in_ok-operand.ensures.refused
+
+pub by_entries-returns-in_err-values-clause-value : goal.by_entries-returns-in_err-values-clause-value
+by_entries-returns-in_err-values-clause-value t c = λ stdin gives.
+    let p = err_from_is_err_and c.from_residual-in_err-values.result c.from_residual-in_err-values.ensures.1 in
+    let same = values_on _ _ _ _ _ stdin (entries_of (listed c.args.entries.now)) c.more_in.ensures c.in_ok-operand.ensures.left in
+    rw (p.1, p.2) (induced_value (stdin c.args.input.now) (expression_of c.args.graph.now) (entries_of (listed c.args.entries.now)) _ _ (Err c.in_err-values.field-0.0) c.args.self_loops c.args.multi c.args.directed (c.in_ok-operand.ensures.ok stdin gives)
+    same (then_refused _ _ c.in_err-values.field-0.0 (c.in_err-values.ensures.refused stdin gives)))
+
+pub by_entries-returns-clause-value : goal.by_entries-returns-clause-value
+by_entries-returns-clause-value t c = λ stdin gives.
+    let operand = graph_held c.in_ok-operand.operand in
+    let same = values_on _ _ _ _ _ stdin (entries_of (listed c.args.entries.now)) c.more_in.ensures c.in_ok-operand.ensures.left in
+    let answer : IsAnswerOf (induced_of operand c.in_ok-values.values.items c.args.self_loops c.args.multi c.args.directed) c.induced_of_operand.result = c.induced_of_operand.ensures in
+    induced_value (stdin c.args.input.now) (expression_of c.args.graph.now) (entries_of (listed c.args.entries.now)) _ (Ok c.in_ok-values.values.items) c.induced_of_operand.result c.args.self_loops c.args.multi c.args.directed (c.in_ok-operand.ensures.ok stdin gives)
+    (sym (c.in_ok-values.ensures.ok stdin gives) ∙ same)
     (value_made _ _ answer)
 
-pub evaluate-returns-in_ok-values-in-Induced-clause-left : goal.evaluate-returns-in_ok-values-in-Induced-clause-left
-evaluate-returns-in_ok-values-in-Induced-clause-left t c =
-    let a = c.in-Induced in
-    let left = left_on c.args.more _ _ _ _ (entries_have_stdin (entries_of (listed c.as_slice-entries.result.now))) _ c.more_in.ensures c.in_ok-operand-in-Induced.ensures.left c.in_ok-values-in-Induced.ensures.left in
-    let all = induced_reads c.args.expression.now _ _ a.graph a.entries a.self_loops a.multi a.directed a.is c.deref-in-Induced.ensures c.as_slice-entries.ensures in
-    if_ok c.induced_of_operand.result _ (left ∙ ap (λ reads. left_after c.args.more reads c.args.input.now) (sym all))
+pub by_entries-returns-clause-left : goal.by_entries-returns-clause-left
+by_entries-returns-clause-left t c =
+    if_ok c.induced_of_operand.result _ (left_on c.args.more _ _ _ _ (entries_have_stdin (entries_of (listed c.args.entries.now))) _ c.more_in.ensures c.in_ok-operand.ensures.left c.in_ok-values.ensures.left)
 
 pub by_lists-returns-in_err-left-clause-value : goal.by_lists-returns-in_err-left-clause-value
 by_lists-returns-in_err-left-clause-value t c = λ stdin gives.

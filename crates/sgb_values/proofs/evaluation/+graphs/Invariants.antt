@@ -17,6 +17,9 @@ decreases-evaluate l = size_of (expression_of l.expression.now)
 abbrev pub decreases-by_lists : goal.decreases-by_lists
 decreases-by_lists l = size_of (expression_of l.first.now) + size_of (expression_of l.second.now) + 2
 
+abbrev pub decreases-by_entries : goal.decreases-by_entries
+decreases-by_entries l = size_of (expression_of l.graph.now) + size_of_entries (entries_of (listed l.entries.now)) + 2
+
 abbrev pub decreases-operand : goal.decreases-operand
 decreases-operand l = size_of (expression_of l.expression.now) + 1
 
