@@ -10,7 +10,7 @@ libsgb.a, there are rows of a program in C (bench/hand_over.c) that opens a grap
 arrays, with the bytes of these as output: to compare with the `save` of the same graph; and rows of chunks of great graphs.
 With --beside each operation is listed by ./sgb and by another program that takes the same words, in turn, and the least of
 eleven runs of each is told: as of conformance/out/graphbase, which `make graphbase` makes of GraphBase's calls and printf. It
-ends with status 1 where the two do not write as many bytes.
+ends with status 1 where the two do not write as many bytes. A peak below that of this script, some 16 MB, is told as that.
 It is no part of the gate.
 docs/PERFORMANCE.md has figures.
 """
@@ -127,9 +127,9 @@ BESIDE = [
     "wheel(200000,1,0)",
     "wheel(100000,10,0)",
     "board(100,100,0,0,-1,3,0)",
-    "board(64,64,64,0,-1,7,0)",
+    "board(20,20,20,0,-1,7,0)",
     "board(100,100,0,0,-1,3,1)",
-    "board(200,200,0,0,-2,3,0)",
+    "board(60,60,0,0,-2,3,0)",
     "stdin",
 ]
 
