@@ -10,12 +10,15 @@ libsgb.a, there are rows of a program in C (bench/hand_over.c) that opens a grap
 arrays, with the bytes of these as output: to compare with the `save` of the same graph; and rows of chunks of great graphs.
 With --beside each operation is listed by ./sgb and by another program that takes the same words, in turn, and the least of
 eleven runs of each is told: as of conformance/out/graphbase, which `make graphbase` makes of GraphBase's calls and printf. It
-ends with status 1 where the two do not write as many bytes. A peak below that of this script, some 16 MB, is told as that.
+ends with status 1 where the two do not write as many bytes. Programs are started by a small one in C (bench/measured.c).
 It is no part of the gate.
 docs/PERFORMANCE.md has figures.
 """
 
+import atexit
+import functools
 import os
+import shutil
 import subprocess
 import sys
 import tempfile
@@ -153,19 +156,45 @@ CHUNKS = [
 ]
 
 
+class Measured:
+    """A program under way whose cost is told when it has ended (bench/measured.c)."""
+
+    def __init__(self, words, source, output):
+        self.line, line = os.pipe()
+        self.run = subprocess.Popen([measured(), str(line), *words], stdin=source, stdout=output, pass_fds=[line])
+        os.close(line)
+
+    def ended(self):
+        """Its exit status, processor seconds, peak memory in kilobytes."""
+        with os.fdopen(self.line) as line:
+            told = line.read().split()
+        if self.run.wait() or len(told) != 3:
+            sys.exit(f"{self.run.args[2]} could not be measured")
+        status, time, peak = map(int, told)
+        return status, time / 1e6, peak
+
+
+@functools.cache
+def measured():
+    """The small program that starts what is measured, built once."""
+    folder = tempfile.mkdtemp()
+    atexit.register(shutil.rmtree, folder)
+    program = os.path.join(folder, "measured")
+    subprocess.run(["cc", "-O2", os.path.join(TOP, "bench/measured.c"), "-o", program], check=True)
+    return program
+
+
 def cost(words, source=subprocess.DEVNULL, most=None, program=PROGRAM):
     """Runs the program; its exit status, processor seconds, peak memory in kilobytes, bytes of output. With `most` the
     output is closed after so many bytes."""
-    run = subprocess.Popen([program, *words], stdin=source, stdout=subprocess.PIPE)
+    measure = Measured([program, *words], source, subprocess.PIPE)
     count = 0
-    while chunk := run.stdout.read(min(1 << 20, most or 1 << 20)):
+    while chunk := measure.run.stdout.read(min(1 << 20, most or 1 << 20)):
         count += len(chunk)
         if most and count >= most:
             break
-    run.stdout.close()
-    _, status, usage = os.wait4(run.pid, 0)
-    run.returncode = os.waitstatus_to_exitcode(status)
-    return run.returncode, usage.ru_utime + usage.ru_stime, usage.ru_maxrss, count
+    measure.run.stdout.close()
+    return *measure.ended(), count
 
 
 def short(text):
@@ -182,12 +211,10 @@ def show(text, status, seconds, peak, count):
 def listed(program, text, path):
     """What a listing costs that nobody reads: processor seconds and peak memory in kilobytes. Standard input is a file."""
     with open(path, "rb") as source:
-        run = subprocess.Popen([program, "list", text], stdin=source, stdout=subprocess.DEVNULL)
-        _, status, usage = os.wait4(run.pid, 0)
-    run.returncode = os.waitstatus_to_exitcode(status)
-    if run.returncode:
-        sys.exit(f"{program} list {short(text)}: status {run.returncode}")
-    return usage.ru_utime + usage.ru_stime, usage.ru_maxrss
+        status, seconds, peak = Measured([program, "list", text], source, subprocess.DEVNULL).ended()
+    if status:
+        sys.exit(f"{program} list {short(text)}: status {status}")
+    return seconds, peak
 
 
 def bytes_of(program, text, path):
