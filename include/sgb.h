@@ -195,8 +195,8 @@ void sgb_close(sgb_graph *graph);
 uint64_t sgb_sizes(sgb_graph *graph, sgb_graph_sizes *sizes);
 
 /* The arcs that the graph counts, m, where an edge counts as two; 2^64 - 1 also where there are more. Of a generator's
- * graph they are counted without their lists: of a board by its displacements, of a simplex at once; subsets of a sum
- * of 64 or more are walked over, which takes long where there are many. */
+ * graph they are counted without their lists: of a board by its displacements, of a simplex at once; subsets are walked
+ * over where sum and wanted sizes are great for a table, which takes long where there are many. */
 uint64_t sgb_arcs(sgb_graph *graph, uint64_t *arcs);
 
 /* The arcs on the lists of a run; 2^64 - 1 also where there are more. Of all vertices these are as many as sgb_arcs

@@ -124,7 +124,7 @@ class Graph:
         """How many arcs the graph counts, an int: 2^64 - 1 also where there are more. An edge counts as two.
 
         A generator's arcs are counted without their lists: of a board by its displacements, of a simplex at once;
-        subsets of a sum of 64 or more are gone through, which takes long where they are many.
+        subsets are gone through where their sum and the wanted sizes are great, which takes long where they are many.
         """
         return self._fetched("number of arcs", lambda: self._held.number("number of arcs", "sgb_arcs"))
 

@@ -193,6 +193,8 @@ pub mod EqualBounds
 pub mod SubsetsCounts
 -- pairs of subsets counted by a table
 pub mod SubsetsPairs
+-- their table, and its cells
+pub mod SubsetsPairTables
 -- the moves of subsets as pairs of vectors
 pub mod SubsetsMovePairs
 -- the arcs on the list of one vector of subsets counted

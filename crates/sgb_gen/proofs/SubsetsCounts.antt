@@ -20,7 +20,7 @@ use Rattle.sgb_gen.specs.LocalLists.{LocalArc}
 use Rattle.sgb_gen.specs.Subsets.{SubsetsData, common_size, is_wanted_size, moves_of_subsets, moves_to_place, subsets_vector_graph, subsets_vectors}
 use Rattle.sgb_gen.specs.VectorGraphs.{Move, described_by, family_graph, vertex_among}
 use Rattle.sgb_gen.specs.inner.Descents.{IsBegun, arcs_under, down_from, row, rows}
-use Rattle.sgb_gen.specs.inner.SubsetsCounts.{moves_among, wanted_among}
+use Rattle.sgb_gen.specs.inner.SubsetsCounts.{HasNoneAbove, moves_among, wanted_among}
 use Rattle.sgb_gen.proofs.BoardCountsBoards.{arcs-directed, arcs-undirected}
 use Rattle.sgb_gen.proofs.DescentArcs.{all-rows, from-taken, row-under, under-zeros}
 use Rattle.sgb_gen.proofs.FamilyWalks.{at_front, next_left}
@@ -54,6 +54,11 @@ pub among-most : (sb c : ℕ) (x : List ℕ) (vs : List (List ℕ)) → wanted_a
 among-most sb c x vs =
     let wanted : List ℕ → Bool = λ v. is_wanted_size sb (common_size x v + c) in
     omega (arith, length-filter_both wanted (λ v. not (wanted v)) (λ v. refl) vs)
+
+-- none with too much in common before
+pub among-none : (sb most c : ℕ) (x : List ℕ) (vs : List (List ℕ)) → HasNoneAbove sb most → most < c → wanted_among sb c x vs ≡ 0
+among-none sb most c x [] none more = refl
+among-none sb most c x (v ∷ vs) none more = rw (none (common_size x v + c) (omega (arith, more))) (among-none sb most c x vs none more)
 
 -- in the other order as many
 pub among-reverse : (sb c : ℕ) (x : List ℕ) (vs : List (List ℕ)) → wanted_among sb c x (reverse vs) ≡ wanted_among sb c x vs

@@ -17,15 +17,9 @@ use Rattle.sgb_gen.specs.inner.SubsetsCounts.{HasNoneAbove, HasSumRows, wanted_a
 use Rattle.sgb_gen.proofs.Descents.{row-above, rows-end, sums-past}
 use Rattle.sgb_gen.proofs.FamilyWalks.{take_at_vector}
 use Rattle.sgb_gen.proofs.RisingVectors.{vertex_in_rising}
-use Rattle.sgb_gen.proofs.SubsetsCounts.{among-append, among-most, among-reverse, among-row, among-rows, among-zeros}
+use Rattle.sgb_gen.proofs.SubsetsCounts.{among-append, among-most, among-none, among-reverse, among-row, among-rows, among-zeros}
 use Rattle.sgb_gen.proofs.SubsetsLists.{list_by_walk}
 use Rattle.sgb_gen.proofs.SubsetsMovePairs.{common_own, one_if}
-
--- ---- sizes above the last wanted one
-
-among-none : (sb most c : ℕ) (x : List ℕ) (vs : List (List ℕ)) → HasNoneAbove sb most → most < c → wanted_among sb c x vs ≡ 0
-among-none sb most c x [] none more = refl
-among-none sb most c x (v ∷ vs) none more = rw (none (common_size x v + c) (omega (arith, more))) (among-none sb most c x vs none more)
 
 -- ---- a row, by the entries of vectors
 

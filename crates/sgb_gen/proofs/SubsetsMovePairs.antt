@@ -1,5 +1,5 @@
 -- The moves of subsets as pairs of vectors: two of these pairs to a move between two vectors, one to that of a vector to itself.
-use Rattle.std.proofs.Common.{◌≡◌, ℕ, zero, suc, ◌+◌, ◌*◌, ◌≤◌, Bool, cond, List, [], ◌∷◌, ◌++◌, length, filter, take, drop, sum, refl, sym, ap, ◌∙◌, arith, get_or, length-append, append_assoc}
+use Rattle.std.proofs.Common.{◌≡◌, ℕ, zero, suc, ◌+◌, ◌*◌, ◌%◌, ◌^◌, ◌≤◌, Bool, cond, List, [], ◌∷◌, ◌++◌, length, filter, take, drop, sum, refl, sym, ap, ◌∙◌, arith, get_or, length-append, append_assoc}
 use Rattle.std.specs.List.{All, flat_map, range_with_len}
 use Rattle.std.specs.Prelude.{slice_index_or}
 use Rattle.std.proofs.Math.Path.{fun_ext}
@@ -11,7 +11,7 @@ use Rattle.sgb_vec.proofs.SumMembers.{Contains-bounded_sums}
 use Rattle.sgb_vec.proofs.SumSuccessors.{sum-cons}
 use Rattle.sgb_gen.specs.Subsets.{SubsetsData, common_size, is_wanted_size, moves_of_subsets, moves_to_place, subsets_vectors}
 use Rattle.sgb_gen.specs.inner.SubsetsCounts.{wanted_among}
-use Rattle.sgb_gen.specs.inner.SubsetsPairs.{HasPairs, pair_cell, pairs_among, pairs_of_sums, place_of_pairs}
+use Rattle.sgb_gen.specs.inner.SubsetsPairs.{HasCounts, pairs_among, pairs_of_sums, place_of_pairs}
 use Rattle.sgb_gen.proofs.SubsetsCounts.{among-append}
 use Rattle.sgb_gen.proofs.SubsetsLists.{common-turned}
 use Rattle.sgb_gen.proofs.SubsetsPairs.{pairs-few, pairs-second}
@@ -102,13 +102,13 @@ moves-by_pairs s pairs loops pairs_are loops_are =
     )
 
 -- what the last cell has
-pub pairs-found : (s : SubsetsData) (total k found : ℕ) (bounds table : List ℕ) → total ≡ s.sum.total → bounds ≡ s.sum.bounds → k ≤ 0 → length (subsets_vectors s) ≤ most_vertices
-    → HasPairs s.size_bits total (drop k bounds) table → found ≡ get_or table (place_of_pairs total total 0) 0
+pub pairs-found : (s : SubsetsData) (total most k found : ℕ) (bounds table : List ℕ) → total ≡ s.sum.total → bounds ≡ s.sum.bounds → k ≤ 0 → length (subsets_vectors s) ≤ most_vertices
+    → HasCounts total most (pairs_of_sums s.size_bits (drop k bounds)) table → found ≡ get_or table (place_of_pairs total most total total 0) 0
     → (found ≡ pairs_among s.size_bits 0 (subsets_vectors s) (subsets_vectors s)) × (found ≤ most_vertices * most_vertices)
-pairs-found s total (suc k) found bounds table total_is bounds_are none few has is = absurd (omega (arith, none))
-pairs-found s total zero found bounds table total_is bounds_are none few has is =
+pairs-found s total most (suc k) found bounds table total_is bounds_are none few has is = absurd (omega (arith, none))
+pairs-found s total most zero found bounds table total_is bounds_are none few has is =
     let sb = s.size_bits in
     let vs = subsets_vectors s in
-    let cell : found ≡ pair_cell sb bounds total total 0 = is ∙ has total total 0 (omega arith) in
+    let cell : found ≡ pairs_of_sums sb bounds total total 0 % 2 ^ 64 = is ∙ has total total 0 (omega arith) (omega arith) in
     let same : pairs_of_sums sb bounds total total 0 ≡ pairs_among sb 0 vs vs = cc (total_is, bounds_are) in
     (omega (arith, cell, same, pairs-few sb 0 vs vs few, few), omega (arith, cell, same, pairs-few sb 0 vs vs few, few))

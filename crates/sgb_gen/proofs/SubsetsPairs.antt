@@ -1,16 +1,16 @@
--- Pairs of subsets counted by a table: by the first entries of both vectors.
-use Rattle.std.proofs.Common.{◌≡◌, ℕ, zero, suc, ◌+◌, ◌-◌, ◌*◌, ◌<◌, ◌≤◌, min, max, Bool, cond, List, [], ◌∷◌, ◌++◌, length, map, reverse, refl, sym, ap, ap₂, subst, ◌∙◌, arith, get_or, drop, replicate, set, inl, inr}
+-- Pairs of subsets counted by the first entries of both vectors.
+use Rattle.std.proofs.Common.{◌≡◌, ℕ, zero, suc, ◌+◌, ◌-◌, ◌*◌, ◌<◌, ◌≤◌, ◌⊎◌, min, max, Bool, cond, List, [], ◌∷◌, ◌++◌, length, map, reverse, refl, sym, ap, ap₂, ◌∙◌, arith, inl, inr}
 use Rattle.std.proofs.lemmas.Bool.{cases_lt}
-use Rattle.std.proofs.lemmas.List.{drop_all, drop_more, get_or-set_same, get_or-set_other}
 use Rattle.sgb_vec.specs.Boxes.{box}
 use Rattle.sgb_vec.specs.Limits.{most_vertices}
 use Rattle.sgb_vec.specs.Sums.{bounded_sums}
 use Rattle.sgb_vec.proofs.Lists.{reverse-first}
 use Rattle.sgb_gen.specs.Subsets.{is_wanted_size}
 use Rattle.sgb_gen.specs.inner.Descents.{row, rows}
-use Rattle.sgb_gen.specs.inner.SubsetsPairs.{HasPairs, HasTurnedPairs, kept, pair_cell, pairs_among, pairs_of_sums, place_of_pairs}
-use Rattle.sgb_gen.proofs.Descents.{row-within, rows-end, sums-past, sums-rows}
-use Rattle.sgb_gen.proofs.SubsetsCounts.{among-append, among-most, among-reverse, among-row, among-zeros}
+use Rattle.sgb_gen.specs.inner.SubsetsCounts.{HasNoneAbove}
+use Rattle.sgb_gen.specs.inner.SubsetsPairs.{HasMost, added, pairs_among, pairs_below, pairs_of_sums}
+use Rattle.sgb_gen.proofs.Descents.{row-within, rows-end, rows-first, sums-past, sums-rows}
+use Rattle.sgb_gen.proofs.SubsetsCounts.{among-append, among-most, among-none, among-reverse, among-row, among-zeros}
 
 -- ---- pairs of two lists
 
@@ -22,7 +22,7 @@ pub pairs-second : (sb c : ℕ) (us vs ws : List (List ℕ)) → pairs_among sb 
 pairs-second sb c [] vs ws = omega arith
 pairs-second sb c (u ∷ us) vs ws = omega (arith, among-append sb c u vs ws, pairs-second sb c us vs ws)
 
-pub pairs-none : (sb c : ℕ) (us : List (List ℕ)) → 0 ≡ kept (pairs_among sb c us [])
+pairs-none : (sb c : ℕ) (us : List (List ℕ)) → 0 ≡ pairs_among sb c us []
 pairs-none sb c [] = refl
 pairs-none sb c (u ∷ us) = omega (arith, pairs-none sb c us)
 
@@ -48,20 +48,6 @@ pairs-beginning sb c x y r bs [] within = refl
 pairs-beginning sb c x y r bs (u ∷ us) within =
     ap₂ (λ m n. m + n) (sym (among-row sb c r x y bs u within)) (pairs-beginning sb c x y r bs us within)
 
--- one entry of the second vector more
-pub other-counted : (sb c x y q r counted more : ℕ) (bs : List ℕ) → x ≤ q → y ≤ r
-    → counted ≡ kept (pairs_among sb c (row q bs x) (rows r bs 0 y))
-    → more ≡ kept (pairs_of_sums sb bs (q - x) (r - y) (c + min x y))
-    → kept (counted + more) ≡ kept (pairs_among sb c (row q bs x) (rows r bs 0 (y + 1)))
-other-counted sb c x y q r counted more bs first second so_far is = grind (arith, pairs-second, row-within, pairs-beginning, reverse, min, pairs-reverse_first, pairs-reverse_second)
-
--- one entry of the first vector more
-pub entry-counted : (sb c x q counted more : ℕ) (bs : List ℕ) (vs : List (List ℕ))
-    → counted ≡ kept (pairs_among sb c (rows q bs 0 x) vs)
-    → more ≡ kept (pairs_among sb c (row q bs x) vs)
-    → kept (counted + more) ≡ kept (pairs_among sb c (rows q bs 0 (x + 1)) vs)
-entry-counted sb c x q counted more bs vs so_far is = grind (arith, pairs-first)
-
 -- all vectors with one bound more
 rows-of_all : (r b : ℕ) (bs : List ℕ) → rows r bs 0 (min r b + 1) ≡ reverse (bounded_sums r (b ∷ bs))
 rows-of_all r b bs =
@@ -70,134 +56,207 @@ rows-of_all r b bs =
     ∙ ap (rows r bs 0) {y = b + 1} (omega arith)
     ∙ sym (sums-rows r b bs)
 
-pub pairs-all : (sb c q r b : ℕ) (bs : List ℕ) → pairs_among sb c (rows q bs 0 (min q b + 1)) (rows r bs 0 (min r b + 1)) ≡ pairs_of_sums sb (b ∷ bs) q r c
+pairs-all : (sb c q r b : ℕ) (bs : List ℕ) → pairs_among sb c (rows q bs 0 (min q b + 1)) (rows r bs 0 (min r b + 1)) ≡ pairs_of_sums sb (b ∷ bs) q r c
 pairs-all sb c q r b bs = grind (arith, rows-of_all, pairs-reverse_first, reverse, pairs-reverse_second)
 
--- ---- the places of the table
+-- one first entry of each
+pairs-entries : (sb c x y q r : ℕ) (bs : List ℕ) → x ≤ q → y ≤ r → pairs_among sb c (row q bs x) (row r bs y) ≡ pairs_of_sums sb bs (q - x) (r - y) (c + min x y)
+pairs-entries sb c x y q r bs first second =
+    ap (λ us. pairs_among sb c us (row r bs y)) (row-within q x bs first)
+    ∙ pairs-beginning sb c x y r bs (reverse (bounded_sums (q - x) bs)) second
+    ∙ pairs-reverse_first sb (c + min x y) (bounded_sums (q - x) bs) (reverse (bounded_sums (r - y) bs))
+    ∙ pairs-reverse_second sb (c + min x y) (bounded_sums (q - x) bs) (bounded_sums (r - y) bs)
 
--- no two cells have one place
-place-apart : (f s c g t d : ℕ) → max f s + c < 64 → max g t + d < 64 → place_of_pairs f s c ≡ place_of_pairs g t d → (f ≡ g) × (s ≡ t) × (c ≡ d)
-place-apart f s c g t d one other same =
-    let first : f ≡ g = omega (arith, one, other, same) in
-    let second : s ≡ t = omega (arith, one, other, same, first) in
-    (first, second, omega (arith, same, first, second))
+-- ---- by the lesser first entry
+
+-- the first vector begins with m, and the second one with one of k entries from m on
+along_row : (sb c q r m k : ℕ) (bs : List ℕ) → m ≤ q → m + k ≤ r + 1
+    → pairs_among sb c (row q bs m) (rows r bs m k) + added (r + 1 - m - k) (λ j. pairs_of_sums sb bs (q - m) j (c + m)) ≡ added (r + 1 - m) (λ j. pairs_of_sums sb bs (q - m) j (c + m))
+along_row sb c q r m zero bs first within =
+    omega (arith, pairs-none sb c (row q bs m), ap (λ n. added n (λ j. pairs_of_sums sb bs (q - m) j (c + m))) {x = r + 1 - m - 0} {y = r + 1 - m} (omega arith))
+along_row sb c q r m (suc k) bs first within =
+    let f : ℕ → ℕ = λ j. pairs_of_sums sb bs (q - m) j (c + m) in
+    let y = r - (m + k) in
+    let here : pairs_among sb c (row q bs m) (row r bs (m + k)) ≡ f y =
+    pairs-entries sb c m (m + k) q r bs first (omega (arith, within)) ∙ ap (pairs_of_sums sb bs (q - m) y) (omega arith) in
+    let one : added (r + 1 - m - k) f ≡ added y f + f y = ap (λ n. added n f) {y = suc y} (omega (arith, within)) in
+    let less : added (r + 1 - m - suc k) f ≡ added y f = ap (λ n. added n f) (omega (arith, within)) in
+    omega (arith, here, one, less, pairs-second sb c (row q bs m) (row r bs (m + k)) (rows r bs m k), along_row sb c q r m k bs first (omega (arith, within)))
+
+-- the second vector begins with m, and the first one with one of k greater entries
+along_column : (sb c q r m k : ℕ) (bs : List ℕ) → m ≤ r → m + k ≤ q
+    → pairs_among sb c (rows q bs (m + 1) k) (row r bs m) + added (q - m - k) (λ i. pairs_of_sums sb bs i (r - m) (c + m)) ≡ added (q - m) (λ i. pairs_of_sums sb bs i (r - m) (c + m))
+along_column sb c q r m zero bs second within =
+    omega (arith, ap (λ n. added n (λ i. pairs_of_sums sb bs i (r - m) (c + m))) {x = q - m - 0} {y = q - m} (omega arith))
+along_column sb c q r m (suc k) bs second within =
+    let f : ℕ → ℕ = λ i. pairs_of_sums sb bs i (r - m) (c + m) in
+    let x = q - (m + 1 + k) in
+    let here : pairs_among sb c (row q bs (m + 1 + k)) (row r bs m) ≡ f x =
+    pairs-entries sb c (m + 1 + k) m q r bs (omega (arith, within)) second ∙ ap (pairs_of_sums sb bs x (r - m)) (omega arith) in
+    let one : added (q - m - k) f ≡ added x f + f x = ap (λ n. added n f) {y = suc x} (omega (arith, within)) in
+    let less : added (q - m - suc k) f ≡ added x f = ap (λ n. added n f) (omega (arith, within)) in
+    omega (arith, here, one, less, pairs-first sb c (row q bs (m + 1 + k)) (rows q bs (m + 1) k) (row r bs m), along_column sb c q r m k bs second (omega (arith, within)))
+
+-- both vectors begin with entries from m on: one of them with m, or both with greater ones
+peeled : (sb c q r m k l : ℕ) (bs : List ℕ)
+    → pairs_among sb c (rows q bs m (suc k)) (rows r bs m (suc l)) ≡ pairs_among sb c (rows q bs (m + 1) k) (rows r bs (m + 1) l) + (pairs_among sb c (rows q bs (m + 1) k) (row r bs m) + pairs_among sb c (row q bs m) (rows r bs m (suc l)))
+peeled sb c q r m k l bs =
+    let us = rows q bs (m + 1) k in
+    let vs = rows r bs m (suc l) in
+    omega (
+      arith,
+      ap (λ ws. pairs_among sb c ws vs) (rows-first q bs m k),
+      pairs-first sb c us (row q bs m) vs,
+      ap (pairs_among sb c us) (rows-first r bs m l),
+      pairs-second sb c us (rows r bs (m + 1) l) (row r bs m),
+    )
+
+-- ---- running sums
+
+added-both : (n : ℕ) (f g : ℕ → ℕ) → added n (λ i. f i + g i) ≡ added n f + added n g
+added-both zero f g = refl
+added-both (suc n) f g = omega (arith, added-both n f g)
+
+added-none : (n : ℕ) → 0 ≡ added n (λ i. 0)
+added-none zero = refl
+added-none (suc n) = omega (arith, added-none n)
+
+-- no sum is below 0
+pub below-none : (sb x y c : ℕ) (bs : List ℕ) → (x ≡ 0) ⊎ (y ≡ 0) → 0 ≡ pairs_below sb bs x y c
+below-none sb x y c bs (inl none) = ap (λ n. pairs_below sb bs n y c) {x = 0} (sym none)
+below-none sb x y c bs (inr none) = added-none x ∙ ap (λ n. pairs_below sb bs x n c) {x = 0} (sym none)
+
+-- one sum of the first vector more, and one of the second
+below-row : (sb x y c : ℕ) (bs : List ℕ) → pairs_below sb bs (x + 1) y c ≡ pairs_below sb bs x y c + added y (λ j. pairs_of_sums sb bs x j c)
+below-row sb x y c bs = ap (λ n. pairs_below sb bs n y c) {y = suc x} (omega arith)
+
+below-column : (sb x y c : ℕ) (bs : List ℕ) → pairs_below sb bs x (y + 1) c ≡ pairs_below sb bs x y c + added x (λ i. pairs_of_sums sb bs i y c)
+below-column sb x y c bs =
+    ap (λ n. pairs_below sb bs x n c) {y = suc y} (omega arith)
+    ∙ added-both x (λ i. added y (λ j. pairs_of_sums sb bs i j c)) (λ i. pairs_of_sums sb bs i y c)
+
+-- the last cell of a running sum
+pub below-cell : (sb x y c : ℕ) (bs : List ℕ) → pairs_below sb bs (x + 1) (y + 1) c + pairs_below sb bs x y c ≡ pairs_of_sums sb bs x y c + pairs_below sb bs x (y + 1) c + pairs_below sb bs (x + 1) y c
+below-cell sb x y c bs =
+    let f : ℕ → ℕ = λ j. pairs_of_sums sb bs x j c in
+    let one : added (y + 1) f ≡ added y f + f y = ap (λ n. added n f) {y = suc y} (omega arith) in
+    omega (arith, one, below-row sb x y c bs, below-row sb x (y + 1) c bs)
+
+-- ---- a bound more
+
+-- the pairs of which both vectors begin with entries from m on
+abbrev pub pairs_from : ℕ → ℕ → List ℕ → ℕ → ℕ → ℕ → ℕ → ℕ
+pairs_from sb b bs q r c m = pairs_among sb c (rows q bs m (min q b + 1 - m)) (rows r bs m (min r b + 1 - m))
+
+-- at first all
+pub from-start : (sb b c q r : ℕ) (bs : List ℕ) → pairs_from sb b bs q r c 0 ≡ pairs_of_sums sb (b ∷ bs) q r c
+from-start sb b c q r bs =
+    let first : min q b + 1 - 0 ≡ min q b + 1 = omega arith in
+    let second : min r b + 1 - 0 ≡ min r b + 1 = omega arith in
+    ap₂ (λ i j. pairs_among sb c (rows q bs 0 i) (rows r bs 0 j)) first second ∙ pairs-all sb c q r b bs
+
+-- those where the lesser entry is m, by six running sums
+pub from-next : (sb b c q r m x y p s d : ℕ) (bs : List ℕ) → m ≤ min q b → m ≤ min r b → x ≡ q - m → y ≡ r - m → p ≡ q - min q b → s ≡ r - min r b → d ≡ c + m
+    → pairs_from sb b bs q r c m + (pairs_below sb bs (x + 1) s d + pairs_below sb bs p (y + 1) d + pairs_below sb bs x y d)
+    ≡ pairs_from sb b bs q r c (m + 1) + (pairs_below sb bs (x + 1) (y + 1) d + pairs_below sb bs x s d + pairs_below sb bs p y d)
+from-next sb b c q r m x y p s d bs first second x_is y_is p_is s_is d_is =
+    let k = min q b - m in
+    let l = min r b - m in
+    let f : ℕ → ℕ = λ j. pairs_of_sums sb bs (q - m) j (c + m) in
+    let g : ℕ → ℕ = λ i. pairs_of_sums sb bs i (r - m) (c + m) in
+    let many_first : min q b + 1 - m ≡ suc k = omega (arith, first) in
+    let many_second : min r b + 1 - m ≡ suc l = omega (arith, second) in
+    let fewer_first : min q b + 1 - (m + 1) ≡ k = omega (arith, first) in
+    let fewer_second : min r b + 1 - (m + 1) ≡ l = omega (arith, second) in
+    let all : pairs_from sb b bs q r c m ≡ pairs_among sb c (rows q bs m (suc k)) (rows r bs m (suc l)) =
+    ap₂ (λ i j. pairs_among sb c (rows q bs m i) (rows r bs m j)) many_first many_second in
+    let rest : pairs_from sb b bs q r c (m + 1) ≡ pairs_among sb c (rows q bs (m + 1) k) (rows r bs (m + 1) l) =
+    ap₂ (λ i j. pairs_among sb c (rows q bs (m + 1) i) (rows r bs (m + 1) j)) fewer_first fewer_second in
+    let end_is : r + 1 - m - suc l ≡ s = omega (arith, second, s_is) in
+    let far_is : r + 1 - m ≡ y + 1 = omega (arith, second, y_is) in
+    let low_is : q - m - k ≡ p = omega (arith, first, p_is) in
+    let row_end : added (r + 1 - m - suc l) f ≡ added s f = ap (λ n. added n f) end_is in
+    let row_all : added (r + 1 - m) f ≡ added (y + 1) f = ap (λ n. added n f) far_is in
+    let column_end : added (q - m - k) g ≡ added p g = ap (λ n. added n g) low_is in
+    let column_all : added (q - m) g ≡ added x g = ap (λ n. added n g) (sym x_is) in
+    let at_x : (n : ℕ) → added n (λ j. pairs_of_sums sb bs x j d) ≡ added n f = λ n. ap₂ (λ i e. added n (λ j. pairs_of_sums sb bs i j e)) x_is d_is in
+    let at_y : (n : ℕ) → added n (λ i. pairs_of_sums sb bs i y d) ≡ added n g = λ n. ap₂ (λ j e. added n (λ i. pairs_of_sums sb bs i j e)) y_is d_is in
+    omega (
+      arith,
+      all,
+      rest,
+      peeled sb c q r m k l bs,
+      along_row sb c q r m (suc l) bs (omega (arith, first)) (omega (arith, second)),
+      along_column sb c q r m k bs (omega (arith, second)) (omega (arith, first)),
+      row_end,
+      row_all,
+      column_end,
+      column_all,
+      at_x s,
+      at_x (y + 1),
+      at_y p,
+      at_y x,
+      below-row sb x s d bs,
+      below-row sb x (y + 1) d bs,
+      below-column sb x y d bs,
+      below-column sb p y d bs,
+    )
+
+-- none have too much in common
+pairs-unwanted : (sb most c : ℕ) (us vs : List (List ℕ)) → HasNoneAbove sb most → most < c → pairs_among sb c us vs ≡ 0
+pairs-unwanted sb most c [] vs none more = refl
+pairs-unwanted sb most c (u ∷ us) vs none more = omega (arith, among-none sb most c u vs none more, pairs-unwanted sb most c us vs none more)
+
+row-unwanted : (sb most c q r x m l : ℕ) (bs : List ℕ) → HasNoneAbove sb most → most < c + m → m ≤ x → x ≤ q → m + l ≤ r + 1 → pairs_among sb c (row q bs x) (rows r bs m l) ≡ 0
+row-unwanted sb most c q r x m zero bs none more from first within = sym (pairs-none sb c (row q bs x))
+row-unwanted sb most c q r x m (suc l) bs none more from first within =
+    let y = m + l in
+    omega (
+      arith,
+      pairs-second sb c (row q bs x) (row r bs y) (rows r bs m l),
+      pairs-entries sb c x y q r bs first (omega (arith, within)),
+      pairs-unwanted sb most (c + min x y) (bounded_sums (q - x) bs) (bounded_sums (r - y) bs) none (omega (arith, more, from)),
+      row-unwanted sb most c q r x m l bs none more from first (omega (arith, within)),
+    )
+
+rows-unwanted : (sb most c q r m k l : ℕ) (bs : List ℕ) → HasNoneAbove sb most → most < c + m → m + k ≤ q + 1 → m + l ≤ r + 1 → pairs_among sb c (rows q bs m k) (rows r bs m l) ≡ 0
+rows-unwanted sb most c q r m zero l bs none more first second = refl
+rows-unwanted sb most c q r m (suc k) l bs none more first second =
+    omega (
+      arith,
+      pairs-first sb c (row q bs (m + k)) (rows q bs m k) (rows r bs m l),
+      row-unwanted sb most c q r (m + k) m l bs none more (omega arith) (omega (arith, first)) second,
+      rows-unwanted sb most c q r m k l bs none more (omega (arith, first)) second,
+    )
+
+-- none are left
+pub from-end : (sb total most b c q r m : ℕ) (bs : List ℕ) → HasMost sb total most → max q r + c ≤ total → c ≤ most → m ≡ min (min (min q r) b) (most - c) + 1 → pairs_from sb b bs q r c m ≡ 0
+from-end sb total most b c q r m bs none within few m_is =
+    elim (cases_lt (min q b) m) [
+      | inl past ↦ ap (λ n. pairs_among sb c (rows q bs m n) (rows r bs m (min r b + 1 - m))) {y = 0} (omega (arith, past))
+      | inr first ↦
+          elim (cases_lt (min r b) m) [
+            | inl past ↦
+                ap (λ n. pairs_among sb c (rows q bs m (min q b + 1 - m)) (rows r bs m n)) {y = 0} (omega (arith, past))
+                ∙ sym (pairs-none sb c (rows q bs m (min q b + 1 - m)))
+            | inr second ↦
+                rows-unwanted sb most c q r m (min q b + 1 - m) (min r b + 1 - m) bs (none (omega (arith, within, few, m_is, first, second))) (omega (arith, few, m_is, first, second)) (omega (arith, first)) (omega (arith, second))
+          ]
+    ]
 
 -- ---- no bounds
 
-pub pairs-ended : (sb c : ℕ) (wanted : Bool) → is_wanted_size sb c ≡ wanted → kept (cond wanted 1 0) ≡ pair_cell sb [] 0 0 c
+pub pairs-ended : (sb c : ℕ) (wanted : Bool) → is_wanted_size sb c ≡ wanted → cond wanted 1 0 ≡ pairs_of_sums sb [] 0 0 c
 unfolding bounded_sums box
 pairs-ended sb c wanted is =
     let one : bounded_sums 0 [] ≡ [] ∷ [] = refl in
     let vs = bounded_sums 0 [] in
-    ap kept (
     ap (λ (b : Bool). cond b 1 0) (sym is)
     ∙ among-zeros sb c 0 [] [] refl
     ∙ among-reverse sb c [] vs
     ∙ omega (arith, ap (λ us. pairs_among sb c us vs) one)
-    )
 
-none_first : (sb f s c : ℕ) → 0 < f → 0 ≡ pair_cell sb [] f s c
-none_first sb f s c some = sym (ap (λ us. kept (pairs_among sb c us (bounded_sums s []))) (sums-past f [] (omega (arith, some))))
-
-none_second : (sb f s c : ℕ) → 0 < s → 0 ≡ pair_cell sb [] f s c
-none_second sb f s c some =
-    pairs-none sb c (bounded_sums f []) ∙ sym (ap (λ vs. kept (pairs_among sb c (bounded_sums f []) vs)) (sums-past s [] (omega (arith, some))))
-
--- the cells so far
-pub record HasEndedPairs (sb n : ℕ) (table : List ℕ) : Type 0 where
-  pub done : (c : ℕ) → c < n → get_or table (place_of_pairs 0 0 c) 0 ≡ pair_cell sb [] 0 0 c
-  pub left : (f s c : ℕ) → n ≤ place_of_pairs f s c → get_or table (place_of_pairs f s c) 0 ≡ 0
-
-zeros : (n i : ℕ) → ◌≡◌ {A = ℕ} (get_or (replicate n 0) i 0) 0
-zeros zero i = refl
-zeros (suc n) zero = refl
-zeros (suc n) (suc i) = zeros n i
-
-pub pairs-ended_none : (sb n : ℕ) (table : List ℕ) → table ≡ replicate n 0 → HasEndedPairs sb 0 table
-pairs-ended_none sb n table is = record {
-  done = λ c low. absurd (omega (arith, low));
-  left = λ f s c high. ap (λ xs. get_or xs (place_of_pairs f s c) 0) is ∙ zeros n (place_of_pairs f s c);
-}
-
-pub pairs-ended_more : (sb n place count : ℕ) (table : List ℕ) → place < length table → place ≡ place_of_pairs 0 0 n → count ≡ pair_cell sb [] 0 0 n → HasEndedPairs sb n table → HasEndedPairs sb (n + 1) (set table place count)
-pairs-ended_more sb n place count table within place_is is so = record {
-  done = λ c low.
-      elim (cases_lt c n) [
-        | inl earlier ↦
-            get_or-set_other table place (place_of_pairs 0 0 c) count 0 (λ same. omega (arith, same, place_is, earlier)) ∙ so.done c earlier
-        | inr late ↦
-            let here : n ≡ c = omega (arith, low, late) in
-            ap (λ i. get_or (set table place count) i 0) (sym (place_is ∙ ap (place_of_pairs 0 0) here))
-            ∙ get_or-set_same table place count 0 within
-            ∙ is
-            ∙ ap (pair_cell sb [] 0 0) here
-      ];
-  left = λ f s c high.
-      get_or-set_other table place (place_of_pairs f s c) count 0 (λ same. omega (arith, same, place_is, high)) ∙ so.left f s c (omega (arith, high));
-}
-
-pub pairs-ended_all : (sb total n : ℕ) (table : List ℕ) → n ≡ total + 1 → total < 64 → HasEndedPairs sb n table → HasPairs sb total [] table
-pairs-ended_all sb total n table all small so zero zero c within = so.done c (omega (arith, all, within))
-pairs-ended_all sb total n table all small so zero (suc s) c within =
-    so.left zero (suc s) c (omega (arith, all, small)) ∙ none_second sb zero (suc s) c (omega arith)
-pairs-ended_all sb total n table all small so (suc f) s c within =
-    so.left (suc f) s c (omega (arith, all, small)) ∙ none_first sb (suc f) s c (omega arith)
-
--- ---- one bound more
-
-pub pairs-turned_none : (sb total n bound : ℕ) (bounds table : List ℕ) → n ≡ (total + 1) * 64 * 64 → total < 64 → HasPairs sb total bounds table → HasTurnedPairs sb total n bound bounds table
-pairs-turned_none sb total n bound bounds table all small has = record {
-  before = λ f s c within low. has f s c within;
-  from = λ f s c within high. absurd (omega (arith, all, small, within, high));
-}
-
-pub pairs-turned_all : (sb total n bound : ℕ) (bounds table : List ℕ) → n ≤ 0 → HasTurnedPairs sb total n bound bounds table → HasPairs sb total (bound ∷ bounds) table
-pairs-turned_all sb total n bound bounds table none so f s c within = so.from f s c within (omega (arith, none))
-
--- between two places without a cell
-pub pairs-turned_past : (sb total n m bound : ℕ) (bounds table : List ℕ) → m ≤ n
-    → ((f s c : ℕ) → max f s + c ≤ total → m ≤ place_of_pairs f s c → n ≤ place_of_pairs f s c)
-    → HasTurnedPairs sb total n bound bounds table → HasTurnedPairs sb total m bound bounds table
-pairs-turned_past sb total n m bound bounds table down none so = record {
-  before = λ f s c within low. so.before f s c within (omega (arith, low, down));
-  from = λ f s c within high. so.from f s c within (none f s c within high);
-}
-
--- a cell more
-pub pairs-turned_more : (sb total place count bound f s c : ℕ) (bounds table : List ℕ) → total < 64 → max f s + c ≤ total → place < length table → place ≡ place_of_pairs f s c
-    → count ≡ pair_cell sb (bound ∷ bounds) f s c
-    → HasTurnedPairs sb total (place_of_pairs f s c + 1) bound bounds table → HasTurnedPairs sb total (place_of_pairs f s c) bound bounds (set table place count)
-pairs-turned_more sb total place count bound f s c bounds table small inside within place_is is so = record {
-  before = λ g t d few low.
-      get_or-set_other table place (place_of_pairs g t d) count 0 (λ same. omega (arith, same, place_is, low)) ∙ so.before g t d few (omega (arith, low));
-  from = λ g t d few high.
-      elim (cases_lt place (place_of_pairs g t d)) [
-        | inl later ↦
-            get_or-set_other table place (place_of_pairs g t d) count 0 (λ same. omega (arith, same, later)) ∙ so.from g t d few (omega (arith, later, place_is))
-        | inr here ↦
-            let there : place ≡ place_of_pairs g t d = omega (arith, here, high, place_is) in
-            let one = place-apart f s c g t d (omega (arith, inside, small)) (omega (arith, few, small)) (sym place_is ∙ there) in
-            let cell : pair_cell sb (bound ∷ bounds) f s c ≡ pair_cell sb (bound ∷ bounds) g t d = cc (one.0, one.1, one.2) in
-            ap (λ i. get_or (set table place count) i 0) (sym there) ∙ get_or-set_same table place count 0 within ∙ is ∙ cell
-      ];
-}
-
--- the cell of two entries
-pub pairs-read : (sb total c f s x y shared place bound : ℕ) (bounds table : List ℕ) → max f s + c ≤ total → x ≤ f → y ≤ s → shared ≡ c + min x y → place ≡ place_of_pairs (f - x) (s - y) shared
-    → HasTurnedPairs sb total (place_of_pairs f s c + 1) bound bounds table
-    → get_or table place 0 ≡ kept (pairs_of_sums sb bounds (f - x) (s - y) (c + min x y))
-pairs-read sb total c f s x y shared place bound bounds table within first second shared_is place_is so =
-    ap (λ p. get_or table p 0) (place_is ∙ ap (place_of_pairs (f - x) (s - y)) shared_is)
-    ∙ so.before (f - x) (s - y) (c + min x y) (omega (arith, within, first, second)) (omega (arith, within, first, second))
-
--- ---- all bounds
-
-pub pairs-none_in : (sb total k : ℕ) (bounds table : List ℕ) → length bounds ≤ k → HasPairs sb total [] table → HasPairs sb total (drop k bounds) table
-pairs-none_in sb total k bounds table all has = subst (λ bs. HasPairs sb total bs table) (sym (drop_all k bounds all)) has
-
-pub pairs-one_in : (sb total k bound : ℕ) (bounds table : List ℕ) → 0 < k → k ≤ length bounds → bound ≡ get_or bounds (k - 1) 0 → HasPairs sb total (bound ∷ drop k bounds) table → HasPairs sb total (drop (k - 1) bounds) table
-pairs-one_in sb total k bound bounds table some within bound_is has =
-    let next : k - 1 + 1 ≡ k = omega (arith, some) in
-    let first : drop (k - 1) bounds ≡ bound ∷ drop k bounds =
-    drop_more bounds (k - 1) 0 (omega (arith, some, within)) ∙ ap₂ (λ h n. h ∷ drop n bounds) (sym bound_is) next in
-    subst (λ bs. HasPairs sb total bs table) (sym first) has
+pub ended-none : (sb f s c : ℕ) → 0 < f + s → 0 ≡ pairs_of_sums sb [] f s c
+ended-none sb (suc f) s c some = sym (ap (λ us. pairs_among sb c us (bounded_sums s [])) (sums-past (suc f) [] (omega arith)))
+ended-none sb zero s c some =
+    pairs-none sb c (bounded_sums 0 []) ∙ sym (ap (λ vs. pairs_among sb c (bounded_sums 0 []) vs) (sums-past s [] (omega (arith, some))))

@@ -17,6 +17,7 @@ mod descents;
 mod last_entries;
 mod list_counts;
 mod lists;
+mod pair_sums;
 mod pairs;
 mod sizes;
 

@@ -1,8 +1,8 @@
-//! The number of arcs of the subsets' graph, with no list made. Where the vectors are many and their sum is small, they
-//! are counted by pairs; else, or when out of memory, by the descent of the lists, whose arcs from each vector down to the
-//! first are handed to a counter. So each edge is found once, from the later one of its ends.
+//! The number of arcs of the subsets' graph, with no list made. Where a table has room for the sum and the wanted sizes, and is
+//! sooner made than the vectors are walked, pairs are counted; else, or when out of memory, the descent of the lists hands the
+//! arcs from each vector down to the first to a counter. So each edge is found once, from the later one of its ends.
 //!
-//! A walk takes minutes for a thousand million vectors.
+//! A walk takes minutes for a thousand million vectors, a table a tenth of a second at most.
 ghost use Rattle.std.specs.Prelude.{◌≡◌, length, Contains, IfSome};
 ghost use Rattle.sgb_graph.specs.Made.{graph_described};
 ghost use Rattle.sgb_gen.specs.Subsets.{moves_of_subsets, subsets_vector_graph, subsets_vectors};
@@ -20,13 +20,14 @@ use std::alloc::Global;
 
 impl Subsets {
     /// The number of arcs of the graph of the subsets (GB_BASIC, subsets), where an edge counts as two. No arc is made. Of many
-    /// vectors whose sum is below 64, always of more than 8,000, the pairs are counted, bound by bound, in a table of two
-    /// megabytes at most, within some milliseconds. Else, or where memory is refused, the vectors are walked, and of each the
-    /// joined ones up to it are counted, by their beginnings.
+    /// vectors the pairs are counted, bound by bound, in a table of two megabytes at most, within some milliseconds: where the
+    /// square of their sum and one, times the greatest wanted size and one, is at most 262,144, so always where the sum is
+    /// below 64. Else, or where memory is refused, the vectors are walked, and of each the joined ones up to it are counted,
+    /// by their beginnings.
     pub fn arcs_count(&self, alloc: Global) -> u128
         ensures { result ≡ (graph_described (described_by (subsets_vector_graph self.now))).m }
     {
-        let moves = match self.moves_by_table(alloc) {
+        let moves = match self.moves_by_pairs(alloc) {
             Some(moves) => moves,
             None => self.moves_by_walk(),
         };
@@ -39,7 +40,7 @@ impl Subsets {
         ensures { IfSome result (λ m.
             m ≡ (graph_described (described_by (subsets_vector_graph self.now))).m) }
     {
-        let moves = self.moves_by_table(alloc)?;
+        let moves = self.moves_by_pairs(alloc)?;
         Some(self.arcs_of(moves))
     }
 
@@ -52,16 +53,6 @@ impl Subsets {
             return u128::from(moves);
         }
         u128::from(moves) * 2
-    }
-
-    // The number of moves by pairs, where the vectors are many, their sum is small and there is memory.
-    fn moves_by_table(&self, alloc: Global) -> Option<u64>
-        ensures { IfSome result (λ n. n ≡ length (moves_of_subsets self.now)) }
-    {
-        if !self.has_many_pairs() {
-            return None;
-        }
-        self.moves_by_pairs(alloc)
     }
 
     // The number of moves, by a walk.
