@@ -2,7 +2,7 @@
 //! sooner made than the vectors are walked, pairs are counted; else, or when out of memory, the descent of the lists hands the
 //! arcs from each vector down to the first to a counter. So each edge is found once, from the later one of its ends.
 //!
-//! A walk takes minutes for a thousand million vectors, a table a tenth of a second at most.
+//! A walk takes minutes for a thousand million vectors, a table a few tenths of a second at most.
 ghost use Rattle.std.specs.Prelude.{◌≡◌, length, Contains, IfSome};
 ghost use Rattle.sgb_graph.specs.Made.{graph_described};
 ghost use Rattle.sgb_gen.specs.Subsets.{moves_of_subsets, subsets_vector_graph, subsets_vectors};

@@ -3,7 +3,7 @@
 //! The pairs are taken by the lesser of their first entries. Where it is known, one of the two sums that are left is known too,
 //! and the other one is among some in a row: running sums tell how many pairs there are. So the table is turned into running
 //! sums first, and then, from its last cell to its first, into that with the bound.
-ghost use Rattle.std.specs.Prelude.{◌≡◌, ◌+◌, ◌-◌, ◌%◌, ◌^◌, ◌≤◌, ◌<◌, ◌∷◌, ℕ, List, max, length};
+ghost use Rattle.std.specs.Prelude.{◌≡◌, ◌+◌, ◌%◌, ◌^◌, ◌≤◌, ◌<◌, ◌∷◌, ℕ, List, max, length};
 ghost use Rattle.sgb_gen.specs.inner.SubsetsPairs.{AreSummed, HasCounts, HasMost, HasRoom, IsTurned, cell_count, pairs_below, pairs_of_sums, pairs_up_to, place_of_pairs};
 
 // What a table has room for: sums up to the total, and at most so many elements in common before.
