@@ -176,8 +176,12 @@ pub mod BoardCountsBoards
 pub mod BoardCountsSides
 -- the moves of all lengths together, by a displacement that at most one side stops
 pub mod BoardCountsTotals
+-- sums over all vectors of a norm, by their first entries
+pub mod NormSums
 -- from how many places steps lead to a place, by all vectors of a norm together
 pub mod NormCounts
+-- the lengths at which riders are home again, by all vectors of a norm together
+pub mod HomeCounts
 -- the moves of a board, by all displacements together
 pub mod NormTotals
 -- when a step around a side is back

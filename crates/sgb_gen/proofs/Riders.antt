@@ -75,25 +75,25 @@ rider-stops sides x t b =
 abbrev numbers_to : ℕ → List ℕ
 numbers_to n = range_with_len 1 n
 
-abbrev passing : (ℕ → Bool) → ℕ → ℕ
+abbrev pub passing : (ℕ → Bool) → ℕ → ℕ
 passing p n = prefix_len p (numbers_to n)
 
 -- the i-th of them is i + 1
 number_at : (n i d : ℕ) → i < n → get_or (numbers_to n) i d ≡ i + 1
 number_at n i d h = get_or-range_with_len 1 n i d h ∙ omega arith
 
-passing-le : (p : ℕ → Bool) (n : ℕ) → passing p n ≤ n
+pub passing-le : (p : ℕ → Bool) (n : ℕ) → passing p n ≤ n
 passing-le p n = omega (arith, prefix_len-le-length p (numbers_to n), length-range_with_len 1 n)
 
 -- each of them passes
-passing_passes : (p : ℕ → Bool) (n k : ℕ) → 1 ≤ k → k ≤ passing p n → p k ≡ true
+pub passing_passes : (p : ℕ → Bool) (n k : ℕ) → 1 ≤ k → k ≤ passing p n → p k ≡ true
 passing_passes p n zero h g = absurd (omega arith)
 passing_passes p n (suc k) h g =
     let at : get_or (numbers_to n) k 0 ≡ suc k = number_at n k 0 (omega (arith, passing-le p n)) ∙ omega arith in
     ap p (sym at) ∙ prefix_len_passes p (numbers_to n) k 0 (omega arith)
 
 -- the next one, if there is one, does not
-next_fails : (p : ℕ → Bool) (n : ℕ) → passing p n < n → p (passing p n + 1) ≡ false
+pub next_fails : (p : ℕ → Bool) (n : ℕ) → passing p n < n → p (passing p n + 1) ≡ false
 next_fails p n h =
     let within : passing p n < length (numbers_to n) = omega (arith, length-range_with_len 1 n) in
     ap p (sym (number_at n (passing p n) 0 h)) ∙ prefix_len_stops p (numbers_to n) 0 within

@@ -15,13 +15,13 @@ both_zero (suc a) zero f g = absurd (omega (arith, g refl))
 both_zero (suc a) (suc b) f g = grind (arith, cases_Bool, eqb, eqb-true)
 
 -- a is some times n
-abbrev IsTimes : ℕ → ℕ → Type 0
+abbrev pub IsTimes : ℕ → ℕ → Type 0
 IsTimes n a = (c : ℕ) × (a ≡ c * n)
 
-times-from : (n a : ℕ) → 0 < n → a % n ≡ 0 → IsTimes n a
+pub times-from : (n a : ℕ) → 0 < n → a % n ≡ 0 → IsTimes n a
 times-from n a some e = (a / n, omega (arith, e, some))
 
-times-to : (n a c : ℕ) → a ≡ c * n → a % n ≡ 0
+pub times-to : (n a c : ℕ) → a ≡ c * n → a % n ≡ 0
 times-to n a c e = ap (λ m. m % n) e ∙ mul-mod_left c n
 
 -- equal products of a number that is not 0

@@ -44,6 +44,8 @@ pub mod KeptCounts
 pub mod BoardCounts
 -- the same by all vectors of a norm together
 pub mod NormCounts
+-- the lengths at which riders are home again, by all vectors of a norm together
+pub mod HomeCounts
 -- from how many vectors of a simplex a unit goes from one place to another
 pub mod SimplexCounts
 -- how many moves subsets have, vector by vector

@@ -19,6 +19,7 @@ mod counts;
 mod edges;
 mod flat_boards;
 mod given;
+mod home_counts;
 mod list_counts;
 mod lists;
 mod norm_counts;

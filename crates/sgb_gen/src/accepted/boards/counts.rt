@@ -3,7 +3,8 @@
 //! It goes by displacements. Where all sides that one moves on wrap around, each place has as many moves by it as there
 //! are lengths before a rider is home. Where one side does not, the places from which it moves so far fall by equal
 //! steps from length to length, and are added by a formula. Where two or more do not, it goes length by length, of
-//! which there are at most 31,622. Very many displacements are counted together, where they can be (`norm_counts`).
+//! which there are at most 31,622. Very many displacements are counted together, where they can be (`norm_counts`,
+//! `home_counts`).
 //!
 //! A board that wraps around in hundreds of dimensions has more arcs than 128 bits count. The answer is out of memory
 //! then, and exactly then (`great`): such a listing could never be written.
@@ -38,9 +39,11 @@ const STEPS_WALKED: u64 = 16;
 impl Board {
     /// The number of arcs of the board's graph (GB_BASIC, board), where an edge counts as two. It is found by
     /// displacements, with no arc made: at once for each that moves on at most one side that does not wrap around, and
-    /// length by length for the others. Those of a leaper, or where no side wraps around, may be counted together, by a
-    /// row of numbers. Where the piece is 64 or more, and at most 131,071, the row takes 16 bytes for each number up to
-    /// the piece; where these are refused, the count goes on without it.
+    /// length by length for the others. Where they are very many they may be counted together, by a row of numbers, and
+    /// for a rider by a table of the lengths at which it is home, too. Where the piece is 64 or more, and at most 131,071,
+    /// the row takes 16 bytes for each number up to the piece. The table has such a row for each divisor of the least
+    /// common multiple of the sizes that wrap around, at most two megabytes together, and beside it room for the places of
+    /// these lengths, which takes less. Where memory is refused, the count goes on without them.
     ///
     /// `NoRoom` where the number is 2^128 or more, and nothing else: only a board that wraps around in hundreds of
     /// dimensions has so many arcs, and no time would do to list them.
@@ -272,7 +275,7 @@ fn turns(size: u32, wraps: bool, t: i32, steps: u32) -> u32
 }
 
 // The least number of times `step`, above 0, that is some times `size`, found as their greatest common divisor is.
-fn times_around(size: u32, step: u32) -> u32
+pub(super) fn times_around(size: u32, step: u32) -> u32
     requires { step < size }
     ensures some { 0 < result }
     ensures small { result ≤ size }
