@@ -34,7 +34,7 @@ const FEW_STEPS: u64 = 40_000;
 const FEW_WALKED: u64 = 1_000;
 
 // A displacement takes as long as so many of these steps, or longer.
-const STEPS_WALKED: u64 = 16;
+const STEPS_WALKED: u64 = 256;
 
 impl Board {
     /// The number of arcs of the board's graph (GB_BASIC, board), where an edge counts as two. It is found by

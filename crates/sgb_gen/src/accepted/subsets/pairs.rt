@@ -124,7 +124,9 @@ fn most_walked(sides: Sides, bounds: &[u32]) -> u64 {
     }
     let mut most: u64 = 0;
     for bound in bounds {
-        let entries = (sides.total as u64).min(u64::from(*bound)).saturating_add(1);
+        let entries = (sides.total as u64)
+            .min(u64::from(*bound))
+            .saturating_add(1);
         most = most.saturating_add(entries.saturating_mul(entries).saturating_mul(8));
     }
     most.min(MOST_WALKED)
