@@ -126,6 +126,8 @@ mod FallingPlaces
 pub mod OnwardStarts
 -- steps of a coordinate on a side, and whether they lead to others
 mod WaysAround
+-- steps around a side that lead to one of some coordinates
+mod Progressions
 -- moves from a vector, length by length
 pub mod BoardWalks
 -- moves that never come home, at one look

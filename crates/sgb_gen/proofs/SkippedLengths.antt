@@ -1,5 +1,5 @@
 -- The lengths of moves from a vector that lead to no vertex of a range.
-use Rattle.std.proofs.Common.{◌≡◌, ℕ, zero, suc, ◌+◌, ◌-◌, ◌*◌, ◌<◌, ◌≤◌, ℤ, pos, ◌+ℤ◌, ◌*ℤ◌, nat_abs, Bool, true, false, not, cond, List, [], ◌∷◌, ◌++◌, length, map, get_or, Option, Some, refl, sym, ap, subst, ◌∙◌, inl, inr, arith, append-nil, length-append}
+use Rattle.std.proofs.Common.{◌≡◌, ℕ, zero, suc, ◌+◌, ◌-◌, ◌*◌, ◌%◌, ◌<◌, ◌≤◌, ℤ, pos, ◌+ℤ◌, ◌*ℤ◌, nat_abs, Bool, true, false, not, cond, List, [], ◌∷◌, ◌++◌, length, map, get_or, Option, Some, refl, sym, ap, subst, ◌∙◌, inl, inr, arith, append-nil, length-append}
 use Rattle.std.specs.Prelude.{◌==◌}
 use Rattle.std.specs.List.{filter, range_with_len, slice_get}
 use Rattle.std.specs.Int.{int_rem_euclid}
@@ -27,7 +27,7 @@ use Rattle.sgb_gen.proofs.FallingPlaces.{coordinate_there}
 use Rattle.sgb_gen.proofs.Reaches.{destination-below, destination-place, move}
 use Rattle.sgb_gen.proofs.StartRanges.{within_is as range_is}
 use Rattle.sgb_gen.proofs.StrideTips.{within_is}
-use Rattle.sgb_gen.proofs.TurnedMoves.{rem-moved}
+use Rattle.sgb_gen.proofs.TurnedMoves.{rem-moved, rem-times}
 use Rattle.sgb_gen.proofs.Vertices.{vertex_in_box}
 
 -- ---- coordinates between those of two vectors
@@ -94,18 +94,28 @@ later false n a l j y t some e =
     let sum : z +ℤ pos j *ℤ t ≡ pos a +ℤ pos (l + j) *ℤ t = grind (arith, ints) in
     ap (λ i. coordinate_on (record { size = n; wraps = false }) (i +ℤ pos j *ℤ t)) (within_is n y z e) ∙ ap (coordinate_on (record { size = n; wraps = false })) sum
 
--- where it is not between two numbers, the vector there is not between these vectors
-pub moved_out : (sizes : List ℕ) (wrap : ℤ) (x : List ℕ) (t : List ℤ) (l j : ℕ) (y : List ℕ) (k n c : ℕ) (least greatest : List ℕ) → IsBelow x sizes → k < length sizes → place (sides_of sizes wrap) x t (l + j) ≡ Some y
-    → part_at sizes wrap x l (k, get_or t k (pos 0)) ≡ Some c
-    → Misses (record { size = get_or sizes k 0; wraps = is_bit_set wrap k }) (get_or least k 0) (get_or greatest k 0) (pos c +ℤ pos j *ℤ get_or t k (pos 0))
-    → IsBetween n least greatest y → k < n → ⊥
-moved_out sizes wrap x t l j y k n c least greatest below within there here misses between few =
-    let same : 0 + k ≡ k = omega arith in
-    let size : 0 < get_or sizes k 0 = omega (arith, IsBelow-at sizes x k below (omega (arith, within, IsBelow-length sizes x below))) in
-    let at : coordinate_on (record { size = get_or sizes k 0; wraps = is_bit_set wrap k }) (pos (get_or x k 0) +ℤ pos (l + j) *ℤ get_or t k (pos 0)) ≡ Some (get_or y k 0) =
-    subst (λ i. coordinate_on (record { size = get_or sizes k 0; wraps = is_bit_set wrap i }) (pos (get_or x k 0) +ℤ pos (l + j) *ℤ get_or t k (pos 0)) ≡ Some (get_or y k 0)) same (coordinate_there 0 sizes wrap x t (l + j) y k there within) in
-    let b = between k few in
-    misses (get_or y k 0) (later (is_bit_set wrap k) (get_or sizes k 0) (get_or x k 0) l j c (get_or t k (pos 0)) size here ∙ at) b.0 b.1
+module _ (sizes : List ℕ) (wrap : ℤ) (x : List ℕ) (t : List ℤ) (k l c : ℕ) (below : IsBelow x sizes) (within : k < length sizes) (here : part_at sizes wrap x l (k, get_or t k (pos 0)) ≡ Some c) where
+  coordinate_after : (j : ℕ) (y : List ℕ) → place (sides_of sizes wrap) x t (l + j) ≡ Some y
+      → coordinate_on (record { size = get_or sizes k 0; wraps = is_bit_set wrap k }) (pos c +ℤ pos j *ℤ get_or t k (pos 0)) ≡ Some (get_or y k 0)
+  coordinate_after j y there =
+      let same : 0 + k ≡ k = omega arith in
+      let size : 0 < get_or sizes k 0 = omega (arith, IsBelow-at sizes x k below (omega (arith, within, IsBelow-length sizes x below))) in
+      later (is_bit_set wrap k) (get_or sizes k 0) (get_or x k 0) l j c (get_or t k (pos 0)) size here
+      ∙ subst (λ i. coordinate_on (record { size = get_or sizes k 0; wraps = is_bit_set wrap i }) (pos (get_or x k 0) +ℤ pos (l + j) *ℤ get_or t k (pos 0)) ≡ Some (get_or y k 0)) same (coordinate_there 0 sizes wrap x t (l + j) y k there within)
+
+  -- on a side that wraps around, after some strides more
+  pub coordinate_around : (i s : ℕ) (y : List ℕ) → is_bit_set wrap k ≡ true → place (sides_of sizes wrap) x t (l + i * s) ≡ Some y
+      → (c + i * nat_abs (int_rem_euclid (pos s *ℤ get_or t k (pos 0)) (pos (get_or sizes k 0)))) % get_or sizes k 0 ≡ get_or y k 0
+  coordinate_around i s y wraps there =
+      let size : 0 < get_or sizes k 0 = omega (arith, IsBelow-at sizes x k below (omega (arith, within, IsBelow-length sizes x below))) in
+      rem-times (get_or sizes k 0) c i s (get_or t k (pos 0)) size
+      ∙ same_Some _ (get_or y k 0) (subst (λ w. coordinate_on (record { size = get_or sizes k 0; wraps = w }) (pos c +ℤ pos (i * s) *ℤ get_or t k (pos 0)) ≡ Some (get_or y k 0)) wraps (coordinate_after (i * s) y there))
+
+  -- on a side that does not, after some steps more
+  pub moved_out : (j : ℕ) (y : List ℕ) (a z : ℕ) → is_bit_set wrap k ≡ false → place (sides_of sizes wrap) x t (l + j) ≡ Some y → Misses (record { size = get_or sizes k 0; wraps = false }) a z (pos c +ℤ pos j *ℤ get_or t k (pos 0))
+      → a ≤ get_or y k 0 → get_or y k 0 ≤ z → ⊥
+  moved_out j y a z ends there misses low high =
+      misses (get_or y k 0) (subst (λ w. coordinate_on (record { size = get_or sizes k 0; wraps = w }) (pos c +ℤ pos j *ℤ get_or t k (pos 0)) ≡ Some (get_or y k 0)) ends (coordinate_after j y there)) low high
 
 -- ---- moves of each length up to a last one
 

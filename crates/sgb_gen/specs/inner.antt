@@ -34,6 +34,8 @@ pub mod Subsets
 pub mod MovedCoordinates
 -- a list that is had run by run
 pub mod StraightLists
+-- numbers of steps one after another, and those that lead to one of some coordinates
+pub mod Progressions
 -- how far a displacement leads on among the vectors
 pub mod Strides
 -- moves from the vectors of a row

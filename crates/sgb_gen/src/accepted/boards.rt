@@ -25,6 +25,7 @@ mod lists;
 mod norm_counts;
 mod ordered_boards;
 mod orders;
+mod progressions;
 mod rows;
 mod runs;
 mod skips;

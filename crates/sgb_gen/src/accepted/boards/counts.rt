@@ -274,7 +274,7 @@ fn turns(size: u32, wraps: bool, t: i32, steps: u32) -> u32
     times_around(size, (step % u64::from(size)) as u32)
 }
 
-// The least number of times `step`, above 0, that is some times `size`, found as their greatest common divisor is.
+/// The least number of times `step`, above 0, that is some times `size`, found as their greatest common divisor is.
 pub(super) fn times_around(size: u32, step: u32) -> u32
     requires { step < size }
     ensures some { 0 < result }

@@ -1,14 +1,17 @@
 //! Lengths of moves that are passed over, since none of them leads to a vertex of a range.
 //!
 //! The first coordinates of the range's vectors are those of the first of them, for as long as the last one has the same, and the
-//! next coordinate is between theirs. Where a move leads elsewhere by one of these coordinates, so do all that are made before
-//! this coordinate comes there.
-ghost use Rattle.std.specs.Prelude.{◌≡◌, ◌+◌, ◌<◌, ◌≤◌, ◌*◌, ◌+ℤ◌, ◌*ℤ◌, ℕ, List, get_or, length, neg_ℤ, pos, IfNone, IfSome, Some};
+//! next coordinate is between theirs. Of the lengths of moves those are left by which one of these coordinates after another may
+//! be there: on a side that wraps around they stand equally far apart (`progressions`), on one that does not the first of them
+//! comes later. The first that is left at last is the next to be looked at.
+ghost use Rattle.std.specs.Prelude.{◌≡◌, ◌+◌, ◌<◌, ◌≤◌, ◌*◌, ◌+ℤ◌, ◌*ℤ◌, ℕ, List, false, get_or, length, neg_ℤ, pos, IfNone, IfSome, Some};
 ghost use Rattle.sgb_vec.specs.Lexicographic.{IsBelow};
-ghost use Rattle.sgb_gen.specs.Moves.{place, sides_of};
+ghost use Rattle.sgb_gen.specs.Moves.{is_bit_set, place, sides_of};
+ghost use Rattle.sgb_gen.specs.inner.Progressions.{IsAmong, Rises};
 ghost use Rattle.sgb_gen.specs.inner.VertexBounds.{AreBounds, IsBetween, Misses};
 
 use super::Board;
+use super::progressions::Progression;
 use crate::moves::{part_at, wraps};
 use crate::start_ranges::StartRange;
 use crate::steps::Step;
@@ -59,23 +62,75 @@ impl Board {
             → place (sides_of self.now.sizes self.now.wrap) x.now t.now (l + j) ≡ Some y
             → IsBetween count least.now greatest.now y → ⊥ }
     {
-        let entries = t.entries();
-        let mut steps = 1;
+        let mut steps = Progression::all_from(1);
         for k in 0..count {
-            let Some(y) = part_at(self.sizes(), self.wrap, x, l, k, entries[k]) else {
-                return steps;
-            };
-            let needed = steps_to(
-                self.sizes()[k],
-                wraps(self.wrap, k),
-                y,
-                entries[k],
-                least[k],
-                greatest[k],
-            );
-            steps = steps.max(needed);
+            steps = self.steps_at(x, t, l, k, steps, least[k], greatest[k]);
         }
-        steps
+        steps.first
+    }
+
+    // Those of so many steps from length `l` on that may lead to a vector whose coordinate number `k` is from `least` to
+    // `greatest`, and maybe others.
+    fn steps_at(
+        &self,
+        x: &[u32],
+        t: &Step,
+        l: u32,
+        k: usize,
+        steps: Progression,
+        least: u32,
+        greatest: u32,
+    ) -> Progression
+        requires below { IsBelow x.now self.now.sizes }
+        requires dimensions { length t.now ≡ length self.now.sizes }
+        requires within { k < length self.now.sizes }
+        requires some { Rises steps }
+        ensures some { Rises result }
+        ensures all { (j : ℕ) (y : List ℕ) → IsAmong steps j
+            → place (sides_of self.now.sizes self.now.wrap) x.now t.now (l + j) ≡ Some y
+            → least ≤ get_or y k 0 → get_or y k 0 ≤ greatest
+            → IsAmong result j }
+    {
+        let (size, entry) = (self.sizes()[k], t.entries()[k]);
+        if !wraps(self.wrap, k) {
+            return self.steps_along(x, t, l, k, steps, least, greatest);
+        }
+        let Some(there) = l.checked_add(steps.first) else {
+            return steps;
+        };
+        let Some(y) = part_at(self.sizes(), self.wrap, x, there, k, entry) else {
+            return steps;
+        };
+        steps.around(size, y, entry, least, greatest)
+    }
+
+    // The same on a side that does not wrap around.
+    fn steps_along(
+        &self,
+        x: &[u32],
+        t: &Step,
+        l: u32,
+        k: usize,
+        steps: Progression,
+        least: u32,
+        greatest: u32,
+    ) -> Progression
+        requires below { IsBelow x.now self.now.sizes }
+        requires dimensions { length t.now ≡ length self.now.sizes }
+        requires within { k < length self.now.sizes }
+        requires ends { is_bit_set self.now.wrap k ≡ false }
+        requires some { Rises steps }
+        ensures some { Rises result }
+        ensures all { (j : ℕ) (y : List ℕ) → IsAmong steps j
+            → place (sides_of self.now.sizes self.now.wrap) x.now t.now (l + j) ≡ Some y
+            → least ≤ get_or y k 0 → get_or y k 0 ≤ greatest
+            → IsAmong result j }
+    {
+        let (size, entry) = (self.sizes()[k], t.entries()[k]);
+        let Some(y) = part_at(self.sizes(), self.wrap, x, l, k, entry) else {
+            return steps;
+        };
+        steps.from(steps_to(size, y, entry, least, greatest))
     }
 }
 
@@ -95,19 +150,19 @@ fn alike(one: &[u32], other: &[u32]) -> usize
 
 // After so many steps by `t` from the coordinate `y` on there may be a coordinate from `least` to `greatest`; no step before leads to
 // one.
-fn steps_to(size: u32, wraps: bool, y: u32, t: i32, least: u32, greatest: u32) -> u32
+fn steps_to(size: u32, y: u32, t: i32, least: u32, greatest: u32) -> u32
     requires { y < size }
     ensures some { 0 < result }
     ensures away { (j : ℕ) → 0 < j → j < result
-        → Misses (record { size = size; wraps = wraps }) least greatest (pos y +ℤ pos j *ℤ t) }
+        → Misses (record { size = size; wraps = false }) least greatest (pos y +ℤ pos j *ℤ t) }
 {
     if t == 0 {
-        return steps_over(way_there(size, wraps, y, least, greatest), 1);
+        return steps_over(way_there(size, y, least, greatest), 1);
     }
     if t > 0 {
-        return steps_over(way_up(size, wraps, y, least, greatest), t.unsigned_abs());
+        return steps_over(way_up(size, y, least, greatest), t.unsigned_abs());
     }
-    steps_over(way_down(size, wraps, y, least, greatest), t.unsigned_abs())
+    steps_over(way_down(size, y, least, greatest), t.unsigned_abs())
 }
 
 // How many steps it takes at least to go so far, one at least; where there is no end to it more than any move has.
@@ -123,11 +178,11 @@ fn steps_over(way: Option<u32>, step: u32) -> u32
 }
 
 // How far it is where `y` stays. `None` where it is never from `least` to `greatest`.
-fn way_there(size: u32, wraps: bool, y: u32, least: u32, greatest: u32) -> Option<u32>
+fn way_there(size: u32, y: u32, least: u32, greatest: u32) -> Option<u32>
     requires { y < size }
     ensures some { IfSome result (λ w. w ≡ 0) }
     ensures none { IfNone result
-        (Misses (record { size = size; wraps = wraps }) least greatest (pos y)) }
+        (Misses (record { size = size; wraps = false }) least greatest (pos y)) }
 {
     if y >= least && y <= greatest {
         return Some(0);
@@ -136,12 +191,12 @@ fn way_there(size: u32, wraps: bool, y: u32, least: u32, greatest: u32) -> Optio
 }
 
 // How far it is up from `y` to a coordinate from `least` to `greatest`. `None` where none comes.
-fn way_up(size: u32, wraps: bool, y: u32, least: u32, greatest: u32) -> Option<u32>
+fn way_up(size: u32, y: u32, least: u32, greatest: u32) -> Option<u32>
     requires { y < size }
     ensures some { IfSome result (λ w. (m : ℕ) → m < w
-        → Misses (record { size = size; wraps = wraps }) least greatest (pos y +ℤ pos m)) }
+        → Misses (record { size = size; wraps = false }) least greatest (pos y +ℤ pos m)) }
     ensures none { IfNone result ((m : ℕ)
-        → Misses (record { size = size; wraps = wraps }) least greatest (pos y +ℤ pos m)) }
+        → Misses (record { size = size; wraps = false }) least greatest (pos y +ℤ pos m)) }
 {
     if y < least {
         return Some(least - y);
@@ -149,28 +204,22 @@ fn way_up(size: u32, wraps: bool, y: u32, least: u32, greatest: u32) -> Option<u
     if y <= greatest {
         return Some(0);
     }
-    if wraps {
-        return Some(size - y + least);
-    }
     None
 }
 
 // The same down.
-fn way_down(size: u32, wraps: bool, y: u32, least: u32, greatest: u32) -> Option<u32>
+fn way_down(size: u32, y: u32, least: u32, greatest: u32) -> Option<u32>
     requires { y < size }
     ensures some { IfSome result (λ w. (m : ℕ) → m < w
-        → Misses (record { size = size; wraps = wraps }) least greatest (pos y +ℤ neg_ℤ (pos m))) }
+        → Misses (record { size = size; wraps = false }) least greatest (pos y +ℤ neg_ℤ (pos m))) }
     ensures none { IfNone result ((m : ℕ)
-        → Misses (record { size = size; wraps = wraps }) least greatest (pos y +ℤ neg_ℤ (pos m))) }
+        → Misses (record { size = size; wraps = false }) least greatest (pos y +ℤ neg_ℤ (pos m))) }
 {
     if y > greatest {
         return Some(y - greatest);
     }
     if y >= least {
         return Some(0);
-    }
-    if wraps {
-        return Some(y + size.saturating_sub(greatest));
     }
     None
 }

@@ -1,0 +1,11 @@
+use Rattle.std.proofs.Common.{◌<◌, arith, rules}
+use Rattle.sgb_gen.proofs.Progressions.{not_before}
+use Rattle.sgb_gen.proofs.SkippedLengths.{moved_out}
+use Rattle.sgb_gen.proofs.accepted.boards.Board.steps_along.Goals as goal
+
+pub returns-clause-all : goal.returns-clause-all
+returns-clause-all c = λ j y among there low high.
+    let some : 0 < j = omega (arith, among.1, c.requires.some.0) in
+    let enough = not_before j c.steps_to.result (λ less.
+    moved_out c.args.self.now.sizes c.args.self.now.wrap c.args.x.now c.args.t.now c.args.k c.args.l c.in-Some.y c.requires.below c.requires.within (search rules) j y c.args.least c.args.greatest c.requires.ends there (search (rules, some, less)) low high) in
+    c.from.ensures.all j enough among

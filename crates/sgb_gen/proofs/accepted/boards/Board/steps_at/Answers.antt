@@ -1,0 +1,13 @@
+use Rattle.std.proofs.Common.{◌≡◌, ◌+◌, ◌*◌, Some, subst, sym, arith, rules}
+use Rattle.sgb_gen.specs.Moves.{place, sides_of}
+use Rattle.sgb_gen.specs.inner.Progressions.{IsAmong}
+use Rattle.sgb_gen.proofs.SkippedLengths.{coordinate_around}
+use Rattle.sgb_gen.proofs.accepted.boards.Board.steps_at.Goals as goal
+
+pub returns-clause-all : goal.returns-clause-all
+returns-clause-all c = λ j y (i, is) there low high.
+    let from : c.in-Some.there ≡ c.args.l + c.args.steps.first = search rules in
+    let length : c.args.l + j ≡ c.in-Some.there + i * c.args.steps.stride = omega (arith, from, is) in
+    let at = coordinate_around c.args.self.now.sizes c.args.self.now.wrap c.args.x.now c.args.t.now c.args.k c.in-Some.there c.in-Some-part_at.y c.requires.below c.requires.within (search rules) i c.args.steps.stride y (search rules)
+    (subst (λ m. place (sides_of c.args.self.now.sizes c.args.self.now.wrap) c.args.x.now c.args.t.now m ≡ Some y) length there) in
+    subst (IsAmong c.around.result) (sym is) (search (rules, at, low, high))
