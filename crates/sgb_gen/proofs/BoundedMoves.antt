@@ -1,7 +1,7 @@
 -- A displacement with an entry above its bound leads to no place of a board, so the moves of a board are those by the
 -- displacements within the bounds. So it is with the bounds of one vector, and what leads from there.
 use Rattle.std.proofs.lemmas.Nat.{mul-le}
-use Rattle.std.proofs.Common.{append_assoc, length-append, ◌≡◌, ℕ, zero, suc, ◌+◌, ◌-◌, ◌<◌, ◌≤◌, max, min, ℤ, pos, negsuc, ◌+ℤ◌, ◌*ℤ◌, nat_abs, Bool, true, cond, eqb, ltb, List, [], ◌∷◌, ◌++◌, length, map, replicate, get_or, drop, Option, Some, None, refl, sym, ap, subst, ◌∙◌, inl, inr, arith}
+use Rattle.std.proofs.Common.{append_assoc, length-append, ◌≡◌, ℕ, zero, suc, ◌+◌, ◌-◌, ◌<◌, ◌≤◌, max, min, ℤ, pos, negsuc, ◌+ℤ◌, ◌*ℤ◌, nat_abs, Bool, true, false, true≢false, ◌&&◌, cond, eqb, ltb, List, [], ◌∷◌, ◌++◌, length, map, replicate, get_or, drop, Option, Some, None, refl, sym, ap, subst, ◌∙◌, inl, inr, arith}
 use Rattle.std.specs.List.{filter, flat_map, range_with_len}
 use Rattle.std.specs.Option.{is_some, option_map_or}
 use Rattle.std.proofs.lemmas.Bool.{cases_Bool, cases_lt, cond-true, cond-false, lt-ltb, le-ltb, eqb-true}
@@ -9,7 +9,7 @@ use Rattle.std.proofs.lemmas.Bool.Decides.{nat_tests}
 use Rattle.std.proofs.lemmas.Grind.{flat_map-append}
 use Rattle.std.proofs.lemmas.Int.{ints}
 use Rattle.std.proofs.lemmas.List.{at_drop_more, get_or-map, get_or-replicate, length-map, length-replicate}
-use Rattle.std.proofs.lemmas.List.Elements.{length_all_zip, All-weaker, AllZip-get_or, Contains-get_or}
+use Rattle.std.proofs.lemmas.List.Elements.{length_all_zip, AllZip-get_or, Contains-get_or}
 use Rattle.std.proofs.lemmas.List.Folds.{flat_map-map}
 use Rattle.sgb_vec.specs.Boxes.{box}
 use Rattle.sgb_vec.specs.Lexicographic.{IsBelow, IsWithin}
@@ -19,13 +19,14 @@ use Rattle.sgb_gen.specs.Boards.{BoardData, moves_of_board}
 use Rattle.sgb_gen.specs.Displacements.{signings, sum_of_squares, vectors_of_norm, displacements}
 use Rattle.sgb_gen.specs.inner.EntryBounds.{entry_bound, entry_bounds, near_bound, near_bounds, vectors_within, displacements_within}
 use Rattle.sgb_gen.specs.Moves.{Side, is_bit_set, sides_from_bit, sides_of, within_size, coordinate_on, in_front, is_elsewhere, place, moves_from, board_moves}
+use Rattle.sgb_gen.specs.inner.LaterDisplacements.{is_signed}
 use Rattle.sgb_gen.specs.inner.Moves.{destination, longest_move}
 use Rattle.sgb_gen.specs.inner.LocalBoards.{moves_by}
 use Rattle.sgb_gen.specs.VectorGraphs.{event_among}
 use Rattle.sgb_gen.proofs.AllVectors.{flat_map-same, rows-cut}
 use Rattle.sgb_gen.proofs.BoardEvents.{events_by, events_by-moves, events_of}
 use Rattle.sgb_gen.proofs.Completions.{squares-cons}
-use Rattle.sgb_gen.proofs.DisplacementLengths.{HasSizes, signings-sizes}
+use Rattle.sgb_gen.proofs.DisplacementLengths.{signings-signed, signings-sizes}
 use Rattle.sgb_gen.proofs.NextSignings.{sizes_of}
 use Rattle.sgb_gen.proofs.Reaches.{sizes_of_sides, move, moves_until, moves_from-until}
 use Rattle.sgb_vec.proofs.Lists.{flat_map-none}
@@ -43,31 +44,32 @@ length-entry_bounds p sizes wrap =
     cc (length-map (sides_of sizes wrap) (entry_bound p), length-map (sides_of sizes wrap) (λ s. s.size), sizes_of_sides 0 sizes wrap)
 
 -- the same of one vector
-pub record AreNearSoFar (p : ℕ) (sizes : List ℕ) (wrap : ℤ) (x : List ℕ) (k : ℕ) (known : List ℕ) : Type 0 where
+pub record AreNearSoFar (onward up : Bool) (p : ℕ) (sizes : List ℕ) (wrap : ℤ) (x : List ℕ) (k : ℕ) (known : List ℕ) : Type 0 where
   pub count : length known ≡ k
-  pub whole : known ++ near_bounds p (sides_from_bit k (drop k sizes) wrap) (drop k x) ≡ near_bounds p (sides_of sizes wrap) x
+  pub whole : known ++ near_bounds up p (sides_from_bit k (drop k sizes) wrap) (drop k x) ≡ near_bounds onward p (sides_of sizes wrap) x
 
-pub near_more : (p : ℕ) (sizes : List ℕ) (wrap : ℤ) (x : List ℕ) (k : ℕ) (known : List ℕ) (w : Bool) (bound : ℕ) → IsBelow x sizes → k < length sizes → w ≡ is_bit_set wrap k
-    → bound ≡ near_bound p (record { size = get_or sizes k 0; wraps = w }) (get_or x k 0) → AreNearSoFar p sizes wrap x k known → AreNearSoFar p sizes wrap x (k + 1) (known ++ bound ∷ [])
-near_more p sizes wrap x k known w bound below h bit is s =
-    let rest = near_bounds p (sides_from_bit (k + 1) (drop (k + 1) sizes) wrap) (drop (k + 1) x) in
-    let own = is ∙ ap (λ v. near_bound p (record { size = get_or sizes k 0; wraps = v }) (get_or x k 0)) bit in
+pub near_more : (onward up : Bool) (p : ℕ) (sizes : List ℕ) (wrap : ℤ) (x : List ℕ) (k : ℕ) (known : List ℕ) (w : Bool) (bound : ℕ) → IsBelow x sizes → k < length sizes → w ≡ is_bit_set wrap k
+    → bound ≡ near_bound up p (record { size = get_or sizes k 0; wraps = w }) (get_or x k 0) → AreNearSoFar onward up p sizes wrap x k known → AreNearSoFar onward (up && eqb bound 0) p sizes wrap x (k + 1) (known ++ bound ∷ [])
+near_more onward up p sizes wrap x k known w bound below h bit is s =
+    let rest : ℕ → List ℕ = λ b. b ∷ near_bounds (up && eqb b 0) p (sides_from_bit (k + 1) (drop (k + 1) sizes) wrap) (drop (k + 1) x) in
+    let own = is ∙ ap (λ v. near_bound up p (record { size = get_or sizes k 0; wraps = v }) (get_or x k 0)) bit in
     let step =
-    at_drop_more (λ s. near_bounds p (sides_from_bit k s wrap) (drop k x)) sizes k 0 h
-    ∙ at_drop_more (near_bounds p (sides_from_bit k (get_or sizes k 0 ∷ drop (k + 1) sizes) wrap)) x k 0 (omega (arith, h, length_all_zip (λ z n. z < n) x sizes below)) in
+    at_drop_more (λ s. near_bounds up p (sides_from_bit k s wrap) (drop k x)) sizes k 0 h
+    ∙ at_drop_more (near_bounds up p (sides_from_bit k (get_or sizes k 0 ∷ drop (k + 1) sizes) wrap)) x k 0 (omega (arith, h, length_all_zip (λ z n. z < n) x sizes below)) in
     record {
       count = omega (arith, length-append known (bound ∷ []), s.count);
-      whole = append_assoc known (bound ∷ []) rest ∙ ap (λ c. known ++ c ∷ rest) own ∙ ap (λ l. known ++ l) (sym step) ∙ s.whole;
+      whole = append_assoc known (bound ∷ []) (near_bounds (up && eqb bound 0) p (sides_from_bit (k + 1) (drop (k + 1) sizes) wrap) (drop (k + 1) x)) ∙ ap (λ b. known ++ rest b) own ∙ ap (λ l. known ++ l) (sym step) ∙ s.whole;
     }
 
 -- no entry of a vector's bounds is above that of all
-near_within : (p k : ℕ) (sizes : List ℕ) (wrap : ℤ) (x : List ℕ) → IsBelow x sizes → IsWithin (near_bounds p (sides_from_bit k sizes wrap) x) (entry_bounds p (sides_from_bit k sizes wrap))
-near_within p k [] wrap [] below = tt
-near_within p k (n ∷ sizes) wrap (z ∷ x) below = (grind (arith, cond, cases_Bool), near_within p (k + 1) sizes wrap x below.1)
-near_within p k _ wrap _ below = absurd below
+near_within : (up : Bool) (p k : ℕ) (sizes : List ℕ) (wrap : ℤ) (x : List ℕ) → IsBelow x sizes → IsWithin (near_bounds up p (sides_from_bit k sizes wrap) x) (entry_bounds p (sides_from_bit k sizes wrap))
+near_within up p k [] wrap [] below = tt
+near_within up p k (n ∷ sizes) wrap (z ∷ x) below =
+    (grind (arith, cond, cases_Bool), near_within (up && eqb (near_bound up p (record { size = n; wraps = is_bit_set wrap k }) z) 0) p (k + 1) sizes wrap x below.1)
+near_within up p k _ wrap _ below = absurd below
 
-pub length-near_bounds : (p : ℕ) (sizes : List ℕ) (wrap : ℤ) (x : List ℕ) → IsBelow x sizes → length (near_bounds p (sides_of sizes wrap) x) ≡ length sizes
-length-near_bounds p sizes wrap x below = IsWithin-length _ _ (near_within p 0 sizes wrap x below) ∙ length-entry_bounds p sizes wrap
+pub length-near_bounds : (up : Bool) (p : ℕ) (sizes : List ℕ) (wrap : ℤ) (x : List ℕ) → IsBelow x sizes → length (near_bounds up p (sides_of sizes wrap) x) ≡ length sizes
+length-near_bounds up p sizes wrap x below = IsWithin-length _ _ (near_within up p 0 sizes wrap x below) ∙ length-entry_bounds p sizes wrap
 
 -- ---- off the board
 
@@ -79,17 +81,48 @@ on_side n y h = ap is_some (cond-true (ltb y n) (Some y) None (lt-ltb y n h))
 off_side : (n z : ℕ) (u : ℤ) → z < n → max z (n - 1 - z) < nat_abs u → within_size n (pos z +ℤ pos 1 *ℤ u) ≡ None
 off_side n z u h far = grind (arith, ints, negsuc, cond-false, ltb, le-ltb)
 
+-- so does one up that is longer than the room above
+off_above : (n z u : ℕ) → z < n → n - 1 - z < u → within_size n (pos z +ℤ pos 1 *ℤ pos u) ≡ None
+off_above n z u h far = grind (arith, ints, negsuc, cond-false, ltb, le-ltb)
+
+-- the first entry other than 0 is positive where the bounds ask for it
+abbrev IsUp : Bool → List ℤ → Type 0
+IsUp up t = up ≡ true → is_signed t ≡ true
+
+-- an entry above its bound leads off its side
+entry-off : (up w : Bool) (p n z : ℕ) (u : ℤ) (t : List ℤ) → z < n → IsUp up (u ∷ t) → near_bound up p (record { size = n; wraps = w }) z < nat_abs u → (w ≡ true → nat_abs u ≤ p) → coordinate_on (record { size = n; wraps = w }) (pos z +ℤ pos 1 *ℤ u) ≡ None
+entry-off up true p n z u t below signed far small = absurd (omega (arith, far, small refl))
+entry-off false false p n z u t below signed far small = off_side n z u below far
+entry-off true false p n z (pos u) t below signed far small = off_above n z u below far
+entry-off true false p n z (negsuc u) t below signed far small = absurd (true≢false (sym (signed refl)))
+
 pub in_front-none : (o : Option ℕ) → in_front o None ≡ None
 in_front-none o = grind (arith)
 
+-- where the bounds ask for it no more, or the first entry is 0, the others are as the bounds ask for
+up_next : (up : Bool) (p : ℕ) (s : Side) (z : ℕ) (t : List ℤ) → IsUp up (pos 0 ∷ t) → IsUp (up && eqb (near_bound up p s z) 0) t
+up_next true p s z t signed = λ next. signed refl
+up_next false p s z t signed = λ next. absurd (true≢false (sym next))
+
 -- an entry above its bound leads to no place
-place-off : (p : ℕ) (sides : List Side) (x : List ℕ) (t : List ℤ) (k : ℕ) → IsBelow x (map (λ s. s.size) sides) → k < length sides → get_or (near_bounds p sides x) k 0 < nat_abs (get_or t k (pos 0)) → nat_abs (get_or t k (pos 0)) ≤ p → place sides x t 1 ≡ None
-place-off p [] x t k b h far small = absurd (omega arith)
-place-off p (s ∷ sides) [] t k b h far small = absurd b
-place-off p (s ∷ sides) (z ∷ x) [] k b h far small = refl
-place-off p (s ∷ sides) (z ∷ x) (u ∷ t) zero b h far small = grind (arith, off_side)
-place-off p (s ∷ sides) (z ∷ x) (u ∷ t) (suc k) b h far small =
-    cc (place-off p sides x t k b.1 (omega arith) far small, in_front-none (coordinate_on s (pos z +ℤ pos 1 *ℤ u)))
+place-off : (up : Bool) (p : ℕ) (sides : List Side) (x : List ℕ) (t : List ℤ) (k : ℕ) → IsBelow x (map (λ s. s.size) sides) → k < length sides → IsUp up t → get_or (near_bounds up p sides x) k 0 < nat_abs (get_or t k (pos 0)) → nat_abs (get_or t k (pos 0)) ≤ p → place sides x t 1 ≡ None
+place-off up p [] x t k b h signed far small = absurd (omega arith)
+place-off up p (s ∷ sides) [] t k b h signed far small = absurd b
+place-off up p (s ∷ sides) (z ∷ x) [] k b h signed far small = refl
+place-off up p (s ∷ sides) (z ∷ x) (u ∷ t) zero b h signed far small = ap (λ o. in_front o (place sides x t 1)) (entry-off up s.wraps p s.size z u t b.0 signed far (λ w. small))
+place-off up p (s ∷ sides) (z ∷ x) (pos zero ∷ t) (suc k) b h signed far small =
+    cc (place-off (up && eqb (near_bound up p s z) 0) p sides x t k b.1 (omega arith) (up_next up p s z t signed) far small, in_front-none (coordinate_on s (pos z +ℤ pos 1 *ℤ pos 0)))
+place-off up p (s ∷ sides) (z ∷ x) (u ∷ t) (suc k) b h signed far small =
+    of_next (up && eqb (near_bound up p s z) 0) refl (λ up_there. place-off (up && eqb (near_bound up p s z) 0) p sides x t k b.1 (omega arith) up_there far small)
+  where
+    of_next : (next : Bool) → (up && eqb (near_bound up p s z) 0) ≡ next → (IsUp (up && eqb (near_bound up p s z) 0) t → place sides x t 1 ≡ None) → place (s ∷ sides) (z ∷ x) (u ∷ t) 1 ≡ None
+    of_next false is off = cc (off (λ e. absurd (true≢false (sym e ∙ is))), in_front-none (coordinate_on s (pos z +ℤ pos 1 *ℤ u)))
+    of_next true is off =
+        let both : (up ≡ true) × (near_bound up p s z ≡ 0) = grind (arith, eqb-true, cases_Bool) in
+        elim (cases_lt 0 (nat_abs u)) [
+          | inl some ↦ ap (λ o. in_front o (place sides x t 1)) (entry-off up s.wraps p s.size z u t b.0 signed (omega (arith, both.1, some)) (λ w. absurd (omega (arith, small, far, both.1, ap (λ v. cond v p (cond up (s.size - 1 - z) (max z (s.size - 1 - z)))) w))))
+          | inr none ↦ absurd (omega (arith, none))
+        ]
 
 pub until-none : (x : List ℕ) (g : ℕ → Option (List ℕ)) (n : ℕ) → g 1 ≡ None → moves_until x g (range_with_len 1 n) ≡ []
 until-none x g zero h = refl
@@ -101,21 +134,21 @@ bounds_of b = entry_bounds (nat_abs b.piece) (sides_of b.sizes b.wrap)
 
 -- and of one vector's
 abbrev pub near_of : BoardData → List ℕ → List ℕ
-near_of b x = near_bounds (nat_abs b.piece) (sides_of b.sizes b.wrap) x
+near_of b x = near_bounds b.directed (nat_abs b.piece) (sides_of b.sizes b.wrap) x
 
 pub near_fits : (b : BoardData) (x : List ℕ) → IsBelow x b.sizes → IsWithin (near_of b x) (bounds_of b)
-near_fits b x below = near_within (nat_abs b.piece) 0 b.sizes b.wrap x below
+near_fits b x below = near_within b.directed (nat_abs b.piece) 0 b.sizes b.wrap x below
 
 -- nothing is made by a displacement of piece p with an entry above its bound
 abbrev pub IsOff : {X : Type 0} → ℕ → List ℕ → (List ℤ → List X) → Type 0
-IsOff p bs f = (t : List ℤ) (k : ℕ) → k < length bs → get_or bs k 0 < nat_abs (get_or t k (pos 0)) → nat_abs (get_or t k (pos 0)) ≤ p → f t ≡ []
+IsOff p bs f = (t : List ℤ) (k : ℕ) → k < length bs → get_or bs k 0 < nat_abs (get_or t k (pos 0)) → nat_abs (get_or t k (pos 0)) ≤ p → is_signed t ≡ true → f t ≡ []
 
 -- it leads to no place from the vector
-pub near-off : (b : BoardData) (x : List ℕ) → IsBelow x b.sizes → (t : List ℤ) (k : ℕ) → k < length (near_of b x) → get_or (near_of b x) k 0 < nat_abs (get_or t k (pos 0)) → nat_abs (get_or t k (pos 0)) ≤ nat_abs b.piece → place (sides_of b.sizes b.wrap) x t 1 ≡ None
-near-off b x below t k h far small =
+pub near-off : (b : BoardData) (x : List ℕ) → IsBelow x b.sizes → (t : List ℤ) (k : ℕ) → k < length (near_of b x) → get_or (near_of b x) k 0 < nat_abs (get_or t k (pos 0)) → nat_abs (get_or t k (pos 0)) ≤ nat_abs b.piece → IsUp b.directed t → place (sides_of b.sizes b.wrap) x t 1 ≡ None
+near-off b x below t k h far small signed =
     let same = sizes_of_sides 0 b.sizes b.wrap in
-    place-off (nat_abs b.piece) (sides_of b.sizes b.wrap) x t k (subst (IsBelow x) (sym same) below)
-    (omega (arith, h, length-near_bounds (nat_abs b.piece) b.sizes b.wrap x below, length-map (sides_of b.sizes b.wrap) (λ s. s.size), ap length same)) far small
+    place-off b.directed (nat_abs b.piece) (sides_of b.sizes b.wrap) x t k (subst (IsBelow x) (sym same) below)
+    (omega (arith, h, length-near_bounds b.directed (nat_abs b.piece) b.sizes b.wrap x below, length-map (sides_of b.sizes b.wrap) (λ s. s.size), ap length same)) signed far small
 
 -- no move is made where the first step leads to no place
 pub moves-none : (sides : List Side) (piece : ℤ) (x : List ℕ) (t : List ℤ) → place sides x t 1 ≡ None → moves_from sides piece x t ≡ []
@@ -127,7 +160,7 @@ moves-none sides piece x t off = moves_from-until sides piece x t ∙ until-none
 
 -- no move, and so no event
 pub moves-off : (b : BoardData) → IsOff (nat_abs b.piece) (bounds_of b) (moves_by (sides_of b.sizes b.wrap) b.piece (box b.sizes))
-moves-off b t k h far small =
+moves-off b t k h far small signed =
     flat_map-none (λ y. moves_from (sides_of b.sizes b.wrap) b.piece y t) (box b.sizes)
     (λ i d within.
     let y = get_or (box b.sizes) i d in
@@ -135,11 +168,11 @@ moves-off b t k h far small =
     let fits = near_fits b y below in
     let inside : k < length (near_of b y) = omega (arith, h, IsWithin-length _ _ fits) in
     moves-none (sides_of b.sizes b.wrap) b.piece y t
-    (near-off b y below t k inside (omega (arith, far, AllZip-get_or (λ z c. z ≤ c) (near_of b y) (bounds_of b) k 0 0 fits inside)) small))
+    (near-off b y below t k inside (omega (arith, far, AllZip-get_or (λ z c. z ≤ c) (near_of b y) (bounds_of b) k 0 0 fits inside)) small (λ _. signed)))
 
 events-off : (b : BoardData) → IsOff (nat_abs b.piece) (bounds_of b) (events_by b)
-events-off b t k h far small =
-    events_by-moves b t ∙ ap (map (event_among (box b.sizes))) (moves-off b t k h far small)
+events-off b t k h far small signed =
+    events_by-moves b t ∙ ap (map (event_among (box b.sizes))) (moves-off b t k h far small signed)
 
 -- ---- all vectors, and those within the bounds
 
@@ -155,10 +188,10 @@ size_at _ _ = refl
 vector-off : {X : Type 0} (p : ℕ) (bs : List ℕ) (f : List ℤ → List X) → IsOff p bs f → (v : List ℕ) (k : ℕ) → k < length bs → get_or bs k 0 < get_or v k 0 → get_or v k 0 ≤ p → by_signings f v ≡ []
 vector-off p bs f off v k h far small =
     flat_map-none f (signings v)
-    (All-weaker (HasSizes v) (λ t. f t ≡ [])
-    (λ t e.
-    let size : nat_abs (get_or t k (pos 0)) ≡ get_or v k 0 = sym (size_at t k) ∙ ap (λ w. get_or w k 0) e in
-    off t k h (omega arith) (omega arith)) (signings v) (signings-sizes v))
+    (λ i d within.
+    let t = get_or (signings v) i d in
+    let size : nat_abs (get_or t k (pos 0)) ≡ get_or v k 0 = sym (size_at t k) ∙ ap (λ w. get_or w k 0) (signings-sizes v i d within) in
+    off t k h (omega (arith, far, size)) (omega (arith, small, size)) (signings-signed v i d within))
 
 -- no entry is above the sum of the squares
 entry-le : (v : List ℕ) (k : ℕ) → get_or v k 0 ≤ sum_of_squares v

@@ -1,6 +1,6 @@
 -- The arcs of one vector of a board are those by the displacements within its own bounds; and there are none by one of
 -- which a coordinate leads off the board, and one of its opposite.
-use Rattle.std.proofs.Common.{◌≡◌, ℕ, zero, suc, ◌+◌, ◌<◌, ℤ, pos, ◌+ℤ◌, ◌*ℤ◌, nat_abs, Bool, true, false, List, [], ◌∷◌, ◌++◌, length, map, get_or, take, reverse, None, refl, sym, ap, ap₂, subst, ◌∙◌, arith}
+use Rattle.std.proofs.Common.{◌≡◌, ℕ, zero, suc, ◌+◌, ◌<◌, ℤ, pos, ◌+ℤ◌, ◌*ℤ◌, nat_abs, Bool, true, false, true≢false, List, [], ◌∷◌, ◌++◌, length, map, get_or, take, reverse, None, refl, sym, ap, ap₂, subst, ◌∙◌, arith}
 use Rattle.std.specs.Prelude.{◌==◌}
 use Rattle.std.specs.List.{All, Contains}
 use Rattle.std.proofs.lemmas.List.Elements.{All-contains, All-contains_itself, All-filter, All-head, filter_passes}
@@ -56,9 +56,10 @@ opposite_at (e ∷ t) zero = size-neg e
 opposite_at (e ∷ t) (suc k) = opposite_at t k
 
 arcs-off : (b : BoardData) (x : List ℕ) → IsBelow x b.sizes → IsOff (nat_abs b.piece) (near_of b x) (λ t. arcs_onward b.directed x (moves_by (sides_of b.sizes b.wrap) b.piece (box b.sizes) t))
-arcs-off b x below t k h far small =
+arcs-off b x below t k h far small signed =
     let size = opposite_at t k in
-    no_arcs b x t below (near-off b x below t k h far small) (λ edges. near-off b x below (opposite t) k h (omega (arith, size, far)) (omega (arith, size, small)))
+    no_arcs b x t below (near-off b x below t k h far small (λ _. signed))
+    (λ edges. near-off b x below (opposite t) k h (omega (arith, size, far)) (omega (arith, size, small)) (λ directed. absurd (true≢false (sym directed ∙ edges))))
 
 -- the list of a vector is what the displacements within its bounds make
 pub list_near : (b : BoardData) (x : List ℕ) → Contains (box b.sizes) x → arcs_by_all b x (displacements_within (nat_abs b.piece) (near_of b x)) ≡ list_at b.directed (box b.sizes) (moves_of_board b) x
@@ -66,7 +67,7 @@ unfolding board_moves
 list_near b x there =
     let below = IsBelow-from_Contains b.sizes x there in
     let moves = moves_by (sides_of b.sizes b.wrap) b.piece (box b.sizes) in
-    let same = within_bounds (nat_abs b.piece) (length b.sizes) (near_of b x) (λ t. arcs_onward b.directed x (moves t)) (length-near_bounds (nat_abs b.piece) b.sizes b.wrap x below) (arcs-off b x below) in
+    let same = within_bounds (nat_abs b.piece) (length b.sizes) (near_of b x) (λ t. arcs_onward b.directed x (moves t)) (length-near_bounds b.directed (nat_abs b.piece) b.sizes b.wrap x below) (arcs-off b x below) in
     ap reverse
     (flat_map-flat_map (arcs_by b.directed x) moves (displacements_within (nat_abs b.piece) (near_of b x))
     ∙ same ∙ sym (flat_map-flat_map (arcs_by b.directed x) moves (displacements (nat_abs b.piece) (length b.sizes))))

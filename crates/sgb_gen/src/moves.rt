@@ -309,25 +309,39 @@ pub(crate) fn entry_bounds(sizes: &[u32], wrap: i64, piece: u32) -> EntrySizes
 }
 
 // The greatest entry of a displacement on a side that leads from the coordinate `x` or to it: as much as there is room
-// for, up or down, where the side does not wrap around.
-fn near_bound(size: u32, wraps: bool, piece: u32, x: u32) -> u32
-    ensures { result ≡ near_bound piece (record { size = size; wraps = wraps }) x }
+// for, up or down, where the side does not wrap around; up alone where `up` tells that the entry is not negative.
+fn near_bound(up: bool, size: u32, wraps: bool, piece: u32, x: u32) -> u32
+    ensures { result ≡ near_bound up piece (record { size = size; wraps = wraps }) x }
 {
     if wraps {
         return piece;
     }
-    x.max(size.saturating_sub(1).saturating_sub(x))
+    let above = size.saturating_sub(1).saturating_sub(x);
+    if up {
+        return above;
+    }
+    x.max(above)
 }
 
-/// The greatest entries of the displacements by which a piece can move from `x` or to it (GB_BASIC, board).
-pub(crate) fn near_bounds(sizes: &[u32], wrap: i64, piece: u32, x: &[u32]) -> EntrySizes
+/// The greatest entries of the displacements by which a piece can move from `x` (GB_BASIC, board), or to it, too, where `onward`
+/// does not tell that it moves from `x` alone: the first entry other than 0 is then positive, and those before it are 0.
+pub(crate) fn near_bounds(
+    onward: bool,
+    sizes: &[u32],
+    wrap: i64,
+    piece: u32,
+    x: &[u32],
+) -> EntrySizes
     requires few { length sizes.now ≤ most_dimensions }
     requires below { IsBelow x.now sizes.now }
-    ensures { result.items ≡ near_bounds piece (sides_of sizes.now wrap) x.now }
+    ensures { result.items ≡ near_bounds onward piece (sides_of sizes.now wrap) x.now }
 {
     let mut bounds = ArrayVec::new();
+    let mut up = onward;
     for (k, size) in sizes.iter().enumerate() {
-        bounds.push(near_bound(*size, wraps(wrap, k), piece, x[k]));
+        let bound = near_bound(up, *size, wraps(wrap, k), piece, x[k]);
+        bounds.push(bound);
+        up &= bound == 0;
     }
     bounds
 }

@@ -1,8 +1,8 @@
 //! The displacements that may lead from a vector of a board or to it, for a walk that is made for this vector alone.
 //!
 //! Of all displacements of the board few may. Where a side does not wrap around, an entry leads nowhere that is greater
-//! than the room above the coordinate and that below it; of the others mostly one sign alone fits. No contract says how
-//! many are left out: the checks from outside see it (`great`).
+//! than the room above the coordinate and that below it; where there are arcs alone, the first entry other than 0 has to be
+//! no greater than the room above. Of the others mostly one sign alone fits. No contract says how many are left out: the checks from outside see it (`great`).
 ghost use Rattle.std.specs.Prelude.{◌≡◌, ◌≤◌, length, nat_abs, All, IfSome};
 ghost use Rattle.sgb_vec.specs.Lexicographic.{IsBelow};
 ghost use Rattle.sgb_gen.specs.Limits.{most_piece};
@@ -15,16 +15,18 @@ use crate::falling_displacements::FallingDisplacements;
 use crate::moves::{first_off_board, near_bounds};
 
 impl Board {
-    /// The displacements whose entries fit on the board from `x` up or down, from the last of them on.
+    /// The displacements whose entries fit on the board from `x` up or down, from the last of them on. Where there are arcs and
+    /// no edges, the first entry other than 0 fits upwards.
     pub(super) fn displacements_near(&self, x: &[u32]) -> FallingDisplacements
         requires { IsBelow x.now self.now.sizes }
         ensures all { result ≡ displacements_within (nat_abs self.now.piece)
-            (near_bounds (nat_abs self.now.piece) (sides_of self.now.sizes self.now.wrap) x.now) }
+            (near_bounds self.now.directed (nat_abs self.now.piece)
+            (sides_of self.now.sizes self.now.wrap) x.now) }
         ensures dimensions { All (λ t. length t ≡ length self.now.sizes) result }
         ensures small { All (λ t. All (λ e. nat_abs e ≤ most_piece) t) result }
     {
         let piece = self.piece.unsigned_abs() as u32;
-        let bounds = near_bounds(self.sizes(), self.wrap, piece, x);
+        let bounds = near_bounds(self.directed, self.sizes(), self.wrap, piece, x);
         FallingDisplacements::new(piece, bounds)
     }
 
