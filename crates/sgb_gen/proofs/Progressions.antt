@@ -99,20 +99,6 @@ module _ (n a l r : ℕ) (step : 0 < a) (some : 0 < l) (order : l ≤ r) (none :
       | inr after ↦ omega (arith, over, least, mul-le q n p n after (omega arith), mul-le i a (k - 1) a (omega (arith, less)) (omega arith))
     ]
 
--- ---- where one is
-
-module _ (n a l r : ℕ) (step : 0 < a) (some : 0 < l) where
-  pub straight_there : (l - 1) / a < r / a → ComesTo n a l r ((l - 1) / a + 1)
-  straight_there short =
-      let past : l - 1 < ((l - 1) / a + 1) * a = omega (arith, step) in
-      let most : r / a * a ≤ r = omega (arith, step) in
-      (0, omega (arith, past, some), omega (arith, most, mul-le ((l - 1) / a + 1) a (r / a) a (omega (arith, short)) (omega arith)))
-
-  pub straight_first : (i : ℕ) → i < (l - 1) / a + 1 → ComesTo n a l r i → ⊥
-  straight_first i less (q, over, under) =
-      let most : (l - 1) / a * a ≤ l - 1 = omega (arith, step) in
-      omega (arith, over, most, some, mul-le i a ((l - 1) / a) a (omega (arith, less)) (omega arith))
-
 -- ---- from a coordinate to others
 
 module _ (n y d a z s l r : ℕ) (below : z < n) (low : y + l ≡ a + s * n) (high : y + r ≡ z + s * n) where

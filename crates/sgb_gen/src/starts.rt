@@ -2,8 +2,9 @@
 //!
 //! A start is the vertex where an edge starts, with the edge's length. Room is kept for 4,096 of them at first, so that the first
 //! range is found soon, and for twice as many after each range, up to 262,144, which take two megabytes. Where memory is refused
-//! there is room for fewer. A range that has more is cut in two.
-ghost use Rattle.std.specs.Prelude.{◌≡◌, ◌<◌, ◌++◌, [], ◌∷◌, ℕ, false, length, slice_get, true, IfNone, IfOk, IfSome, IsOkUnless, Some, if◌then◌else◌};
+//! there is room for fewer. A range that has more is cut in two, where a long row of vertices ends: across the end of a row the
+//! vertices of a range have fewer coordinates in common, and more lengths of moves would be looked at in vain.
+ghost use Rattle.std.specs.Prelude.{◌≡◌, ◌+◌, ◌-◌, ◌/◌, ◌<◌, ◌++◌, [], ◌∷◌, ℕ, false, length, slice_get, true, IfNone, IfOk, IfSome, IsOkUnless, Some, if◌then◌else◌};
 ghost use Rattle.std.specs.Bool.{OnFalse, OnTrue};
 ghost use Rattle.std.specs.List.Sorted.{IsPermutation, IsSorted};
 ghost use Rattle.sgb_gen.specs.inner.Starts.{AreHalves, IsOne, is_within, pair_cmp};
@@ -41,8 +42,8 @@ impl StartRange {
     }
 
     /// Its two halves, that of the earlier starts first: by their vertices, and where it has one vertex by their lengths.
-    /// `None` where it has one start at most.
-    pub(crate) fn halves(self) -> Option<(StartRange, StartRange)>
+    /// `None` where it has one start at most. The vertices of a board of these sizes are cut between two rows.
+    pub(crate) fn halves(self, sizes: &[u32]) -> Option<(StartRange, StartRange)>
         ensures halves { IfSome result (λ p. AreHalves self p.0 p.1) }
         ensures one { IfNone result (IsOne self) }
     {
@@ -53,7 +54,7 @@ impl StartRange {
             to,
         } = self;
         if high > low && high - low > 1 {
-            let middle = low + (high - low) / 2;
+            let middle = row_end(sizes, low, high);
             return Some((
                 StartRange {
                     low,
@@ -88,6 +89,34 @@ impl StartRange {
         }
         None
     }
+}
+
+// The end of a row of vertices between these: one of the longest rows that end there, in the middle of them.
+fn row_end(sizes: &[u32], low: u32, high: u32) -> u32
+    requires { low + 1 < high }
+    ensures after { low < result }
+    ensures before { result < high }
+{
+    let row = longest_row(sizes, low, high);
+    let (first, last) = (low / row, (high - 1) / row);
+    (first + (last - first + 1) / 2) * row
+}
+
+// How long the longest rows of a board are that end between these vertices: rows with the same first coordinates.
+fn longest_row(sizes: &[u32], low: u32, high: u32) -> u32
+    requires { low + 1 < high }
+    ensures some { 0 < result }
+    ensures ends { low / result < (high - 1) / result }
+{
+    let mut row: u32 = 1;
+    for k in (0..sizes.len()).rev() {
+        let longer = row.saturating_mul(sizes[k].max(1));
+        if low / longer >= (high - 1) / longer {
+            return row;
+        }
+        row = longer;
+    }
+    row
 }
 
 /// Starts of one range. Contracts see them as a list.

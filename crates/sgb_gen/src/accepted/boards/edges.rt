@@ -89,7 +89,7 @@ impl Board {
             starts.sort();
             return self.give_edges(u, x, &*t, &*back, starts, there, sink, room, out);
         }
-        let Some((earlier, later)) = range.halves() else {
+        let Some((earlier, later)) = range.halves(self.sizes()) else {
             return Ok(());
         };
         self.give_within(u, x, t, back, later, there, starts, sink, room, out)?;

@@ -3,7 +3,7 @@
 //! Around a side a coordinate is between two others at some of them alone. The first of these is found by Euclid's way: how often
 //! the steps go around is looked at as steps on a side that is as long as a step. Where the two others are one, the coordinate is
 //! there again each time that the steps lead from a coordinate back to it.
-ghost use Rattle.std.specs.Prelude.{◌≡◌, ◌+◌, ◌-◌, ◌*◌, ◌^◌, ◌<◌, ◌≤◌, ◌*ℤ◌, ℕ, pos, nat_abs, IfNone, IfSome};
+ghost use Rattle.std.specs.Prelude.{◌≡◌, ◌+◌, ◌-◌, ◌*◌, ◌<◌, ◌≤◌, ◌*ℤ◌, ℕ, pos, nat_abs, IfNone, IfSome};
 ghost use Rattle.std.specs.Int.{int_rem_euclid};
 ghost use Rattle.sgb_gen.specs.inner.Progressions.{ComesTo, IsAmong, LeadsBetween, Rises};
 
