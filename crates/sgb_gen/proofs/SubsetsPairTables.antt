@@ -1,7 +1,7 @@
 -- The table of pairs of subsets: its places, and the cells that are turned so far.
 use Rattle.std.proofs.Common.{◌≡◌, ℕ, zero, suc, ◌+◌, ◌-◌, ◌*◌, ◌/◌, ◌%◌, ◌^◌, ◌<◌, ◌≤◌, max, List, [], ◌∷◌, length, refl, sym, ap, ap₂, subst, ◌∙◌, arith, get_or, drop, replicate, set, inl, inr, mul_comm}
 use Rattle.std.proofs.lemmas.Bool.{cases_lt}
-use Rattle.std.proofs.lemmas.List.{drop_all, drop_more, get_or-set_same, get_or-set_other}
+use Rattle.std.proofs.lemmas.List.{drop_more, get_or-set_same, get_or-set_other}
 use Rattle.std.proofs.lemmas.Nat.{div-mul-add, mod-mul-add, mul-add-lt, mul-le}
 use Rattle.std.proofs.Math.Nat.{add-mul}
 use Rattle.sgb_gen.specs.inner.SubsetsPairs.{AreSummed, HasCounts, IsTurned, cell_count, pairs_below, pairs_of_sums, pairs_up_to, place_of_pairs}
@@ -48,34 +48,14 @@ place-less total most f s c i j first second within few less =
           absurd (omega (arith, same.0, same.1, less))
     ]
 
--- where the cells of two sums end, those of the next ones begin
-pub next-second : (total most f s : ℕ) → place_of_pairs total most f s (most + 1) ≡ place_of_pairs total most f (s + 1) 0
-next-second total most f s = let h = total + 1 in let w = most + 1 in omega (arith, add-mul (f * h + s) 1 w, ap (λ n. n * w) {x = f * h + s + 1} {y = f * h + (s + 1)} (omega arith))
-
-pub next-first : (total most f : ℕ) → place_of_pairs total most f (total + 1) 0 ≡ place_of_pairs total most (f + 1) 0 0
-next-first total most f = let h = total + 1 in ap (λ n. n * (most + 1) + 0) (omega (arith, add-mul f 1 h))
-
 pub place-end : (total most : ℕ) → place_of_pairs total most (total + 1) 0 0 ≡ cell_count total most
 place-end total most = let h = total + 1 in omega (arith, ap (λ n. n * (most + 1)) {x = h * h + 0} {y = h * h} (omega arith))
 
 -- ---- cells that are turned
 
--- none from the end on, and all from the first on
-pub turned-at_end : (total most n : ℕ) (low high : ℕ → ℕ → ℕ → ℕ) (table : List ℕ) → n ≡ cell_count total most → HasCounts total most low table → IsTurned total most n low high table
-turned-at_end total most n low high table all has = record {
-  before = λ f s c within few earlier. has f s c within few;
-  from = λ f s c within few later. absurd (omega (arith, all, later, place-within total most f s c (omega (arith, within)) (omega (arith, within)) few));
-}
-
 pub turned-before_end : (total most n : ℕ) (low high : ℕ → ℕ → ℕ → ℕ) (table : List ℕ) → n ≡ cell_count total most → IsTurned total most n low high table → HasCounts total most low table
 turned-before_end total most n low high table all so f s c within few =
     so.before f s c within few (omega (arith, all, place-within total most f s c (omega (arith, within)) (omega (arith, within)) few))
-
-pub turned-at_start : (total most n : ℕ) (low high : ℕ → ℕ → ℕ → ℕ) (table : List ℕ) → n ≡ 0 → HasCounts total most high table → IsTurned total most n low high table
-turned-at_start total most n low high table none has = record {
-  before = λ f s c within few earlier. absurd (omega (arith, none, earlier));
-  from = λ f s c within few later. has f s c within few;
-}
 
 pub turned-from_start : (total most n : ℕ) (low high : ℕ → ℕ → ℕ → ℕ) (table : List ℕ) → n ≡ 0 → IsTurned total most n low high table → HasCounts total most high table
 turned-from_start total most n low high table none so f s c within few = so.from f s c within few (omega (arith, none))
@@ -213,9 +193,6 @@ ended_pairs-all sb total most n table all so (suc f) s c within few =
     so.left (place_of_pairs total most (suc f) s c) (past_first total most (suc f) s c n all (omega arith)) ∙ ap (λ n. n % 2 ^ 64) (ended-none sb (suc f) s c (omega arith))
 
 -- ---- all bounds
-
-pub counts-none_in : (sb total most k : ℕ) (bounds table : List ℕ) → length bounds ≤ k → HasCounts total most (pairs_of_sums sb []) table → HasCounts total most (pairs_of_sums sb (drop k bounds)) table
-counts-none_in sb total most k bounds table all has = subst (λ bs. HasCounts total most (pairs_of_sums sb bs) table) (sym (drop_all k bounds all)) has
 
 pub counts-one_in : (sb total most k bound : ℕ) (bounds table : List ℕ) → 0 < k → k ≤ length bounds → bound ≡ get_or bounds (k - 1) 0 → HasCounts total most (pairs_of_sums sb (bound ∷ drop k bounds)) table → HasCounts total most (pairs_of_sums sb (drop (k - 1) bounds)) table
 counts-one_in sb total most k bound bounds table some within bound_is has =
