@@ -15,7 +15,8 @@ use Rattle.sgb_ops.specs.Taken.{taken}
 use Rattle.sgb_ops.specs.inner.Entries.{inner_event, inner_events_from, own_names, own_total, total_of}
 use Rattle.sgb_ops.specs.inner.Induced.{events_of_arc, events_of_copies, events_of_copy}
 use Rattle.sgb_ops.proofs.EntryTotals.{copies_within, copies-range, total_more}
-use Rattle.sgb_ops.proofs.EventsWithin.{taken_tips, events_after_within}
+use Rattle.sgb_ops.proofs.EventsWithin.{events_after_within}
+use Rattle.sgb_ops.proofs.ListedEvents.{listed_tips}
 
 -- as many names as vertices
 length-names_of_copies : (text : List ℕ) (e : Entry) → length (names_of_copies text e) ≡ size_of_entry e
@@ -62,7 +63,7 @@ module _ (entries : List Entry) (directed : Bool) (numbered : list_any is_unnumb
       (λ w low high.
       let below : w < order_of inner = omega (arith, high) in
       All-map (HasEndsBelow (total_of entries)) (inner_event start w) (taken directed inner w)
-      (λ k d h. let tip = taken_tips directed inner w kept below k d h in (omega (arith, few, below), omega (arith, few, tip))))
+      (λ k d h. let tip = listed_tips directed inner w kept below k d h in (omega (arith, few, below), omega (arith, few, tip))))
   inner_within start _ few kept = All-nil (HasEndsBelow (total_of entries))
 
   -- an entry with its place

@@ -36,10 +36,6 @@ pub all_taken : (P : Link → Type 0) (directed : Bool) (v : ℕ) (links : List 
 all_taken P true v links all = all
 all_taken P false v links all = all_once P v links (λ k d h up. all k d h)
 
-pub taken_tips : (directed : Bool) (g : GraphData) (v : ℕ) → IsKept g → v < length g.vertices → All (TipBelow (length g.vertices)) (taken directed g v)
-taken_tips true g v kept below = chain_tips g v kept below
-taken_tips false g v kept below = all_once (TipBelow (length g.vertices)) v (chain_of g v) (λ k d h up. chain_tips g v kept below k d h)
-
 -- the events of arcs on the list of a vertex
 pub events_of_within : (n v : ℕ) (links : List Link) → v < n → All (TipBelow n) links → AllWithin n (map (event_of v) links)
 events_of_within n v links below all = All-map (HasEndsBelow n) (event_of v) links (λ k d h. (below, all k d h))

@@ -4,7 +4,7 @@ use Rattle.sgb_vec.proofs.Common.{◌≡◌, ◌<◌, ◌≤◌, ◌+◌, ◌==�
 use Rattle.sgb_vec.proofs.Lists.{All-flat_map, Contains-range, never_true, range-within}
 use Rattle.sgb_graph.specs.Graphs.{GraphData}
 use Rattle.sgb_graph.specs.Events.{Event, HasEndsBelow}
-use Rattle.sgb_graph.specs.Growth.{AddsEvents, IsKept}
+use Rattle.sgb_graph.specs.Growth.{AddsEvents}
 use Rattle.sgb_graph.proofs.AddedEvents.{adds-none}
 use Rattle.sgb_graph.specs.declared.fields.Link.{Link}
 use Rattle.sgb_ops.specs.declared.induced_graphs.entries.Entry.{Entry}
@@ -17,6 +17,7 @@ use Rattle.sgb_ops.specs.Taken.{taken}
 use Rattle.sgb_ops.specs.inner.Copies.{IsKeptEntry, copies_start, count_by}
 use Rattle.sgb_ops.specs.inner.Ends.{AllWithin}
 use Rattle.sgb_ops.specs.inner.Parts.{has_loop_inside, has_loops_inside}
+use Rattle.sgb_ops.specs.inner.Sources.{HasTips}
 use Rattle.sgb_ops.specs.inner.Slots.{inner_graph}
 use Rattle.sgb_ops.specs.inner.Entries.{inner_event, inner_events_from, total_of}
 use Rattle.sgb_ops.specs.inner.Induced.{copies_met, event_between, events_of_arc, events_of_copies, events_of_copy, is_met, is_wanted, wanted}
@@ -24,7 +25,7 @@ use Rattle.sgb_ops.proofs.CopiesInOrder.{copy_between, firsts_order}
 use Rattle.sgb_ops.proofs.CopiesWithin.{of_copy as copy_events_within}
 use Rattle.sgb_ops.proofs.Ends.{ends}
 use Rattle.sgb_ops.proofs.EntryTotals.{copies-range, next_copy, number_below}
-use Rattle.sgb_ops.proofs.EventsWithin.{taken_tips}
+use Rattle.sgb_ops.proofs.ListedEvents.{listed_tips}
 use Rattle.sgb_ops.proofs.MergedParts.{AreApart, merged_both}
 use Rattle.sgb_ops.proofs.RisingParts.{Rises, merged_rising, rises_wider}
 use Rattle.sgb_ops.proofs.Taking.{taken_up}
@@ -39,13 +40,13 @@ graph_part self multi directed start inner w = merged_unless multi directed (wan
 
 -- the events of that vertex
 module _ (directed : Bool) (start : ℕ) (inner : GraphData) where
-  inside_from : (w : ℕ) → IsKept inner → w < order_of inner → All (Inside start (start + order_of inner)) (inner_events_from directed start inner w)
+  inside_from : (w : ℕ) → HasTips inner → w < order_of inner → All (Inside start (start + order_of inner)) (inner_events_from directed start inner w)
   inside_from w kept below =
       All-map (Inside start (start + order_of inner)) (inner_event start w) (taken directed inner w)
-      (λ k d h. let tip = taken_tips directed inner w kept below k d h in (omega arith, omega (arith, below), omega arith, omega (arith, tip)))
+      (λ k d h. let tip = listed_tips directed inner w kept below k d h in (omega arith, omega (arith, below), omega arith, omega (arith, tip)))
 
   -- they are between vertices of the result
-  pub part_within : (self : Bool) (w n : ℕ) → IsKept inner → w < order_of inner → start + order_of inner ≤ n → AllWithin n (wanted self (inner_events_from directed start inner w))
+  pub part_within : (self : Bool) (w n : ℕ) → HasTips inner → w < order_of inner → start + order_of inner ≤ n → AllWithin n (wanted self (inner_events_from directed start inner w))
   part_within self w n kept below few =
       All-filter (is_wanted self) (HasEndsBelow n) (inner_events_from directed start inner w)
       (All-weaker (Inside start (start + order_of inner)) (HasEndsBelow n) (λ e p. (omega (arith, few, p.1), omega (arith, few, p.3))) (inner_events_from directed start inner w) (inside_from w kept below))
@@ -61,7 +62,7 @@ module _ (directed : Bool) (start : ℕ) (inner : GraphData) where
   graph_left self multi = merged_rising self multi directed (inner_events_from directed start inner) (λ w. start + w) 0 (order_of inner) (λ w low high. inner_rises w) (λ u w less. omega (arith, less))
 
   -- all of them are inside it
-  graph_inside : IsKept inner → All (Inside start (start + order_of inner)) (inner_events directed start (entry.Graph inner))
+  graph_inside : HasTips inner → All (Inside start (start + order_of inner)) (inner_events directed start (entry.Graph inner))
   graph_inside kept =
       All-flat_map (Inside start (start + order_of inner)) (inner_events_from directed start inner) (places_of inner)
       (λ k d h. inside_from (get_or (places_of inner) k d) kept (omega (arith, (range-within 0 (order_of inner) k d h).1)))

@@ -21,6 +21,12 @@ pub mod EventsWithin
 pub mod WantedEvents
 -- what is told of arcs by their tips and lengths alone
 pub mod ReadArcs
+-- the circle that is the rim of a wheel, as a board's graph
+pub mod CircleBoards
+-- the entry that it is, built or not
+pub mod RimEntries
+-- its edges at each vertex
+pub mod EdgesAround
 -- the names and the events of copies fit
 pub mod CopiesWithin
 -- the events of a list by its tips and lengths

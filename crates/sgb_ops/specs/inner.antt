@@ -3,6 +3,8 @@
 pub mod Begun
 -- what bi_complete and wheel make of boards
 pub mod Boards
+-- the circle that is the rim of a wheel
+pub mod Circles
 -- the arcs of a complement from one vertex
 pub mod Complement
 -- ids, and names made of names

@@ -5,6 +5,8 @@
 mod bipartite_graphs;
 // The graphs of boards that operations start from.
 mod boards;
+// Circles, whose edges are known.
+mod circles;
 // The complement of a graph.
 mod complements;
 // Ids and names made of others.

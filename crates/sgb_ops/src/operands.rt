@@ -13,8 +13,8 @@ use sgb_graph::{Graph, Names};
 use sgb_vec::{Panic, Text};
 use std::alloc::Global;
 
-// How many bytes of each of two names stay, where they are joined with a byte between them.
-const MOST_PART: usize = 2_047;
+/// How many bytes of each of two names stay, where they are joined with a byte between them.
+pub(crate) const MOST_PART: usize = 2_047;
 
 /// Copies of the names of a graph's vertices, in order.
 ///

@@ -1,12 +1,12 @@
 //! Wheels: vertices in the middle, each joined to all those of a rim (GB_BASIC, wheel).
 ghost use Rattle.std.specs.Prelude.{◌≡◌, [], ◌∷◌, Ok, Err, IfOk, IfErr, IsOkUnless};
 ghost use Rattle.sgb_graph.specs.Descriptions.{IsAnswerOf};
-ghost use Rattle.sgb_ops.specs.declared.induced_graphs.entries.Entry.TheVariants as entry;
 ghost use Rattle.sgb_gen.specs.Boards.{board};
 ghost use Rattle.sgb_ops.specs.Wheel.{accepted_middle, accepted_rim, wheel_of};
-ghost use Rattle.sgb_ops.specs.inner.Boards.{rim_of_wheel};
+ghost use Rattle.sgb_ops.specs.inner.Boards.{rim_entry, rim_of_wheel};
 
 use crate::boards::{pair_of_vertices, rim_of_wheel};
+use crate::circles::Circle;
 use crate::compounds::numbers_id;
 use crate::induced_graphs::{KeptEntry, induced_from};
 use sgb_graph::Graph;
@@ -40,7 +40,7 @@ fn wheel_around(
     ensures answer { IsAnswerOf (wheel_of n n1 directed) result }
     ensures refused { (e : Panic) → board (rim_of_wheel n directed) ≡ Err e → result ≡ Err e }
 {
-    let rim = rim_of_wheel(alloc, n, directed)?;
+    let rim = rim_entry(alloc, n, directed)?;
     let entries = entries(alloc, middle, rim)?;
     let pair = pair_of_vertices(alloc, directed)?;
     let mut built = induced_from(alloc, &pair, entries, false, false, directed)?;
@@ -49,12 +49,37 @@ fn wheel_around(
 }
 
 // The entries: the middle, and then the rim.
-fn entries(alloc: Global, middle: KeptEntry, rim: Graph) -> Result<Vec<KeptEntry>, Panic>
-    ensures ok { IfOk result (λ es. es.items ≡ middle ∷ entry.Graph rim ∷ []) }
+fn entries(alloc: Global, middle: KeptEntry, rim: KeptEntry) -> Result<Vec<KeptEntry>, Panic>
+    ensures ok { IfOk result (λ es. es.items ≡ middle ∷ rim ∷ []) }
     ensures memory { IsOkUnless result Panic.NoRoom }
 {
-    let rim = KeptEntry::graph(Box::new(alloc, rim)?);
     Ok(vec![in alloc; middle, rim]?)
+}
+
+// The entry of the rim. With edges it is a circle that is not built, where it has three vertices and more.
+fn rim_entry(alloc: Global, n: i64, directed: bool) -> Result<KeptEntry, Panic>
+    ensures ok { IfOk result (λ rim. rim_entry n directed ≡ Ok rim) }
+    ensures err { IfErr result (λ e. IsAnswerOf (board (rim_of_wheel n directed)) (Err e)) }
+    ensures refused { (e : Panic) → board (rim_of_wheel n directed) ≡ Err e → result ≡ Err e }
+{
+    if directed {
+        return built_rim(alloc, n, directed);
+    }
+    match Circle::new(n) {
+        Some(circle) => Ok(KeptEntry::circle(circle)),
+        None => built_rim(alloc, n, directed),
+    }
+}
+
+// That of the rim, built.
+fn built_rim(alloc: Global, n: i64, directed: bool) -> Result<KeptEntry, Panic>
+    ensures ok { IfOk result (λ rim. rim_entry n directed ≡ Ok rim) }
+    ensures err { IfErr result (λ e. IsAnswerOf (board (rim_of_wheel n directed)) (Err e)) }
+    ensures refused { (e : Panic) → board (rim_of_wheel n directed) ≡ Err e → result ≡ Err e }
+{
+    let graph = rim_of_wheel(alloc, n, directed)?;
+    let boxed = Box::new(alloc, graph)?;
+    Ok(KeptEntry::graph(boxed))
 }
 
 // The entry of so many vertices in the middle.

@@ -2,12 +2,12 @@
 use Rattle.std.specs.Prelude.{ℕ, zero, suc, ◌+◌, ◌-◌, Bool, List, Option, Some, None, length, map, nat_lt, slice_get}
 use Rattle.std.specs.List.{range_with_len}
 use Rattle.std.specs.Option.{option_map_or}
-use Rattle.sgb_graph.specs.Growth.{IsKept}
 use Rattle.sgb_graph.specs.declared.fields.Link.{Link}
 use Rattle.sgb_ops.specs.declared.induced_graphs.entries.Entry.{Entry}
 use Rattle.sgb_ops.specs.declared.induced_graphs.entries.Entry.TheVariants as entry
 use Rattle.sgb_ops.specs.Entries.{first_copy}
 use Rattle.sgb_graph.specs.Vertices.{order_of}
+use Rattle.sgb_ops.specs.inner.Sources.{HasTips}
 
 -- the first copy of each vertex, and after them how many there are in all
 abbrev pub first_copies : List Entry → List ℕ
@@ -34,10 +34,10 @@ copies_end entries v = copies_start entries v + option_map_or count_by (slice_ge
 abbrev pub leads_to_copies : List Entry → Link → Bool
 leads_to_copies entries l = nat_lt (copies_start entries l.tip) (copies_end entries l.tip)
 
--- a graph that is an entry is sound
+-- the arcs of a graph that is an entry lead to its vertices
 abbrev pub IsKeptEntry : Entry → Type 0
 IsKeptEntry (entry.Copies k) = Unit {0}
-IsKeptEntry (entry.Graph inner) = IsKept inner
+IsKeptEntry (entry.Graph inner) = HasTips inner
 IsKeptEntry (entry.Merged k) = Unit {0}
 
 -- an entry by its number of copies, or by the number of its merged vertex, and without the graph that is put in

@@ -6,11 +6,12 @@ ghost use Rattle.sgb_ops.specs.Entries.{merged_count, names_by_entries, names_of
 ghost use Rattle.sgb_graph.specs.Vertices.{names_of};
 ghost use Rattle.sgb_ops.specs.inner.Compounds.{merged_name, numbered_name};
 ghost use Rattle.sgb_ops.specs.inner.Entries.{own_names};
+ghost use Rattle.sgb_ops.specs.inner.Slots.{inner_held};
 ghost use Rattle.sgb_ops.specs.inner.Sources.{names_held};
 // For the search alone.
 ghost use Rattle.std.specs.Prelude.{◌<◌};
 
-use super::slots::{Slot, Slots};
+use super::slots::{Inner, Slot, Slots};
 use crate::compounds::{ended_name, joined_name};
 use crate::operands::{VertexNames, push_joined_names, push_name};
 use crate::sources::Source;
@@ -94,11 +95,28 @@ fn push_copies(alloc: Global, names: &mut Names, name: &Text, entry: &Slot<'_>) 
     ensures memory { IsOkUnless result Panic.NoRoom }
 {
     match entry.graph() {
-        Some(inner) => {
-            let others = VertexNames::Of(inner);
-            push_joined_names(alloc, names, name, b":", &others, inner.n())
-        }
+        Some(inner) => push_inner_names(alloc, names, name, inner),
         None => push_counted(alloc, names, name, entry.size()),
+    }
+}
+
+// Appends the name joined with those of a graph that is put in.
+fn push_inner_names(
+    alloc: Global,
+    names: &mut Names,
+    name: &Text,
+    inner: &Inner<'_>,
+) -> Result<(), Panic>
+    ensures ok { OnOk result (names.new ≡ names.old
+        ++ names_of_copies name.now (entry.Graph (inner_held inner.now))) }
+    ensures memory { IsOkUnless result Panic.NoRoom }
+{
+    match inner {
+        Inner::Built(graph) => {
+            let others = VertexNames::Of(graph);
+            push_joined_names(alloc, names, name, b":", &others, graph.n())
+        }
+        Inner::Circle(circle) => circle.push_names(alloc, names, name),
     }
 }
 

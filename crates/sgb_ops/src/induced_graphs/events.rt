@@ -6,11 +6,12 @@ ghost use Rattle.sgb_ops.specs.inner.Copies.{sized};
 ghost use Rattle.sgb_ops.specs.Entries.{events_within, inner_events, size_of_entry};
 ghost use Rattle.sgb_ops.specs.Induced.{events_between};
 ghost use Rattle.sgb_ops.specs.inner.Entries.{inner_events_from, total_of};
+ghost use Rattle.sgb_ops.specs.inner.Slots.{inner_held};
 ghost use Rattle.sgb_ops.specs.inner.Induced.{event_between, events_of_arc, events_of_copies, is_met, wanted};
 
 use super::entries::Copies;
 use super::rooms::Rooms;
-use super::slots::{Slot, Slots};
+use super::slots::{Inner, Slot, Slots};
 use crate::events::{Event, push_event};
 use crate::sources::Source;
 use crate::taken::taken;
@@ -46,7 +47,8 @@ pub(super) fn events_within(
 {
     let mut events = Vec::new(alloc);
     for v in 0..n {
-        push_inner_events(&mut events, &entries.at(v), copies.own_start(v), flags)?;
+        let start = copies.own_start(v);
+        push_inner_events(&mut events, alloc, &entries.at(v), start, flags)?;
     }
     Ok(events)
 }
@@ -54,6 +56,7 @@ pub(super) fn events_within(
 // Appends the events inside an entry whose first vertex is `start`.
 fn push_inner_events(
     events: &mut Vec<Event>,
+    alloc: Global,
     entry: &Slot<'_>,
     start: u32,
     flags: Flags,
@@ -64,8 +67,31 @@ fn push_inner_events(
     ensures memory { IsOkUnless result Panic.NoRoom }
 {
     match entry.graph() {
-        Some(inner) => push_graph(events, inner, start, flags),
+        Some(inner) => push_inner(events, alloc, inner, start, flags),
         None => Ok(()),
+    }
+}
+
+// Appends the events of a graph that is put in, whose first vertex is `start`. A circle is built for it: so rare is it here.
+fn push_inner(
+    events: &mut Vec<Event>,
+    alloc: Global,
+    inner: &Inner<'_>,
+    start: u32,
+    flags: Flags,
+) -> Result<(), Panic>
+    requires { start + length (inner_held inner.now).vertices ≤ most_vertices }
+    ensures ok { OnOk result (events.new.items ≡ events.old.items
+        ++ wanted flags.self_loops (inner_events flags.directed start
+        (entry.Graph (inner_held inner.now)))) }
+    ensures memory { IsOkUnless result Panic.NoRoom }
+{
+    match inner {
+        Inner::Built(graph) => push_graph(events, graph, start, flags),
+        Inner::Circle(circle) => {
+            let graph = circle.graph(alloc)?;
+            push_graph(events, &graph, start, flags)
+        }
     }
 }
 

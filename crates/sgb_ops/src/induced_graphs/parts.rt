@@ -6,7 +6,7 @@ ghost use Rattle.std.specs.Prelude.{◌≡◌, ◌<◌, ◌≤◌, ◌+◌, fals
 ghost use Rattle.std.specs.Bool.{OnTrue};
 ghost use Rattle.std.specs.List.{list_any};
 ghost use Rattle.sgb_vec.specs.Limits.{most_vertices};
-ghost use Rattle.sgb_graph.specs.Growth.{AddsEvents, HasPlainArcs, IsKept};
+ghost use Rattle.sgb_graph.specs.Growth.{AddsEvents, HasPlainArcs};
 ghost use Rattle.sgb_ops.specs.declared.induced_graphs.entries.Entry.TheVariants as entry;
 ghost use Rattle.sgb_ops.specs.Entries.{events_within, inner_events, is_unnumbered, merged_count, size_of_entry};
 ghost use Rattle.sgb_ops.specs.Induced.{events_between};
@@ -15,12 +15,15 @@ ghost use Rattle.sgb_ops.specs.inner.Copies.{IsKeptEntry, sized};
 ghost use Rattle.sgb_ops.specs.inner.Ends.{AllWithin};
 ghost use Rattle.sgb_ops.specs.inner.Parts.{AreInParts, has_loop_inside, has_loops_inside};
 ghost use Rattle.sgb_ops.specs.inner.Entries.{inner_events_from, total_of};
+ghost use Rattle.sgb_ops.specs.inner.Slots.{inner_held};
+ghost use Rattle.sgb_ops.specs.inner.Sources.{HasTips};
 ghost use Rattle.sgb_ops.specs.inner.Induced.{events_of_arc, events_of_copies, wanted};
 
 use super::entries::Copies;
 use super::events::{Flags, push_from_copy, push_inner_arcs};
 use super::rooms::Rooms;
-use super::slots::{Slot, Slots};
+use super::slots::{Inner, Slot, Slots};
+use crate::circles::Circle;
 use crate::events::{Event, add_events};
 use crate::merged::{are_merged, merged};
 use crate::sources::Source;
@@ -138,9 +141,58 @@ fn add_inner_events(
     ensures memory { IsOkUnless result Panic.NoRoom }
 {
     match entry.graph() {
-        Some(inner) => add_graph(built, alloc, inner, start, flags),
+        Some(inner) => add_inner(built, alloc, inner, start, flags),
         None => Ok(()),
     }
+}
+
+// Adds the events of a graph that is put in, whose first vertex is `start`.
+fn add_inner(
+    built: &mut Graph,
+    alloc: Global,
+    inner: &Inner<'_>,
+    start: u32,
+    flags: Flags,
+) -> Result<(), Panic>
+    requires few { start + length (inner_held inner.now).vertices ≤ length built.old.vertices }
+    requires small { length built.old.vertices ≤ most_vertices }
+    requires kept { HasTips (inner_held inner.now) }
+    requires plain { HasPlainArcs built.old }
+    ensures ok { OnOk result (AddsEvents flags.directed built.old built.new
+        (merged_unless flags.multi flags.directed
+        (wanted flags.self_loops (inner_events flags.directed start
+        (entry.Graph (inner_held inner.now)))))) }
+    ensures memory { IsOkUnless result Panic.NoRoom }
+{
+    match inner {
+        Inner::Built(graph) => add_graph(built, alloc, graph, start, flags),
+        Inner::Circle(circle) => add_circle(built, alloc, circle, start, flags),
+    }
+}
+
+// Adds those of a circle, which is built for arcs: so rare is it there.
+fn add_circle(
+    built: &mut Graph,
+    alloc: Global,
+    circle: &Circle,
+    start: u32,
+    flags: Flags,
+) -> Result<(), Panic>
+    requires few { start + length circle.now.vertices ≤ length built.old.vertices }
+    requires small { length built.old.vertices ≤ most_vertices }
+    requires kept { HasTips circle.now }
+    requires plain { HasPlainArcs built.old }
+    ensures ok { OnOk result (AddsEvents flags.directed built.old built.new
+        (merged_unless flags.multi flags.directed
+        (wanted flags.self_loops (inner_events flags.directed start
+        (entry.Graph circle.now))))) }
+    ensures memory { IsOkUnless result Panic.NoRoom }
+{
+    if flags.directed {
+        let graph = circle.graph(alloc)?;
+        return add_graph(built, alloc, &graph, start, flags);
+    }
+    circle.add_edges(built, start)
 }
 
 // Adds the events of a graph whose first vertex is `start`.
@@ -153,7 +205,7 @@ fn add_graph(
 ) -> Result<(), Panic>
     requires few { start + length inner.now.vertices ≤ length built.old.vertices }
     requires small { length built.old.vertices ≤ most_vertices }
-    requires kept { IsKept inner.now }
+    requires kept { HasTips inner.now }
     requires plain { HasPlainArcs built.old }
     ensures ok { OnOk result (AddsEvents flags.directed built.old built.new
         (merged_unless flags.multi flags.directed

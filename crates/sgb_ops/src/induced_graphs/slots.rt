@@ -7,9 +7,11 @@ ghost use Rattle.std.specs.Option.{option_map};
 ghost use Rattle.sgb_ops.specs.declared.induced_graphs.entries.Entry.TheVariants as entry;
 ghost use Rattle.sgb_ops.specs.Entries.{is_unnumbered, merged_number, size_of_entry};
 ghost use Rattle.sgb_ops.specs.inner.Copies.{IsKeptEntry};
-ghost use Rattle.sgb_ops.specs.inner.Slots.{inner_graph};
+ghost use Rattle.sgb_ops.specs.inner.Slots.{inner_graph, inner_held};
+ghost use Rattle.sgb_ops.specs.inner.Sources.{HasTips};
 
 use super::entries::Entry;
+use crate::circles::Circle;
 use sgb_graph::Graph;
 use std::marker::Model;
 
@@ -19,7 +21,15 @@ pub struct KeptEntry {
     // So many copies, or the number of the merged vertex.
     count: u32,
     is_merged: bool,
-    graph: Option<Box<Graph>>,
+    graph: KeptGraph,
+}
+
+// The graph that it puts in, if any.
+#[derive(Drop)]
+enum KeptGraph {
+    None,
+    Built(Box<Graph>),
+    Circle(Circle),
 }
 
 // One call for those who drop it.
@@ -34,13 +44,12 @@ impl Drop for KeptEntry {
 }
 
 impl Model for KeptEntry {
-    ghost use Rattle.std.specs.Option.{option_map};
     ghost use Rattle.sgb_ops.specs.declared.induced_graphs.entries.Entry.{Entry};
-    ghost use Rattle.sgb_ops.specs.inner.Slots.{entry_of_slot};
+    ghost use Rattle.sgb_ops.specs.inner.Slots.{entry_of_slot, graph_of_entry};
 
     ghost Value = { Entry };
 
-    ghost view = { λ k. entry_of_slot k.count k.is_merged (option_map (λ g. g.value) k.graph) };
+    ghost view = { λ k. entry_of_slot k.count k.is_merged (graph_of_entry k.graph) };
 }
 
 impl KeptEntry {
@@ -51,7 +60,7 @@ impl KeptEntry {
         KeptEntry {
             count,
             is_merged: false,
-            graph: None,
+            graph: KeptGraph::None,
         }
     }
 
@@ -62,7 +71,7 @@ impl KeptEntry {
         KeptEntry {
             count: number,
             is_merged: true,
-            graph: None,
+            graph: KeptGraph::None,
         }
     }
 
@@ -73,7 +82,18 @@ impl KeptEntry {
         KeptEntry {
             count: 0,
             is_merged: false,
-            graph: Some(graph),
+            graph: KeptGraph::Built(graph),
+        }
+    }
+
+    /// The vertices of this circle, with its arcs.
+    pub(crate) fn circle(circle: Circle) -> KeptEntry
+        ensures { result ≡ entry.Graph circle }
+    {
+        KeptEntry {
+            count: 0,
+            is_merged: false,
+            graph: KeptGraph::Circle(circle),
         }
     }
 
@@ -82,12 +102,9 @@ impl KeptEntry {
         ensures { result ≡ self.now }
     {
         match &self.graph {
-            Some(graph) => Slot {
-                count: 0,
-                is_merged: false,
-                graph: Some(graph),
-            },
-            None => Slot {
+            KeptGraph::Built(graph) => Slot::inner(Inner::Built(graph)),
+            KeptGraph::Circle(circle) => Slot::inner(Inner::Circle(circle)),
+            KeptGraph::None => Slot {
                 count: self.count,
                 is_merged: self.is_merged,
                 graph: None,
@@ -96,26 +113,59 @@ impl KeptEntry {
     }
 }
 
+/// The graph that an entry puts in, as it is read.
+#[derive(Drop)]
+pub(super) enum Inner<'a> {
+    /// It is built.
+    Built(&'a Graph),
+    /// It is a circle, and not built.
+    Circle(&'a Circle),
+}
+
 /// An entry as it is read. Contracts see it as the entry.
 #[derive(Drop)]
 pub(super) struct Slot<'a> {
     // So many copies, or the number of the merged vertex.
     count: u32,
     is_merged: bool,
-    graph: Option<&'a Graph>,
+    graph: Option<Inner<'a>>,
 }
 
 impl<'a> Model for Slot<'a> {
     ghost use Rattle.std.specs.Option.{option_map};
     ghost use Rattle.sgb_ops.specs.declared.induced_graphs.entries.Entry.{Entry};
-    ghost use Rattle.sgb_ops.specs.inner.Slots.{entry_of_slot};
+    ghost use Rattle.sgb_ops.specs.inner.Slots.{entry_of_slot, inner_held};
 
     ghost Value = { Entry };
 
-    ghost view = { λ s. entry_of_slot s.count s.is_merged (option_map (λ g. g.now) s.graph) };
+    ghost view = { λ s. entry_of_slot s.count s.is_merged (option_map inner_held s.graph) };
+}
+
+impl<'a> Inner<'a> {
+    // How many vertices it has. All arcs lead to these.
+    fn n(&self) -> u32
+        ensures count { result ≡ length (inner_held self.now).vertices }
+        ensures tips { HasTips (inner_held self.now) }
+    {
+        match self {
+            Inner::Built(graph) => graph.n(),
+            Inner::Circle(circle) => circle.n(),
+        }
+    }
 }
 
 impl<'a> Slot<'a> {
+    // That of a graph.
+    fn inner(graph: Inner<'a>) -> Slot<'a>
+        ensures { result ≡ entry.Graph (inner_held graph) }
+    {
+        Slot {
+            count: 0,
+            is_merged: false,
+            graph: Some(graph),
+        }
+    }
+
     // That of an entry.
     fn of(entry: &'a Entry) -> Slot<'a>
         ensures { result ≡ entry.now }
@@ -126,11 +176,7 @@ impl<'a> Slot<'a> {
                 is_merged: false,
                 graph: None,
             },
-            Entry::Graph(graph) => Slot {
-                count: 0,
-                is_merged: false,
-                graph: Some(graph),
-            },
+            Entry::Graph(graph) => Slot::inner(Inner::Built(graph)),
             Entry::Merged(number) => Slot {
                 count: *number,
                 is_merged: true,
@@ -140,10 +186,13 @@ impl<'a> Slot<'a> {
     }
 
     /// The graph that is put in, if any.
-    pub(super) fn graph(&self) -> Option<&'a Graph>
-        ensures { option_map (λ g. g.now) result ≡ inner_graph self.now }
+    pub(super) fn graph(&self) -> Option<&Inner<'a>>
+        ensures { option_map (λ g. inner_held g.now) result ≡ inner_graph self.now }
     {
-        self.graph
+        match &self.graph {
+            Some(graph) => Some(graph),
+            None => None,
+        }
     }
 
     /// How many vertices stand in the place of a vertex with this entry alone.
@@ -151,7 +200,7 @@ impl<'a> Slot<'a> {
         ensures value { result ≡ size_of_entry self.now }
         ensures kept { IsKeptEntry self.now }
     {
-        if let Some(graph) = self.graph {
+        if let Some(graph) = &self.graph {
             return graph.n();
         }
         if self.is_merged { 0 } else { self.count }
