@@ -34,7 +34,10 @@ const FEW_STEPS: u64 = 40_000;
 const FEW_WALKED: u64 = 1_000;
 
 // A displacement takes as long as so many of these steps, or longer.
-const STEPS_WALKED: u64 = 256;
+const STEPS_WALKED: u64 = 64;
+
+// On more sides than four there are mostly far more displacements than steps, so fewer of them are walked first.
+const STEPS_WALKED_ON_MORE: u64 = 1_024;
 
 impl Board {
     /// The number of arcs of the board's graph (GB_BASIC, board), where an edge counts as two. It is found by
@@ -79,14 +82,14 @@ impl Board {
         self.moves_walked(alloc)
     }
 
-    // The same by a walk over the displacements, or over as many as take as long as the row, which is then tried.
+    // The same by a walk over the displacements, or over the first of them, until the row is tried.
     fn moves_walked(&self, alloc: Global) -> Option<u128>
         ensures some { IfSome result (λ n. n ≡ length (moves_of_board self.now)) }
         ensures none { IfNone result (2 ^ 128 ≤ length (moves_of_board self.now)) }
     {
         let mut counted: u128 = 0;
         let mut walked: u64 = 0;
-        let most = (self.row_steps() / STEPS_WALKED).max(FEW_WALKED);
+        let most = self.most_walked();
         let mut left = self.displacements();
         while let Some(t) = left.front() {
             if walked == most {
@@ -102,6 +105,16 @@ impl Board {
             let _some = left.advance();
         }
         Some(counted)
+    }
+
+    // After so many displacements the row is tried.
+    fn most_walked(&self) -> u64 {
+        let steps = if self.sizes().len() > MANY_SIDES {
+            STEPS_WALKED_ON_MORE
+        } else {
+            STEPS_WALKED
+        };
+        (self.row_steps() / steps).max(FEW_WALKED)
     }
 
     // A number and that of the moves by the displacement `t` together, where 128 bits hold them: at once where at most
