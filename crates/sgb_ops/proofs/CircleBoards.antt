@@ -1,9 +1,9 @@
 -- The circle that is the rim of a wheel, as the graph of a board: its vertices, names and events.
-use Rattle.sgb_vec.proofs.Common.{rules, ◌≡◌, ◌∙◌, ◌<◌, ◌≤◌, ◌+◌, ◌%◌, ◌==◌, ℕ, zero, suc, pos, negsuc, ℤ, ◌≤ℤ◌, nat_abs, false, true, List, [], ◌∷◌, ◌++◌, map, length, refl, sym, ap, subst, arith, Result, Ok, Err, IfOk, IsOkUnless, Some, if◌then◌else◌, ltb, nat_lt, range_with_len, slice_get, flat_map, cases_lt, le-ltb, lt-ltb, mod-eq_of_lt, length-map, append-nil}
+use Rattle.sgb_vec.proofs.Common.{◌≡◌, ◌∙◌, ◌<◌, ◌≤◌, ◌+◌, ℕ, zero, suc, pos, negsuc, ℤ, ◌≤ℤ◌, nat_abs, false, List, [], ◌∷◌, map, refl, sym, ap, subst, arith, Result, Ok, Err, IfOk, IsOkUnless, Some, if◌then◌else◌, ltb, nat_lt, range_with_len, slice_get, flat_map, cases_lt, le-ltb, lt-ltb, mod-eq_of_lt, length-map, append-nil}
 use Rattle.std.proofs.Math.Nat.{mod_self}
 use Rattle.std.specs.Prelude.{◌+ℤ◌, ◌*ℤ◌, codes}
 use Rattle.std.specs.Int.{int_rem_euclid}
-use Rattle.std.proofs.lemmas.Int.{ints, int_rem_euclid_is}
+use Rattle.std.proofs.lemmas.Int.{ints}
 use Rattle.sgb_vec.specs.Boxes.{box}
 use Rattle.sgb_vec.specs.Names.{name_of_vector}
 use Rattle.sgb_vec.proofs.BoxPlaces.{length-box, slice_get-place_of}

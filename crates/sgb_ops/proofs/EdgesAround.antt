@@ -1,14 +1,12 @@
 -- The edges of a circle at each vertex, of which an induced graph has those that are taken.
-use Rattle.sgb_vec.proofs.Common.{rules, ◌≡◌, ◌≢◌, ◌∙◌, ◌<◌, ◌≤◌, ◌+◌, ◌-◌, ◌==◌, ℕ, zero, suc, min, max, pos, ℤ, Bool, false, true, List, [], ◌∷◌, ◌++◌, map, filter, reverse, length, refl, sym, ap, ap₂, arith, if◌then◌else◌, nat_lt, range_with_len, enumerate_from, flat_map, filter-append, reverse-append, map-range_with_len_more, map-append, cases_eq, cases_lt, eq-eqb, ne_eqb, lt-ltb, le-ltb}
+use Rattle.sgb_vec.proofs.Common.{◌≡◌, ◌∙◌, ◌<◌, ◌≤◌, ◌+◌, ◌-◌, ◌==◌, ℕ, zero, suc, min, max, Bool, false, List, [], ◌∷◌, ◌++◌, map, filter, reverse, refl, sym, ap, ap₂, arith, range_with_len, enumerate_from, flat_map, filter-append, reverse-append, map-range_with_len_more, map-append, cases_eq, cases_lt, eq-eqb, ne_eqb, lt-ltb, le-ltb}
 use Rattle.sgb_graph.specs.Events.{Event}
 use Rattle.sgb_graph.specs.Graphs.{GraphData}
-use Rattle.sgb_graph.specs.Vertices.{order_of, places_of}
-use Rattle.sgb_graph.proofs.Lists.{map-map}
-use Rattle.sgb_ops.specs.Taken.{edges_up_from, lower_record, taken}
+use Rattle.sgb_ops.specs.Taken.{edges_up_from, lower_record}
 use Rattle.sgb_ops.specs.declared.induced_graphs.entries.Entry.TheVariants as entry
 use Rattle.sgb_ops.specs.Entries.{inner_events}
 use Rattle.sgb_ops.specs.Merged.{merged_unless}
-use Rattle.sgb_ops.specs.inner.Circles.{circle, edge_around, edges_around, edges_at}
+use Rattle.sgb_ops.specs.inner.Circles.{circle, edges_around, edges_at}
 use Rattle.sgb_ops.specs.inner.Entries.{inner_event, inner_events_from}
 use Rattle.sgb_ops.specs.inner.Induced.{wanted}
 use Rattle.sgb_ops.specs.inner.Merged.{HaveDifferentEnds}

@@ -10,7 +10,6 @@ use Rattle.sgb_graph.proofs.Tips.{tips_below}
 use Rattle.sgb_ops.specs.inner.Ends.{AllWithin, event_of}
 use Rattle.sgb_ops.specs.inner.TakenArcs.{taken_of}
 use Rattle.sgb_ops.specs.Merged.{merged_unless}
-use Rattle.sgb_ops.specs.Taken.{taken}
 use Rattle.sgb_ops.proofs.Merging.{merged_keeps}
 use Rattle.sgb_ops.proofs.Taking.{all_once}
 

@@ -1,8 +1,7 @@
 -- The entry of a wheel's rim: of the graph that a description makes, be it built or not.
-use Rattle.std.proofs.Common.{◌≡◌, ◌∙◌, Result, Ok, Err, refl, sym, arith}
+use Rattle.std.proofs.Common.{◌≡◌, Result, Ok, Err, refl, arith}
 use Rattle.sgb_vec.specs.Results.{and_then}
 use Rattle.sgb_vec.specs.declared.panics.Panic.{Panic}
-use Rattle.sgb_vec.specs.declared.panics.Panic.TheVariants.{NoRoom}
 use Rattle.sgb_graph.specs.Descriptions.{Description, IsAnswerOf}
 use Rattle.sgb_graph.specs.Graphs.{GraphData}
 use Rattle.sgb_graph.specs.Made.{graph_described}
@@ -39,11 +38,6 @@ pub built_entry : (r : Result Description Panic) (g : GraphData) → IsAnswerOf 
 built_entry (Ok x) g is = grind (arith, described_only)
 built_entry (Err f) g is = absurd is
 
-pub built_stands : {T : Type 0} (r : Result Description Panic) (g : GraphData) (result : Result T Panic) → IsAnswerOf r (Ok g) → (e : Panic) → r ≡ Err e → result ≡ Err e
-built_stands (Ok x) g result is e refused = absurd cc
-built_stands (Err f) g result is e refused = absurd is
-
--- there may be no memory for its entry
-pub no_room_left : (r : Result Description Panic) (g : GraphData) → IsAnswerOf r (Ok g) → IsAnswerOf r (Err NoRoom)
-no_room_left (Ok x) g is = refl
-no_room_left (Err f) g is = absurd is
+-- the code of a refusal is one only
+pub same_code : (x e : Panic) (r : Result Entry Panic) → r ≡ Err x → r ≡ Err e → x ≡ e
+same_code x e r own other = cc

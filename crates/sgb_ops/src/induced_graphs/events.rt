@@ -47,8 +47,13 @@ pub(super) fn events_within(
 {
     let mut events = Vec::new(alloc);
     for v in 0..n {
-        let start = copies.own_start(v);
-        push_inner_events(&mut events, alloc, &entries.at(v), start, flags)?;
+        push_inner_events(
+            &mut events,
+            alloc,
+            &entries.at(v),
+            copies.own_start(v),
+            flags,
+        )?;
     }
     Ok(events)
 }

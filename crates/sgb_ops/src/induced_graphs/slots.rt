@@ -157,7 +157,7 @@ impl<'a> Inner<'a> {
 impl<'a> Slot<'a> {
     // That of a graph.
     fn inner(graph: Inner<'a>) -> Slot<'a>
-        ensures { result ≡ entry.Graph (inner_held graph) }
+        ensures { result ≡ entry.Graph (inner_held graph.entry) }
     {
         Slot {
             count: 0,

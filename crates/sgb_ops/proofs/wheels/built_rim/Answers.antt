@@ -1,4 +1,4 @@
-use Rattle.sgb_vec.proofs.Common.{rules, Ok, w64, subst, to_z-of_z}
+use Rattle.sgb_vec.proofs.Common.{Ok, w64, subst, to_z-of_z}
 use Rattle.sgb_graph.specs.Descriptions.{IsAnswerOf}
 use Rattle.sgb_gen.specs.Boards.{board}
 use Rattle.sgb_ops.specs.inner.Boards.{rim_of_wheel}

@@ -14,7 +14,7 @@ use Rattle.sgb_ops.specs.Wheel.{accepted_middle, wheel_of}
 use Rattle.sgb_ops.specs.inner.Boards.{rim_entry, rim_of_wheel, with_wheel_id}
 use Rattle.sgb_ops.specs.inner.Compounds.{wheel_id}
 use Rattle.sgb_ops.proofs.AnswersOnward.{changed, onward, refused_onward, wheel_made}
-use Rattle.sgb_ops.proofs.RimEntries.{IsRim, rim_known}
+use Rattle.sgb_ops.proofs.RimEntries.{IsRim, rim_known, same_code}
 use Rattle.sgb_ops.proofs.wheels.wheel_around.Goals as goal
 
 -- a number as the code keeps it
@@ -117,4 +117,7 @@ returns-in_err-entries-clause-refused c = rim_made c.args.n c.args.directed c.in
 pub returns-in_err-rim-clause-refused : goal.returns-in_err-rim-clause-refused
 returns-in_err-rim-clause-refused c = λ e is.
     let p = err_from_is_err_and c.from_residual.result c.from_residual.ensures.1 in
-    rw (p.1, p.2) (c.in_err-rim.ensures.refused e (ap (λ k. board (rim_of_wheel k c.args.directed)) (to_z-of_z w64 c.args.n c.ranges.n) ∙ is))
+    rw (p.1, p.2)
+    (ap (λ f. Err f)
+    (same_code c.in_err-rim.field-0.0 e (Err c.in_err-rim.field-0.0) refl
+    (c.in_err-rim.ensures.refused e (ap (λ k. board (rim_of_wheel k c.args.directed)) (to_z-of_z w64 c.args.n c.ranges.n) ∙ is))))

@@ -1,4 +1,4 @@
-use Rattle.sgb_vec.proofs.Common.{rules, arith, w64, to_z, of_z, to_z-of_z}
+use Rattle.sgb_vec.proofs.Common.{rules, to_z-of_z}
 use Rattle.sgb_ops.proofs.CircleBoards.{made_around}
 use Rattle.sgb_ops.proofs.circles.Circle.new.Goals as goal
 

@@ -1,9 +1,5 @@
 use Rattle.std.proofs.Common.{false, sym, subst, OnOk}
 use Rattle.sgb_graph.specs.Growth.{AddsEvents}
-use Rattle.sgb_ops.specs.declared.induced_graphs.entries.Entry.TheVariants as entry
-use Rattle.sgb_ops.specs.Entries.{inner_events}
-use Rattle.sgb_ops.specs.Merged.{merged_unless}
-use Rattle.sgb_ops.specs.inner.Induced.{wanted}
 use Rattle.sgb_ops.proofs.induced_graphs.parts.add_circle.Goals as goal
 
 pub returns-clause-ok : goal.returns-clause-ok

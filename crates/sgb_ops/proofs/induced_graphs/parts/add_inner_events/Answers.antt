@@ -1,4 +1,4 @@
-use Rattle.std.proofs.Common.{rules, ◌∙◌, sym, ap, subst, OnOk}
+use Rattle.std.proofs.Common.{◌∙◌, sym, ap, subst, OnOk}
 use Rattle.std.specs.Option.{option_map}
 use Rattle.sgb_graph.specs.Growth.{AddsEvents}
 use Rattle.sgb_ops.specs.Entries.{inner_events}

@@ -1,4 +1,4 @@
-use Rattle.std.proofs.Common.{◌∙◌, ap, subst, sym}
+use Rattle.std.proofs.Common.{ap, subst, sym}
 use Rattle.sgb_ops.specs.inner.Slots.{inner_held}
 use Rattle.sgb_ops.specs.inner.Sources.{HasTips}
 use Rattle.sgb_ops.proofs.ListedEvents.{kept_tips}
