@@ -1,0 +1,35 @@
+-- How many ordered pairs of subsets have so many elements in common, by the places where the one has more and by those where
+-- the other has as much or more.
+use Rattle.std.specs.Prelude.{ℕ, ◌+◌, ◌-◌, ◌*◌, ◌/◌, ◌%◌, ◌^◌, ◌==◌, nat_lt, ◌&&◌, List, [], ◌∷◌, length, if◌then◌else◌}
+use Rattle.sgb_gen.specs.Subsets.{is_wanted_size}
+use Rattle.sgb_gen.specs.inner.SubsetsPairs.{added}
+
+-- the bounds at whose places a number has this bit; the first place has the last bit
+abbrev pub with_bit : ℕ → ℕ → List ℕ → List ℕ
+with_bit bit number [] = []
+with_bit bit number (b ∷ bounds) =
+    if number % 2 == bit then b ∷ with_bit bit (number / 2) bounds else with_bit bit (number / 2) bounds
+
+-- how many pairs of vectors within these bounds there are of which one has at each place no less than the other, and `least`
+-- more there at least: `surplus` more in all, where the other one adds to `common`
+abbrev pub pairs_above : ℕ → List ℕ → ℕ → ℕ → ℕ
+pairs_above least [] surplus common = if surplus + common == 0 then 1 else 0
+pairs_above least (b ∷ bounds) surplus common =
+    added (common + 1) (λ y. added (surplus + 1) (λ x.
+    if nat_lt x least then 0 else if nat_lt b (x + y) then 0 else pairs_above least bounds (surplus - x) (common - y)))
+
+-- how many pairs of vectors have so many elements in common, and each one `surplus` others, where the first one has more at the
+-- places where a number has the bit 1, and not at the others
+abbrev pub pairs_by_bits : ℕ → List ℕ → ℕ → ℕ → ℕ
+pairs_by_bits number bounds surplus common =
+    added (common + 1) (λ c. pairs_above 1 (with_bit 1 number bounds) surplus c
+    * pairs_above 0 (with_bit 0 number bounds) surplus (common - c))
+
+-- wherever the first one has more
+abbrev pub pairs_in_common : List ℕ → ℕ → ℕ → ℕ
+pairs_in_common bounds surplus common = added (2 ^ length bounds) (λ number. pairs_by_bits number bounds surplus common)
+
+-- the same for all wanted sizes up to the most, of vectors that add to the total
+abbrev pub pairs_wanted : ℕ → List ℕ → ℕ → ℕ → ℕ
+pairs_wanted size_bits bounds total most =
+    added (most + 1) (λ common. if is_wanted_size size_bits common then pairs_in_common bounds (total - common) common else 0)
