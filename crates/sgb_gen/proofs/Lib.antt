@@ -205,6 +205,10 @@ pub mod SubsetsPairTables
 pub mod SubsetsMovePairs
 -- the arcs on the list of one vector of subsets counted
 pub mod SubsetsListCounts
+-- sums over the numbers below one
+pub mod AddedSums
+-- pairs of subsets by the places where the one has more
+pub mod SubsetsSurpluses
 -- the place of a vector of a sum, by counts that are kept
 pub mod KeptCounts
 -- boards whose arcs need no sort, and how many displacements a board has

@@ -113,7 +113,7 @@ peeled sb c q r m k l bs =
 
 -- ---- running sums
 
-added-both : (n : ℕ) (f g : ℕ → ℕ) → added n (λ i. f i + g i) ≡ added n f + added n g
+pub added-both : (n : ℕ) (f g : ℕ → ℕ) → added n (λ i. f i + g i) ≡ added n f + added n g
 added-both zero f g = refl
 added-both (suc n) f g = omega (arith, added-both n f g)
 
