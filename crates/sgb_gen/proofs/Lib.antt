@@ -209,6 +209,8 @@ pub mod SubsetsListCounts
 pub mod AddedSums
 -- pairs of subsets by the places where the one has more
 pub mod SubsetsSurpluses
+-- pairs of subsets by what they leave of the bounds
+pub mod SubsetsLeftOver
 -- the place of a vector of a sum, by counts that are kept
 pub mod KeptCounts
 -- boards whose arcs need no sort, and how many displacements a board has

@@ -24,12 +24,12 @@ over [] f = 0
 over (v ∷ vs) f = f v + over vs f
 
 -- over all pairs of vectors within these bounds, of what each one adds to and what they have in common
-abbrev all_pairs : List ℕ → (ℕ → ℕ → ℕ → ℕ) → ℕ
+abbrev pub all_pairs : List ℕ → (ℕ → ℕ → ℕ → ℕ) → ℕ
 all_pairs [] f = f 0 0 0
 all_pairs (b ∷ bs) f = added (b + 1) (λ x. added (b + 1) (λ y. all_pairs bs (λ i j k. f (x + i) (y + j) (min x y + k))))
 
 -- 1 for a pair that adds to these sums and has a wanted size in common
-abbrev counted : ℕ → ℕ → ℕ → ℕ → ℕ → ℕ → ℕ → ℕ
+abbrev pub counted : ℕ → ℕ → ℕ → ℕ → ℕ → ℕ → ℕ → ℕ
 counted sb c first second i j k = cond (i == first) (cond (j == second) (cond (is_wanted_size sb (k + c)) 1 0) 0) 0
 
 -- over no vectors, over two lists, and over those with an entry in front
@@ -107,7 +107,7 @@ among-over sb c f s (u ∷ us) vs = by (sum u == f) refl (among-over sb c f s us
   by false e rest = rw e (omega (arith, over-none vs, rest))
 
 -- so pairs of two sums are counted over all pairs
-sums-over : (sb f s c : ℕ) (bs : List ℕ) → pairs_of_sums sb bs f s c ≡ all_pairs bs (counted sb c f s)
+pub sums-over : (sb f s c : ℕ) (bs : List ℕ) → pairs_of_sums sb bs f s c ≡ all_pairs bs (counted sb c f s)
 unfolding bounded_sums
 sums-over sb f s c bs = among-over sb c f s (all_within bs) (all_within bs) ∙ over-pairs bs (counted sb c f s)
 

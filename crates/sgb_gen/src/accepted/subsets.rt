@@ -15,6 +15,7 @@ ghost use Rattle.std.specs.Simd.Lanes.{sum_l, zip2};
 mod counts;
 mod descents;
 mod last_entries;
+mod left_over;
 mod list_counts;
 mod lists;
 mod pair_sums;
