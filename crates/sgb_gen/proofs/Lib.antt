@@ -203,6 +203,8 @@ pub mod SubsetsPairs
 pub mod SubsetsPairTables
 -- the moves of subsets as pairs of vectors
 pub mod SubsetsMovePairs
+-- pairs of at most three bounds, with no table
+mod SubsetsFewBounds
 -- the arcs on the list of one vector of subsets counted
 pub mod SubsetsListCounts
 -- sums over the numbers below one

@@ -14,6 +14,7 @@ ghost use Rattle.std.specs.Simd.Lanes.{sum_l, zip2};
 
 mod counts;
 mod descents;
+mod few_bounds;
 mod last_entries;
 mod left_over;
 mod list_counts;
