@@ -1,12 +1,17 @@
 -- Pairs of subsets of at most three bounds, counted with no table.
-use Rattle.std.proofs.Common.{◌≡◌, ℕ, zero, suc, ◌+◌, ◌-◌, ◌*◌, ◌/◌, ◌%◌, ◌<◌, ◌≤◌, ◌≢◌, ◌⊎◌, min, max, Bool, cond, List, [], ◌∷◌, ◌++◌, length, drop, get_or, refl, sym, ap, ◌∙◌, arith, inl, inr, true, false, append_assoc, length-append}
+use Rattle.std.proofs.Common.{Option, ◌≡◌, ℕ, zero, suc, ◌+◌, ◌-◌, ◌*◌, ◌/◌, ◌%◌, ◌<◌, ◌≤◌, ◌≢◌, ◌⊎◌, min, max, Bool, cond, List, [], ◌∷◌, ◌++◌, length, drop, get_or, refl, sym, ap, ◌∙◌, arith, inl, inr, true, false, append_assoc, length-append}
 use Rattle.std.specs.Prelude.{◌==◌, nat_lt, if◌then◌else◌}
 use Rattle.std.proofs.lemmas.Bool.{cases_lt, cond_above, cond_below, eq-eqb, ne_eqb}
 use Rattle.std.proofs.lemmas.Bool.Decides.{nat_tests}
+use Rattle.std.specs.Option.{IfSome}
 use Rattle.std.proofs.lemmas.List.{append-nil, drop_more}
-use Rattle.sgb_gen.specs.Subsets.{is_wanted_size}
-use Rattle.sgb_gen.specs.inner.SubsetsPairs.{added}
-use Rattle.sgb_gen.specs.inner.SubsetsSurpluses.{pairs_above, pairs_in_common, with_bit}
+use Rattle.std.proofs.lemmas.Option.{IfSome_then}
+use Rattle.sgb_vec.specs.Limits.{most_vertices}
+use Rattle.sgb_gen.specs.Subsets.{SubsetsData, is_wanted_size, subsets_vectors}
+use Rattle.sgb_gen.specs.inner.SubsetsPairs.{added, pairs_among, pairs_of_sums}
+use Rattle.sgb_gen.specs.inner.SubsetsSurpluses.{pairs_above, pairs_in_common, pairs_wanted, with_bit}
+use Rattle.sgb_gen.proofs.AddedSums.{added-same, added-zeros}
+use Rattle.sgb_gen.proofs.SubsetsPairs.{pairs-few}
 
 -- ---- what the loops add
 
@@ -28,14 +33,6 @@ shared_pairs least first second surplus common y =
 -- one number more
 pub added-more : (n : ℕ) (f : ℕ → ℕ) → added (n + 1) f ≡ added n f + f n
 added-more n f = ap (λ m. added m f) {x = n + 1} {y = suc n} (omega arith)
-
-added-same : (n : ℕ) (f g : ℕ → ℕ) → ((i : ℕ) → i < n → f i ≡ g i) → added n f ≡ added n g
-added-same zero f g same = refl
-added-same (suc n) f g same = omega (arith, same n (omega arith), added-same n f g (λ i below. same i (omega (arith, below))))
-
-added-zeros : (n : ℕ) (f : ℕ → ℕ) → ((i : ℕ) → i < n → f i ≡ 0) → added n f ≡ 0
-added-zeros zero f none = refl
-added-zeros (suc n) f none = omega (arith, none n (omega arith), added-zeros n f (λ i below. none i (omega (arith, below))))
 
 -- all but the last are zeros
 added-last : (n : ℕ) (f : ℕ → ℕ) → ((i : ℕ) → i < n → f i ≡ 0) → added (n + 1) f ≡ f n
@@ -207,3 +204,17 @@ pub one_of : (xs : List ℕ) → length xs ≡ 1 → xs ≡ get_or xs 0 0 ∷ []
 one_of [] long = absurd (omega (arith, long))
 one_of (x ∷ []) long = refl
 one_of (x ∷ y ∷ xs) long = absurd (omega (arith, long))
+
+-- ---- all pairs of vectors
+
+-- what is found is how many there are, and few
+pub wanted-found : (s : SubsetsData) (sb total most : ℕ) (bounds : List ℕ) (r : Option ℕ) → sb ≡ s.size_bits → total ≡ s.sum.total → bounds ≡ s.sum.bounds → length (subsets_vectors s) ≤ most_vertices
+    → pairs_wanted sb bounds total most ≡ pairs_of_sums sb bounds total total 0
+    → IfSome r (λ n. n ≡ pairs_wanted sb bounds total most)
+    → IfSome r (λ n. n ≡ pairs_among s.size_bits 0 (subsets_vectors s) (subsets_vectors s)) × IfSome r (λ n. n ≤ most_vertices * most_vertices)
+wanted-found s sb total most bounds r bits_are total_is bounds_are few wanted found =
+    let vs = subsets_vectors s in
+    let same : pairs_of_sums sb bounds total total 0 ≡ pairs_among s.size_bits 0 vs vs = cc (bits_are, total_is, bounds_are) in (
+      IfSome_then r found (λ n is. is ∙ wanted ∙ same),
+      IfSome_then r found (λ n is. omega (arith, is, wanted, same, pairs-few s.size_bits 0 vs vs few, few)),
+    )

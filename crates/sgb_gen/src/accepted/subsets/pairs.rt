@@ -1,6 +1,11 @@
-//! The number of moves of many subsets, by the pairs of vectors with a wanted size in common. A table has how many there
-//! are of two sums, and with how many elements in common before; it begins with no bounds, and each of the bounds, from the
-//! last to the first, is taken in, in the same table (`pair_sums`). It takes two megabytes at most.
+//! The number of moves of many subsets, by the pairs of vectors with a wanted size in common. These are counted by the first
+//! of three ways that has room and is quick: with no table of at most three bounds (`few_bounds`); by rows of at most ten
+//! bounds (`pair_rows`); by a table. The last two are compared by how long they are estimated to take, and the way that is
+//! chosen with a walk.
+//!
+//! The table has how many pairs there are of two sums, and with how many elements in common before; it begins with no bounds,
+//! and each of the bounds, from the last to the first, is taken in, in the same table (`pair_sums`). It takes two megabytes at
+//! most.
 //!
 //! Sums go up to that of the subsets, and what is in common before up to the greatest wanted size: pairs with more in common
 //! are never wanted. Neither sum and what is in common before add to more than all: other cells are not used.
@@ -11,6 +16,8 @@ ghost use Rattle.sgb_gen.specs.Subsets.{is_wanted_size, moves_of_subsets, subset
 ghost use Rattle.sgb_gen.specs.inner.SubsetsCounts.{HasNoneAbove};
 ghost use Rattle.sgb_gen.specs.inner.SubsetsPairs.{HasCounts, HasMost, HasRoom, cell_count, pairs_among, pairs_of_sums};
 
+use super::few_bounds::pairs_of_few;
+use super::pair_rows::{has_rows, pairs_by_rows, rows_made_in};
 use super::pair_sums::{Sides, place_of_pairs, sum_up, take_in};
 use super::sizes::WantedSizes;
 use super::{Subsets, is_wanted};
@@ -29,24 +36,28 @@ const SMALL_TOTAL: usize = 63;
 // More vectors with such a sum are never walked.
 const MOST_WALKED: u64 = 8_000;
 
+// Pairs are counted with no table of no more bounds.
+const MOST_FEW: usize = 3;
+
 impl Subsets {
     // The number of moves, by pairs: a move from one vector to another one is of two pairs, and one of a vector to itself
-    // is of one. `None` where a walk is as quick, where a table has no room, and when out of memory.
+    // is of one. `None` where a walk is as quick, where nothing else has room, and when out of memory.
     pub(super) fn moves_by_pairs(&self, alloc: Global) -> Option<u64>
         ensures { IfSome result (λ n. n ≡ length (moves_of_subsets self.now)) }
     {
         let sides = self.sides();
-        if !has_room(sides) || !self.has_many_pairs(sides) {
+        if !self.has_many_pairs(sides) {
             return None;
         }
-        let pairs = self.pairs_count(alloc, sides)?;
+        let pairs = self.pairs_found(alloc, sides)?;
         Some((pairs + self.loops_count()) / 2)
     }
 
-    // What its table has room for.
+    // The sum of its vectors, and the greatest wanted size that two of them may have in common.
     fn sides(&self) -> Sides
         ensures total { result.total ≡ self.now.sum.total }
         ensures most { HasMost self.now.size_bits result.total result.most }
+        ensures within { result.most ≤ result.total }
     {
         let total = self.family.total();
         Sides {
@@ -55,7 +66,30 @@ impl Subsets {
         }
     }
 
-    // How many pairs of vectors have a wanted size in common. `None` when out of memory.
+    // How many pairs of vectors have a wanted size in common, by the way that is chosen for them. `None` where there is none,
+    // and when out of memory.
+    fn pairs_found(&self, alloc: Global, sides: Sides) -> Option<u64>
+        requires total { sides.total ≡ self.now.sum.total }
+        requires most { HasMost self.now.size_bits sides.total sides.most }
+        requires within { sides.most ≤ sides.total }
+        ensures count { IfSome result (λ n. n ≡ pairs_among self.now.size_bits 0
+            (subsets_vectors self.now) (subsets_vectors self.now)) }
+        ensures bounded { IfSome result (λ n. n ≤ most_vertices * most_vertices) }
+    {
+        let bounds = self.sizes();
+        if is_of_few(bounds, sides) {
+            return pairs_of_few(bounds, self.size_bits, sides);
+        }
+        if takes_rows(bounds, sides) {
+            return pairs_by_rows(bounds, self.size_bits, sides, alloc);
+        }
+        if has_room(sides) {
+            return self.pairs_count(alloc, sides);
+        }
+        None
+    }
+
+    // The same by a table. `None` when out of memory.
     fn pairs_count(&self, alloc: Global, sides: Sides) -> Option<u64>
         requires total { sides.total ≡ self.now.sum.total }
         requires most { HasMost self.now.size_bits sides.total sides.most }
@@ -100,11 +134,11 @@ impl Subsets {
         0
     }
 
-    // Whether the table is made sooner than the vectors are walked.
+    // Whether the pairs are counted sooner than the vectors are walked.
     fn has_many_pairs(&self, sides: Sides) -> bool {
         let size = u64::from(self.family.size());
         let walked = size.saturating_mul(self.walked_each(sides));
-        walked > made_in(sides, self.sizes()) || size > most_walked(sides, self.sizes())
+        walked > counted_in(self.sizes(), sides) || size > most_walked(sides, self.sizes())
     }
 
     // How many nanoseconds a walk takes for each vector at least: little where all of them have too much in common.
@@ -130,6 +164,40 @@ fn most_walked(sides: Sides, bounds: &[u32]) -> u64 {
         most = most.saturating_add(entries.saturating_mul(entries).saturating_mul(8));
     }
     most.min(MOST_WALKED)
+}
+
+// About how many nanoseconds the way takes that is chosen for these sides.
+fn counted_in(bounds: &[u32], sides: Sides) -> u64 {
+    if is_of_few(bounds, sides) {
+        return few_counted_in(sides);
+    }
+    if takes_rows(bounds, sides) {
+        return rows_made_in(sides, bounds);
+    }
+    if has_room(sides) {
+        return made_in(sides, bounds);
+    }
+    u64::MAX
+}
+
+// Whether pairs are counted with no table: there are few bounds, and two vectors with a wanted size in common differ.
+fn is_of_few(bounds: &[u32], sides: Sides) -> bool
+    ensures { OnTrue result (sides.most < sides.total) }
+{
+    bounds.len() <= MOST_FEW && sides.most < sides.total
+}
+
+// About how many nanoseconds that takes: some for each three numbers up to the greatest wanted size, in order.
+fn few_counted_in(sides: Sides) -> u64 {
+    let sizes = (sides.most as u64).saturating_add(1);
+    let steps = sizes.saturating_mul(sizes).saturating_add(64);
+    sizes.saturating_mul(steps).saturating_mul(8)
+}
+
+// Whether rows have room, and are made sooner than a table, or that has none.
+fn takes_rows(bounds: &[u32], sides: Sides) -> bool {
+    has_rows(bounds, sides)
+        && (!has_room(sides) || rows_made_in(sides, bounds) < made_in(sides, bounds))
 }
 
 // How many nanoseconds the table takes.
