@@ -1,8 +1,8 @@
-//! The number of arcs of the subsets' graph, with no list made. Where a table has room for the sum and the wanted sizes, and is
-//! sooner made than the vectors are walked, pairs are counted; else, or when out of memory, the descent of the lists hands the
-//! arcs from each vector down to the first to a counter. So each edge is found once, from the later one of its ends.
+//! The number of arcs of the subsets' graph, with no list made. Where pairs of vectors are counted sooner than the
+//! vectors are walked, they are (`pairs`); else, or when out of memory, the descent of the lists hands the arcs from
+//! each vector down to the first to a counter. So each edge is found once, from the later one of its ends.
 //!
-//! A walk takes minutes for a thousand million vectors, a table a few tenths of a second at most.
+//! A walk takes minutes for a thousand million vectors, a count of pairs a few tenths of a second at most.
 ghost use Rattle.std.specs.Prelude.{◌≡◌, length, Contains, IfSome};
 ghost use Rattle.sgb_graph.specs.Made.{graph_described};
 ghost use Rattle.sgb_gen.specs.Subsets.{moves_of_subsets, subsets_vector_graph, subsets_vectors};
@@ -19,11 +19,13 @@ use sgb_vec::{Family, Vectors};
 use std::alloc::Global;
 
 impl Subsets {
-    /// The number of arcs of the graph of the subsets (GB_BASIC, subsets), where an edge counts as two. No arc is made. Of many
-    /// vectors the pairs are counted, bound by bound, in a table of two megabytes at most, within some milliseconds: where the
-    /// square of their sum and one, times the greatest wanted size and one, is at most 262,144, so always where the sum is
-    /// below 64. Else, or where memory is refused, the vectors are walked, and of each the joined ones up to it are counted,
-    /// by their beginnings.
+    /// The number of arcs of the graph of the subsets (GB_BASIC, subsets), where an edge counts as two. No arc is made.
+    /// Of many vectors the pairs with a wanted size in common are counted, where that is estimated to be quicker than a
+    /// walk. With c the greatest wanted size, but no more than the sum n: of at most three bounds they are counted with
+    /// no table, where c is below n, within some milliseconds; of at most ten bounds by rows of three megabytes
+    /// together at most, where (n + 1)(c + 1) is at most 131,072; and of any bounds in a table of two megabytes at
+    /// most, where (n + 1)²(c + 1) is at most 262,144, so always where n is below 64. Else, or where memory is refused,
+    /// the vectors are walked, and of each the joined ones up to it are counted, by their beginnings.
     pub fn arcs_count(&self, alloc: Global) -> u128
         ensures { result ≡ (graph_described (described_by (subsets_vector_graph self.now))).m }
     {
@@ -34,8 +36,8 @@ impl Subsets {
         self.arcs_of(moves)
     }
 
-    /// The number of arcs, where a table of pairs tells it: the same as `arcs_count`. `None` where the vectors would be walked,
-    /// which may take longer than their lists.
+    /// The number of arcs, where a count of pairs tells it: the same as `arcs_count`. `None` where the vectors would be
+    /// walked, which may take longer than their lists.
     pub fn arcs_by_table(&self, alloc: Global) -> Option<u128>
         ensures { IfSome result (λ m.
             m ≡ (graph_described (described_by (subsets_vector_graph self.now))).m) }

@@ -1,10 +1,10 @@
 //! The number of pairs of subsets with a wanted size in common, of at most three bounds and of any sum, with no table.
 //!
-//! Pairs of vectors are told apart by the places where the first one has more than the second. Together it has as much more
-//! there as the second one has at the others, the surplus, and what both have at all places is in common. So the pairs of one
-//! kind of places and of the other are counted apart, and multiplied. Of three bounds one kind has two at most, or all of
-//! them: then there are none, since the surplus is above 0. Of two bounds, where what is in common at one of them is known,
-//! the surpluses that it may have are an interval.
+//! Pairs of vectors are told apart by the places where the first one has more than the second. There it has as much
+//! more as the second one has at the others, the surplus, and what both have at all places is in common. So the pairs
+//! of one kind of places and of the other are counted apart, and multiplied. Of three bounds one kind has two at most,
+//! or all of them: then there are none, since the surplus is above 0. Of two bounds, where what is in common at one of
+//! them is known, the surpluses that it may have are an interval.
 ghost use Rattle.std.specs.Prelude.{◌≡◌, ◌+◌, ◌-◌, ◌*◌, ◌<◌, ◌≤◌, ◌^◌, [], ◌∷◌, length, if◌then◌else◌, nat_lt, IfSome};
 ghost use Rattle.sgb_gen.specs.Subsets.{is_wanted_size};
 ghost use Rattle.sgb_gen.specs.inner.SubsetsPairs.{added};
@@ -17,7 +17,8 @@ use arrayvec::ArrayVec;
 // The bounds at some places.
 type Chosen = ArrayVec<u32, 3>;
 
-// How many pairs of vectors have a wanted size in common, of at most three bounds. `None` of more, or where a number is too great.
+// How many pairs of vectors have a wanted size in common, of at most three bounds. `None` of more, or where a number is
+// too great.
 pub(super) fn pairs_of_few(bounds: &[u32], size_bits: u128, sides: Sides) -> Option<u64>
     requires most { sides.most < sides.total }
     ensures { IfSome result (λ n. n ≡ pairs_wanted size_bits bounds.now sides.total sides.most) }
@@ -106,8 +107,8 @@ fn pairs_apart(more: &[u32], others: &[u32], surplus: usize, common: usize) -> O
     Some(pairs)
 }
 
-// How many pairs there are of which one vector has at each place at least so many more than the other one, of one bound or
-// two. `None` of no bound and of more.
+// How many pairs there are of which one vector has at each place at least so many more than the other one, of one bound
+// or two. `None` of no bound and of more.
 fn pairs_above(least: usize, bounds: &[u32], surplus: usize, common: usize) -> Option<u64>
     requires least { least ≤ surplus }
     requires surplus { 0 < surplus }
@@ -146,8 +147,8 @@ fn pairs_of_two(least: usize, first: u32, second: u32, surplus: usize, common: u
     Some(pairs)
 }
 
-// How many surpluses there are at the first one of two bounds, where so many elements are in common at the second one, and
-// so many at the first one. They are an interval.
+// How many surpluses there are at the first one of two bounds, where so many elements are in common at the second one,
+// and so many at the first one. They are an interval.
 fn surpluses(
     least: usize,
     first: u32,

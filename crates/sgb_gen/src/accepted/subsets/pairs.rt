@@ -1,14 +1,14 @@
-//! The number of moves of many subsets, by the pairs of vectors with a wanted size in common. These are counted by the first
-//! of three ways that has room and is quick: with no table of at most three bounds (`few_bounds`); by rows of at most ten
-//! bounds (`pair_rows`); by a table. The last two are compared by how long they are estimated to take, and the way that is
-//! chosen with a walk.
+//! The number of moves of many subsets, by the pairs of vectors with a wanted size in common. There are three ways to
+//! count these: of at most three bounds with no table (`few_bounds`), which is taken first; by rows of at most ten
+//! bounds (`pair_rows`), and by a table, of which that is taken which is estimated to take less. Where the vectors are
+//! walked as soon, or no way has room, none is taken.
 //!
-//! The table has how many pairs there are of two sums, and with how many elements in common before; it begins with no bounds,
-//! and each of the bounds, from the last to the first, is taken in, in the same table (`pair_sums`). It takes two megabytes at
-//! most.
+//! The table has how many pairs there are of two sums, and with how many elements in common before; it begins with no
+//! bounds, and each of the bounds, from the last to the first, is taken in, in the same table (`pair_sums`). It takes
+//! two megabytes at most.
 //!
-//! Sums go up to that of the subsets, and what is in common before up to the greatest wanted size: pairs with more in common
-//! are never wanted. Neither sum and what is in common before add to more than all: other cells are not used.
+//! Sums go up to that of the subsets, and what is in common before up to the greatest wanted size: pairs with more in
+//! common are never wanted. Neither sum and what is in common before add to more than all: other cells are not used.
 ghost use Rattle.std.specs.Prelude.{◌≡◌, ◌*◌, ◌%◌, ◌^◌, ◌≤◌, ◌<◌, [], length, replicate, if◌then◌else◌, IfSome};
 ghost use Rattle.std.specs.Bool.{OnTrue};
 ghost use Rattle.sgb_vec.specs.Limits.{most_vertices};
@@ -40,8 +40,8 @@ const MOST_WALKED: u64 = 8_000;
 const MOST_FEW: usize = 3;
 
 impl Subsets {
-    // The number of moves, by pairs: a move from one vector to another one is of two pairs, and one of a vector to itself
-    // is of one. `None` where a walk is as quick, where nothing else has room, and when out of memory.
+    // The number of moves, by pairs: a move from one vector to another one is of two pairs, and one of a vector to
+    // itself is of one. `None` where a walk is as quick, where nothing else has room, and when out of memory.
     pub(super) fn moves_by_pairs(&self, alloc: Global) -> Option<u64>
         ensures { IfSome result (λ n. n ≡ length (moves_of_subsets self.now)) }
     {
@@ -66,7 +66,7 @@ impl Subsets {
         }
     }
 
-    // How many pairs of vectors have a wanted size in common, by the way that is chosen for them. `None` where there is none,
+    // How many pairs of vectors have a wanted size in common, by the way that is taken. `None` where no way has room,
     // and when out of memory.
     fn pairs_found(&self, alloc: Global, sides: Sides) -> Option<u64>
         requires total { sides.total ≡ self.now.sum.total }
@@ -136,9 +136,10 @@ impl Subsets {
 
     // Whether the pairs are counted sooner than the vectors are walked.
     fn has_many_pairs(&self, sides: Sides) -> bool {
+        let bounds = self.sizes();
         let size = u64::from(self.family.size());
         let walked = size.saturating_mul(self.walked_each(sides));
-        walked > counted_in(self.sizes(), sides) || size > most_walked(sides, self.sizes())
+        size > most_walked(sides, bounds) || is_sooner(counted_in(bounds, sides), walked, size)
     }
 
     // How many nanoseconds a walk takes for each vector at least: little where all of them have too much in common.
@@ -151,7 +152,8 @@ impl Subsets {
     }
 }
 
-// More vectors than these are not walked, whatever it is estimated to take, where their sum is small: they may all be joined.
+// More vectors than these are not walked, whatever it is estimated to take, where their sum is small: they may all be
+// joined.
 fn most_walked(sides: Sides, bounds: &[u32]) -> u64 {
     if sides.total > SMALL_TOTAL {
         return u64::MAX;
@@ -166,7 +168,15 @@ fn most_walked(sides: Sides, bounds: &[u32]) -> u64 {
     most.min(MOST_WALKED)
 }
 
-// About how many nanoseconds the way takes that is chosen for these sides.
+// Whether so many nanoseconds are less than what a walk takes. That is between so many and what it takes where all
+// vectors are joined, and so their geometric mean.
+fn is_sooner(counted: u64, walked: u64, size: u64) -> bool {
+    let joined = size.saturating_mul(size).saturating_mul(8).max(walked);
+    u128::from(counted).saturating_mul(u128::from(counted))
+        < u128::from(walked).saturating_mul(u128::from(joined))
+}
+
+// About how many nanoseconds the way that is taken needs.
 fn counted_in(bounds: &[u32], sides: Sides) -> u64 {
     if is_of_few(bounds, sides) {
         return few_counted_in(sides);
@@ -180,18 +190,18 @@ fn counted_in(bounds: &[u32], sides: Sides) -> u64 {
     u64::MAX
 }
 
-// Whether pairs are counted with no table: there are few bounds, and two vectors with a wanted size in common differ.
+// Whether pairs are counted with no table: of few bounds, where vectors with a wanted size in common differ.
 fn is_of_few(bounds: &[u32], sides: Sides) -> bool
     ensures { OnTrue result (sides.most < sides.total) }
 {
     bounds.len() <= MOST_FEW && sides.most < sides.total
 }
 
-// About how many nanoseconds that takes: some for each three numbers up to the greatest wanted size, in order.
+// About how many nanoseconds that takes.
 fn few_counted_in(sides: Sides) -> u64 {
     let sizes = (sides.most as u64).saturating_add(1);
     let steps = sizes.saturating_mul(sizes).saturating_add(64);
-    sizes.saturating_mul(steps).saturating_mul(8)
+    sizes.saturating_mul(steps).saturating_mul(4)
 }
 
 // Whether rows have room, and are made sooner than a table, or that has none.
