@@ -201,6 +201,8 @@ pub mod SubsetsCounts
 pub mod SubsetsPairs
 -- their table, and its cells
 pub mod SubsetsPairTables
+-- the same by the places where the one vector has more
+pub mod SubsetsRows
 -- the moves of subsets as pairs of vectors
 pub mod SubsetsMovePairs
 -- pairs of at most three bounds, with no table

@@ -117,7 +117,7 @@ pub added-both : (n : ℕ) (f g : ℕ → ℕ) → added n (λ i. f i + g i) ≡
 added-both zero f g = refl
 added-both (suc n) f g = omega (arith, added-both n f g)
 
-added-none : (n : ℕ) → 0 ≡ added n (λ i. 0)
+pub added-none : (n : ℕ) → 0 ≡ added n (λ i. 0)
 added-none zero = refl
 added-none (suc n) = omega (arith, added-none n)
 

@@ -1,6 +1,6 @@
 -- How many ordered pairs of subsets have so many elements in common, by the places where the one has more and by those where
 -- the other has as much or more.
-use Rattle.std.specs.Prelude.{ℕ, ◌+◌, ◌-◌, ◌*◌, ◌/◌, ◌%◌, ◌^◌, ◌==◌, nat_lt, ◌&&◌, List, [], ◌∷◌, length, if◌then◌else◌}
+use Rattle.std.specs.Prelude.{◌≡◌, ◌≤◌, ℕ, zero, suc, ◌+◌, ◌-◌, ◌*◌, ◌/◌, ◌%◌, ◌^◌, ◌<◌, ◌==◌, nat_lt, List, [], ◌∷◌, length, slice_index, if◌then◌else◌}
 use Rattle.sgb_gen.specs.Subsets.{is_wanted_size}
 use Rattle.sgb_gen.specs.inner.SubsetsPairs.{added}
 
@@ -33,3 +33,43 @@ pairs_in_common bounds surplus common = added (2 ^ length bounds) (λ number. pa
 abbrev pub pairs_wanted : ℕ → List ℕ → ℕ → ℕ → ℕ
 pairs_wanted size_bits bounds total most =
     added (most + 1) (λ common. if is_wanted_size size_bits common then pairs_in_common bounds (total - common) common else 0)
+
+-- how many pairs have so many elements in common, and each one `surplus` others, where the first one has more at some places,
+-- and not at others
+abbrev pub pairs_of_size : List ℕ → List ℕ → ℕ → ℕ → ℕ
+pairs_of_size ones others surplus common =
+    added (common + 1) (λ c. pairs_above 1 ones surplus c * pairs_above 0 others surplus (common - c))
+
+-- the same for all wanted sizes up to the most, of vectors that add to the total
+abbrev pub pairs_of_rows : ℕ → ℕ → ℕ → List ℕ → List ℕ → ℕ
+pairs_of_rows size_bits total most ones others =
+    added (most + 1) (λ common. if is_wanted_size size_bits common then pairs_of_size ones others (total - common) common else 0)
+
+-- what a function adds to, of the bounds parted in two in each way, before those that are parted already
+abbrev pub parted : (List ℕ → List ℕ → ℕ) → List ℕ → List ℕ → List ℕ → ℕ
+parted f [] ones others = f ones others
+parted f (b ∷ bounds) ones others = parted (λ xs ys. f (b ∷ xs) ys + f xs (b ∷ ys)) bounds ones others
+
+-- how many cells a row has, for surpluses up to the total, and at most so many elements in common
+abbrev pub row_cells : ℕ → ℕ → ℕ
+row_cells total most = (total + 1) * (most + 1)
+
+-- what a function of a surplus and of what is in common adds to, of all lesser surpluses: each with so many more in common
+-- than the next greater one, as long as these are no more than the most
+abbrev pub running_sum : ℕ → ℕ → (ℕ → ℕ → ℕ) → ℕ → ℕ → ℕ
+running_sum shift most f zero common = 0
+running_sum shift most f (suc surplus) common =
+    (if nat_lt most (common + shift) then 0 else running_sum shift most f surplus (common + shift)) + f surplus common
+
+-- the cells before a place have the pairs of some bounds, but for those whose surplus and common elements add to more than
+-- the total
+abbrev pub HasPairs : ℕ → ℕ → ℕ → List ℕ → ℕ → List ℕ → Type 0
+HasPairs total most least bounds end row =
+    (p : ℕ) → p < end → p / (most + 1) + p % (most + 1) ≤ total
+    → slice_index row p ≡ pairs_above least bounds (p / (most + 1)) (p % (most + 1))
+
+-- and the cells of running sums, each of which stands one surplus later
+abbrev pub HasRunningSums : ℕ → ℕ → ℕ → ℕ → List ℕ → ℕ → List ℕ → Type 0
+HasRunningSums total most shift least bounds end sums =
+    (p : ℕ) → p < end → p / (most + 1) + p % (most + 1) ≤ total + 1
+    → slice_index sums p ≡ running_sum shift most (pairs_above least bounds) (p / (most + 1)) (p % (most + 1))

@@ -19,8 +19,10 @@ mod last_entries;
 mod left_over;
 mod list_counts;
 mod lists;
+mod pair_rows;
 mod pair_sums;
 mod pairs;
+mod row_sums;
 mod sizes;
 
 use crate::counted_places::CountedPlaces;
