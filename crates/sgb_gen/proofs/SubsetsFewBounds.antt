@@ -206,15 +206,3 @@ one_of (x ∷ []) long = refl
 one_of (x ∷ y ∷ xs) long = absurd (omega (arith, long))
 
 -- ---- all pairs of vectors
-
--- what is found is how many there are, and few
-pub wanted-found : (s : SubsetsData) (sb total most : ℕ) (bounds : List ℕ) (r : Option ℕ) → sb ≡ s.size_bits → total ≡ s.sum.total → bounds ≡ s.sum.bounds → length (subsets_vectors s) ≤ most_vertices
-    → pairs_wanted sb bounds total most ≡ pairs_of_sums sb bounds total total 0
-    → IfSome r (λ n. n ≡ pairs_wanted sb bounds total most)
-    → IfSome r (λ n. n ≡ pairs_among s.size_bits 0 (subsets_vectors s) (subsets_vectors s)) × IfSome r (λ n. n ≤ most_vertices * most_vertices)
-wanted-found s sb total most bounds r bits_are total_is bounds_are few wanted found =
-    let vs = subsets_vectors s in
-    let same : pairs_of_sums sb bounds total total 0 ≡ pairs_among s.size_bits 0 vs vs = cc (bits_are, total_is, bounds_are) in (
-      IfSome_then r found (λ n is. is ∙ wanted ∙ same),
-      IfSome_then r found (λ n is. omega (arith, is, wanted, same, pairs-few s.size_bits 0 vs vs few, few)),
-    )

@@ -1,5 +1,5 @@
 -- The moves of subsets as pairs of vectors: two of these pairs to a move between two vectors, one to that of a vector to itself.
-use Rattle.std.proofs.Common.{◌≡◌, ℕ, zero, suc, ◌+◌, ◌*◌, ◌%◌, ◌^◌, ◌≤◌, Bool, cond, List, [], ◌∷◌, ◌++◌, length, filter, take, drop, sum, refl, sym, ap, ◌∙◌, arith, get_or, length-append, append_assoc}
+use Rattle.std.proofs.Common.{◌≡◌, ℕ, zero, suc, ◌+◌, ◌*◌, ◌%◌, ◌^◌, ◌<◌, ◌≤◌, Bool, cond, List, [], ◌∷◌, ◌++◌, length, filter, take, drop, sum, refl, sym, ap, ◌∙◌, arith, get_or, length-append, append_assoc}
 use Rattle.std.specs.List.{All, flat_map, range_with_len}
 use Rattle.std.specs.Prelude.{slice_index_or}
 use Rattle.std.proofs.Math.Path.{fun_ext}
@@ -101,14 +101,14 @@ moves-by_pairs s pairs loops pairs_are loops_are =
       alike_all sb s.sum.total vs adds,
     )
 
+-- there are few, since there are few vectors
+pub pairs-bounded : (s : SubsetsData) → length (subsets_vectors s) ≤ most_vertices → pairs_of_sums s.size_bits s.sum.bounds s.sum.total s.sum.total 0 ≤ most_vertices * most_vertices
+pairs-bounded s few = omega (arith, pairs-few s.size_bits 0 (subsets_vectors s) (subsets_vectors s) few, few)
+
 -- what the last cell has
-pub pairs-found : (s : SubsetsData) (total most k found : ℕ) (bounds table : List ℕ) → total ≡ s.sum.total → bounds ≡ s.sum.bounds → k ≤ 0 → length (subsets_vectors s) ≤ most_vertices
-    → HasCounts total most (pairs_of_sums s.size_bits (drop k bounds)) table → found ≡ get_or table (place_of_pairs total most total total 0) 0
-    → (found ≡ pairs_among s.size_bits 0 (subsets_vectors s) (subsets_vectors s)) × (found ≤ most_vertices * most_vertices)
-pairs-found s total most (suc k) found bounds table total_is bounds_are none few has is = absurd (omega (arith, none))
-pairs-found s total most zero found bounds table total_is bounds_are none few has is =
-    let sb = s.size_bits in
-    let vs = subsets_vectors s in
-    let cell : found ≡ pairs_of_sums sb bounds total total 0 % 2 ^ 64 = is ∙ has total total 0 (omega arith) (omega arith) in
-    let same : pairs_of_sums sb bounds total total 0 ≡ pairs_among sb 0 vs vs = cc (total_is, bounds_are) in
-    (omega (arith, cell, same, pairs-few sb 0 vs vs few, few), omega (arith, cell, same, pairs-few sb 0 vs vs few, few))
+pub pairs-found : (sb total most k found : ℕ) (bounds table : List ℕ) → k ≤ 0 → pairs_of_sums sb bounds total total 0 < 2 ^ 64
+    → HasCounts total most (pairs_of_sums sb (drop k bounds)) table → found ≡ get_or table (place_of_pairs total most total total 0) 0
+    → found ≡ pairs_of_sums sb bounds total total 0
+pairs-found sb total most (suc k) found bounds table none few has is = absurd (omega (arith, none))
+pairs-found sb total most zero found bounds table none few has is =
+    omega (arith, is ∙ has total total 0 (omega arith) (omega arith), few)

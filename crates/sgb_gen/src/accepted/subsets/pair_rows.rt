@@ -20,8 +20,14 @@ use std::alloc::Global;
 // A row of more cells would have more than a megabyte.
 const MOST_CELLS: usize = 131_072;
 
+// All rows together would have more than three.
+const MOST_CELLS_IN_ALL: usize = 393_216;
+
 // Rows are made for each way in which the bounds are parted, so these are few.
 const MOST_BOUNDS: usize = 10;
+
+// Beside a row for each bound there are that of no bounds, and two of running sums.
+const ROWS_BESIDE: usize = 3;
 
 // A bound takes so many nanoseconds for each cell.
 const CELL_TIME: u64 = 20;
@@ -30,7 +36,7 @@ const CELL_TIME: u64 = 20;
 pub(super) fn has_rows(bounds: &[u32], sides: Sides) -> bool
     ensures { OnTrue result ((length bounds.now ≤ 10) × (row_cells sides.total sides.most ≤ 131072)) }
 {
-    bounds.len() <= MOST_BOUNDS && has_cells(sides)
+    bounds.len() <= MOST_BOUNDS && has_cells(sides) && has_all(bounds.len(), sides)
 }
 
 // Whether a row has room for these sides.
@@ -40,6 +46,15 @@ fn has_cells(sides: Sides) -> bool
     sides.total < MOST_CELLS
         && sides.most < MOST_CELLS
         && (sides.total + 1) * (sides.most + 1) <= MOST_CELLS
+}
+
+// Whether all rows of so many bounds have room.
+fn has_all(bounds: usize, sides: Sides) -> bool {
+    let cells = sides
+        .total
+        .saturating_add(1)
+        .saturating_mul(sides.most.saturating_add(1));
+    cells.saturating_mul(bounds.saturating_add(ROWS_BESIDE)) <= MOST_CELLS_IN_ALL
 }
 
 // About how many nanoseconds the rows take.

@@ -1,13 +1,14 @@
-//! The number of moves of many subsets, by the pairs of vectors with a wanted size in common. There are three ways to
-//! count these: of at most three bounds with no table (`few_bounds`), which is taken first; by rows of at most ten
-//! bounds (`pair_rows`), and by a table, of which that is taken which is estimated to take less. Where the vectors are
-//! walked as soon, or no way has room, none is taken.
+//! The number of moves of many subsets, by the pairs of vectors with a wanted size in common. They are counted of the
+//! vectors, or of what these leave of the bounds, where that adds to less (`left_over`). There are three ways to count
+//! them: of at most three bounds with no table (`few_bounds`), which is taken first; by rows of at most ten bounds
+//! (`pair_rows`), and by a table, of which that is taken which is estimated to take less. Where the vectors are walked as
+//! soon, or no way has room, none is taken.
 //!
 //! The table has how many pairs there are of two sums, and with how many elements in common before; it begins with no
 //! bounds, and each of the bounds, from the last to the first, is taken in, in the same table (`pair_sums`). It takes
 //! two megabytes at most.
 //!
-//! Sums go up to that of the subsets, and what is in common before up to the greatest wanted size: pairs with more in
+//! Sums go up to that of the vectors, and what is in common before up to the greatest wanted size: pairs with more in
 //! common are never wanted. Neither sum and what is in common before add to more than all: other cells are not used.
 ghost use Rattle.std.specs.Prelude.{◌≡◌, ◌*◌, ◌%◌, ◌^◌, ◌≤◌, ◌<◌, [], length, replicate, if◌then◌else◌, IfSome};
 ghost use Rattle.std.specs.Bool.{OnTrue};
@@ -17,6 +18,7 @@ ghost use Rattle.sgb_gen.specs.inner.SubsetsCounts.{HasNoneAbove};
 ghost use Rattle.sgb_gen.specs.inner.SubsetsPairs.{HasCounts, HasMost, HasRoom, cell_count, pairs_among, pairs_of_sums};
 
 use super::few_bounds::pairs_of_few;
+use super::left_over::{Counted, lesser_of};
 use super::pair_rows::{has_rows, pairs_by_rows, rows_made_in};
 use super::pair_sums::{Sides, place_of_pairs, sum_up, take_in};
 use super::sizes::WantedSizes;
@@ -45,81 +47,28 @@ impl Subsets {
     pub(super) fn moves_by_pairs(&self, alloc: Global) -> Option<u64>
         ensures { IfSome result (λ n. n ≡ length (moves_of_subsets self.now)) }
     {
-        let sides = self.sides();
+        let counted = lesser_of(self.sizes(), self.family.total(), self.size_bits);
+        let sides = sides_of(counted);
         if !self.has_many_pairs(sides) {
             return None;
         }
-        let pairs = self.pairs_found(alloc, sides)?;
+        let pairs = self.pairs_of(counted.size_bits, sides, alloc)?;
         Some((pairs + self.loops_count()) / 2)
     }
 
-    // The sum of its vectors, and the greatest wanted size that two of them may have in common.
-    fn sides(&self) -> Sides
-        ensures total { result.total ≡ self.now.sum.total }
-        ensures most { HasMost self.now.size_bits result.total result.most }
-        ensures within { result.most ≤ result.total }
-    {
-        let total = self.family.total();
-        Sides {
-            total: total as usize,
-            most: greatest_wanted(self.size_bits).min(u64::from(total)) as usize,
-        }
-    }
-
-    // How many pairs of vectors have a wanted size in common, by the way that is taken. `None` where no way has room,
-    // and when out of memory.
-    fn pairs_found(&self, alloc: Global, sides: Sides) -> Option<u64>
-        requires total { sides.total ≡ self.now.sum.total }
-        requires most { HasMost self.now.size_bits sides.total sides.most }
+    // How many pairs of vectors have a wanted size in common, where as many of another sum and with other wanted sizes
+    // are counted. `None` where no way has room, and when out of memory.
+    fn pairs_of(&self, size_bits: u128, sides: Sides, alloc: Global) -> Option<u64>
+        requires few { length (subsets_vectors self.now) ≤ most_vertices }
+        requires same { pairs_of_sums size_bits self.now.sum.bounds sides.total sides.total 0
+            ≡ pairs_of_sums self.now.size_bits self.now.sum.bounds self.now.sum.total self.now.sum.total 0 }
+        requires most { HasMost size_bits sides.total sides.most }
         requires within { sides.most ≤ sides.total }
         ensures count { IfSome result (λ n. n ≡ pairs_among self.now.size_bits 0
             (subsets_vectors self.now) (subsets_vectors self.now)) }
         ensures bounded { IfSome result (λ n. n ≤ most_vertices * most_vertices) }
     {
-        let bounds = self.sizes();
-        if is_of_few(bounds, sides) {
-            return pairs_of_few(bounds, self.size_bits, sides);
-        }
-        if takes_rows(bounds, sides) {
-            return pairs_by_rows(bounds, self.size_bits, sides, alloc);
-        }
-        if has_room(sides) {
-            return self.pairs_count(alloc, sides);
-        }
-        None
-    }
-
-    // The same by a table. `None` when out of memory.
-    fn pairs_count(&self, alloc: Global, sides: Sides) -> Option<u64>
-        requires total { sides.total ≡ self.now.sum.total }
-        requires most { HasMost self.now.size_bits sides.total sides.most }
-        requires room { HasRoom sides.total sides.most }
-        ensures count { IfSome result (λ n. n ≡ pairs_among self.now.size_bits 0
-            (subsets_vectors self.now) (subsets_vectors self.now)) }
-        ensures bounded { IfSome result (λ n. n ≤ most_vertices * most_vertices) }
-    {
-        let mut table = Vec::new(alloc);
-        table.resize(cell_count(sides), 0).ok()?;
-        Some(self.pairs_by(table.as_mut_slice(), sides))
-    }
-
-    // The same with a table of zeros.
-    fn pairs_by(&self, table: &mut [u64], sides: Sides) -> u64
-        requires total { sides.total ≡ self.now.sum.total }
-        requires most { HasMost self.now.size_bits sides.total sides.most }
-        requires room { HasRoom sides.total sides.most }
-        requires zeros { table.old ≡ replicate (cell_count sides.total sides.most) 0 }
-        ensures count { result ≡ pairs_among self.now.size_bits 0 (subsets_vectors self.now)
-            (subsets_vectors self.now) }
-        ensures bounded { result ≤ most_vertices * most_vertices }
-    {
-        let bounds = self.sizes();
-        put_ended(table, self.size_bits, sides);
-        for k in (0..bounds.len()).rev() {
-            sum_up(table, sides);
-            take_in(table, sides, bounds[k] as usize);
-        }
-        table[place_of_pairs(sides, sides.total, sides.total, 0)]
+        pairs_found(self.sizes(), size_bits, sides, alloc)
     }
 
     // How many vectors have a wanted size in common with themselves: all of them or none.
@@ -138,18 +87,80 @@ impl Subsets {
     fn has_many_pairs(&self, sides: Sides) -> bool {
         let bounds = self.sizes();
         let size = u64::from(self.family.size());
-        let walked = size.saturating_mul(self.walked_each(sides));
+        let walked = size.saturating_mul(self.walked_each());
         size > most_walked(sides, bounds) || is_sooner(counted_in(bounds, sides), walked, size)
     }
 
     // How many nanoseconds a walk takes for each vector at least: little where all of them have too much in common.
-    fn walked_each(&self, sides: Sides) -> u64 {
+    fn walked_each(&self) -> u64 {
         let total = u64::from(self.family.total());
-        if total + total > self.begun().room.saturating_add(sides.most as u64) {
+        let most = greatest_wanted(self.size_bits).min(total);
+        if total + total > self.begun().room.saturating_add(most) {
             return 64;
         }
         512
     }
+}
+
+// What the vectors add to, and the greatest wanted size that two of them may have in common.
+fn sides_of(counted: Counted) -> Sides
+    ensures total { result.total ≡ counted.total }
+    ensures most { HasMost counted.size_bits result.total result.most }
+    ensures within { result.most ≤ result.total }
+{
+    let most = greatest_wanted(counted.size_bits).min(u64::from(counted.total));
+    Sides {
+        total: counted.total as usize,
+        most: most as usize,
+    }
+}
+
+// How many pairs of vectors of a sum have a wanted size in common, by the way that is taken. `None` where no way has
+// room, and when out of memory.
+fn pairs_found(bounds: &[u32], size_bits: u128, sides: Sides, alloc: Global) -> Option<u64>
+    requires most { HasMost size_bits sides.total sides.most }
+    requires few { pairs_of_sums size_bits bounds.now sides.total sides.total 0 < 2 ^ 64 }
+    requires within { sides.most ≤ sides.total }
+    ensures { IfSome result (λ n. n ≡ pairs_of_sums size_bits bounds.now sides.total sides.total 0) }
+{
+    if is_of_few(bounds, sides) {
+        return pairs_of_few(bounds, size_bits, sides);
+    }
+    if takes_rows(bounds, sides) {
+        return pairs_by_rows(bounds, size_bits, sides, alloc);
+    }
+    if has_room(sides) {
+        return pairs_by_table(bounds, size_bits, sides, alloc);
+    }
+    None
+}
+
+// The same by a table. `None` when out of memory.
+fn pairs_by_table(bounds: &[u32], size_bits: u128, sides: Sides, alloc: Global) -> Option<u64>
+    requires most { HasMost size_bits sides.total sides.most }
+    requires few { pairs_of_sums size_bits bounds.now sides.total sides.total 0 < 2 ^ 64 }
+    requires room { HasRoom sides.total sides.most }
+    ensures { IfSome result (λ n. n ≡ pairs_of_sums size_bits bounds.now sides.total sides.total 0) }
+{
+    let mut table = Vec::new(alloc);
+    table.resize(cell_count(sides), 0).ok()?;
+    Some(pairs_in(table.as_mut_slice(), bounds, size_bits, sides))
+}
+
+// The same with a table of zeros.
+fn pairs_in(table: &mut [u64], bounds: &[u32], size_bits: u128, sides: Sides) -> u64
+    requires most { HasMost size_bits sides.total sides.most }
+    requires few { pairs_of_sums size_bits bounds.now sides.total sides.total 0 < 2 ^ 64 }
+    requires room { HasRoom sides.total sides.most }
+    requires zeros { table.old ≡ replicate (cell_count sides.total sides.most) 0 }
+    ensures { result ≡ pairs_of_sums size_bits bounds.now sides.total sides.total 0 }
+{
+    put_ended(table, size_bits, sides);
+    for k in (0..bounds.len()).rev() {
+        sum_up(table, sides);
+        take_in(table, sides, bounds[k] as usize);
+    }
+    table[place_of_pairs(sides, sides.total, sides.total, 0)]
 }
 
 // More vectors than these are not walked, whatever it is estimated to take, where their sum is small: they may all be
