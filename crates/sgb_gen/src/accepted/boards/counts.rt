@@ -24,20 +24,21 @@ use crate::moves::wraps;
 use sgb_vec::{Family, Panic};
 use std::alloc::Global;
 
-// On fewer sides there are few displacements, which are soon walked.
-const MANY_SIDES: usize = 4;
+// On fewer sides there are few displacements, which are soon walked: at most some hundreds on two.
+const MANY_SIDES: usize = 3;
 
-// A row of counts with no more steps on each side is sooner made than a walk begins.
-const FEW_STEPS: u64 = 40_000;
+// A row of counts with no more steps is sooner made than a walk ends: that of each leaper on up to four sides.
+const FEW_STEPS: u64 = 262_144;
 
 // Fewer displacements than these are all walked.
-const FEW_WALKED: u64 = 1_000;
+const FEW_WALKED: u64 = 500;
 
-// A displacement takes as long as so many of these steps, or longer.
+// To find a displacement takes as long as so many steps for each number up to the root of the piece, or less long.
 const STEPS_WALKED: u64 = 64;
 
-// On more sides than four there are mostly far more displacements than steps, so fewer of them are walked first.
-const STEPS_WALKED_ON_MORE: u64 = 1_024;
+// A piece that moves far has few displacements: so many times as many are walked, and a row with so many times as many
+// steps is not made at once.
+const FAR_TIMES: u64 = 8;
 
 impl Board {
     /// The number of arcs of the board's graph (GB_BASIC, board), where an edge counts as two. It is found by
@@ -74,12 +75,24 @@ impl Board {
         ensures some { IfSome result (λ n. n ≡ length (moves_of_board self.now)) }
         ensures none { IfNone result (2 ^ 128 ≤ length (moves_of_board self.now)) }
     {
-        if self.sizes().len() >= MANY_SIDES && self.row_steps() <= FEW_STEPS {
+        if self.is_row_soon_made() {
             if let Some(moves) = self.moves_by_norms(alloc) {
                 return Some(moves);
             }
         }
         self.moves_walked(alloc)
+    }
+
+    // Whether a row takes so few steps that it is made at once. A rider on three sides has few displacements.
+    fn is_row_soon_made(&self) -> bool {
+        let sides = self.sizes().len();
+        let many = sides > MANY_SIDES || sides == MANY_SIDES && self.piece > 0;
+        let few = if self.moves_far() {
+            FEW_STEPS / FAR_TIMES
+        } else {
+            FEW_STEPS
+        };
+        many && self.row_steps() <= few
     }
 
     // The same by a walk over the displacements, or over the first of them, until the row is tried.
@@ -109,12 +122,15 @@ impl Board {
 
     // After so many displacements the row is tried.
     fn most_walked(&self) -> u64 {
-        let steps = if self.sizes().len() > MANY_SIDES {
-            STEPS_WALKED_ON_MORE
-        } else {
-            STEPS_WALKED
-        };
-        (self.row_steps() / steps).max(FEW_WALKED)
+        if self.sizes().len() < MANY_SIDES {
+            return u64::MAX;
+        }
+        let root = self.piece.unsigned_abs().isqrt();
+        let most = (self.row_steps() / (root * STEPS_WALKED + 1)).max(FEW_WALKED);
+        if self.moves_far() {
+            return most.saturating_mul(FAR_TIMES);
+        }
+        most
     }
 
     // A number and that of the moves by the displacement `t` together, where 128 bits hold them: at once where at most
