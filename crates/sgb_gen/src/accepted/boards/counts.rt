@@ -33,8 +33,11 @@ const FEW_STEPS: u64 = 262_144;
 // Fewer displacements than these are all walked.
 const FEW_WALKED: u64 = 500;
 
-// To find a displacement takes as long as so many steps for each number up to the root of the piece, or less long.
-const STEPS_WALKED: u64 = 64;
+// A displacement takes as long as so many steps for each number up to the root of the piece.
+const STEPS_WALKED: u64 = 2;
+
+// On more sides than four it takes longer, and there are mostly far more displacements than steps.
+const STEPS_WALKED_ON_MORE: u64 = 64;
 
 // A piece that moves far has few displacements: so many times as many are walked, and a row with so many times as many
 // steps is not made at once.
@@ -44,10 +47,12 @@ impl Board {
     /// The number of arcs of the board's graph (GB_BASIC, board), where an edge counts as two. It is found by
     /// displacements, with no arc made: at once for each that moves on at most one side that does not wrap around, and
     /// length by length for the others. Where they are very many they may be counted together, by a row of numbers, and
-    /// for a rider by a table of the lengths at which it is home, too. Where the piece is 64 or more, and at most 131,071,
-    /// the row takes 16 bytes for each number up to the piece. The table has such a row for each divisor of the least
-    /// common multiple of the sizes that wrap around, at most two megabytes together, and beside it room for the places of
-    /// these lengths, which takes less. Where memory is refused, the count goes on without them.
+    /// for a rider by a table of the lengths at which it is home, too. A row takes some two steps for each number up to
+    /// the piece on at most four sides, and on more, for each side more, up to the piece times its root: that of a piece
+    /// of 131,071 half a second on twelve sides. Where the piece is 64 or more, and at most 131,071, the row takes 16
+    /// bytes for each number up to the piece. The table has such a row for each divisor of the least common multiple of
+    /// the sizes that wrap around, at most two megabytes together, and beside it room for the places of these lengths,
+    /// which takes less. Where memory is refused, the count goes on without them.
     ///
     /// `NoRoom` where the number is 2^128 or more, and nothing else: only a board that wraps around in hundreds of
     /// dimensions has so many arcs, and no time would do to list them.
@@ -125,8 +130,13 @@ impl Board {
         if self.sizes().len() < MANY_SIDES {
             return u64::MAX;
         }
+        let steps = if self.sizes().len() > 4 {
+            STEPS_WALKED_ON_MORE
+        } else {
+            STEPS_WALKED
+        };
         let root = self.piece.unsigned_abs().isqrt();
-        let most = (self.row_steps() / (root * STEPS_WALKED + 1)).max(FEW_WALKED);
+        let most = (self.row_steps() / (root * steps + 1)).max(FEW_WALKED);
         if self.moves_far() {
             return most.saturating_mul(FAR_TIMES);
         }
