@@ -21,11 +21,12 @@ use std::alloc::Global;
 impl Subsets {
     /// The number of arcs of the graph of the subsets (GB_BASIC, subsets), where an edge counts as two. No arc is made.
     /// Of many vectors the pairs with a wanted size in common are counted, where that is estimated to be quicker than a
-    /// walk. With c the greatest wanted size, but no more than the sum n: of at most three bounds they are counted with
-    /// no table, where c is below n, within some milliseconds; of at most ten bounds by rows of three megabytes
-    /// together at most, where (n + 1)(c + 1) is at most 131,072; and of any bounds in a table of two megabytes at
-    /// most, where (n + 1)²(c + 1) is at most 262,144, so always where n is below 64. Else, or where memory is refused,
-    /// the vectors are walked, and of each the joined ones up to it are counted, by their beginnings.
+    /// walk: of the vectors, or of what they leave of the bounds, where that adds to less. With n this sum, and c the
+    /// greatest wanted size, but no more than n: of at most three bounds they are counted with no table, where c is
+    /// below n; of at most ten bounds by rows, one for each bound and three more, of (n + 1)(c + 1) numbers of 8 bytes
+    /// each, where all rows take three megabytes at most; and of any bounds in a table of two megabytes at most, where
+    /// (n + 1)²(c + 1) is at most 262,144, so always where n is below 64. Else, or where memory is refused, the vectors
+    /// are walked, and of each the joined ones up to it are counted, by their beginnings.
     pub fn arcs_count(&self, alloc: Global) -> u128
         ensures { result ≡ (graph_described (described_by (subsets_vector_graph self.now))).m }
     {
