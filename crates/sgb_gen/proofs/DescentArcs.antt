@@ -17,7 +17,7 @@ use Rattle.sgb_gen.specs.Subsets.{common_size, is_wanted_size}
 use Rattle.sgb_gen.specs.VectorGraphs.{vertex_among}
 use Rattle.sgb_gen.specs.inner.Descents.{IsBegun, arcs_under, down_from, down_to, row, rows}
 use Rattle.sgb_gen.specs.inner.LocalSubsets.{arcs_by_walk, arcs_to}
-use Rattle.sgb_gen.proofs.Descents.{row-within, rows-end, rows-parts, sums-rows}
+use Rattle.sgb_gen.proofs.Descents.{row-within, rows-end, rows-parts, sums-past, sums-rows}
 use Rattle.sgb_gen.proofs.RisingVectors.{vertex_in_rising}
 
 -- ---- arcs to vectors that begin alike
@@ -45,17 +45,23 @@ common-least (b ∷ bs) (h ∷ x) (e ∷ v) hx hv =
     omega (arith, sum-cons h x, sum-cons e v, sum-cons b bs, hx.0, hv.0, common-least bs x v hx.1 hv.1)
 common-least _ _ _ hx hv = absurd hv
 
--- where none of these sizes is wanted there are no arcs
-pub under-unwanted : (sb : ℕ) (front : List ℕ) (c : ℕ) (bs x : List ℕ) (room shared left : ℕ) → IsBegun bs x room shared left c
-    → ((k : ℕ) → left ≤ k + (room - shared) → k ≤ left → k ≤ shared → is_wanted_size sb (k + c) ≡ false)
-    → arcs_under sb front c x (reverse (bounded_sums left bs)) ≡ []
-under-unwanted sb front c bs x room shared left begun none =
+-- where none of the vectors has a wanted size in common there are no arcs
+pub under-none : (sb : ℕ) (front : List ℕ) (c : ℕ) (bs x : List ℕ) (left : ℕ) → ((v : List ℕ) → IsWithin v bs → sum v ≡ left → is_wanted_size sb (common_size x v + c) ≡ false) → arcs_under sb front c x (reverse (bounded_sums left bs)) ≡ []
+under-none sb front c bs x left none =
     ap (map (λ v. record { tip = front ++ v; len = pos 1 })) (filter-none (λ v. is_wanted_size sb (common_size x v + c)) (reverse (bounded_sums left bs))
     (All-reverse (λ v. is_wanted_size sb (common_size x v + c) ≡ false) (bounded_sums left bs) (λ k d within. unwanted _ (All-contains_itself (bounded_sums left bs) k d within)))) where
       unwanted : (v : List ℕ) → Contains (bounded_sums left bs) v → is_wanted_size sb (common_size x v + c) ≡ false
       unwanted v there =
           let is = (Contains-bounded_sums left bs v).0 there in
-          grind (arith, common-most, common-least, is)
+          none v is.0 is.1
+
+-- and where none of these sizes is wanted
+pub under-unwanted : (sb : ℕ) (front : List ℕ) (c : ℕ) (bs x : List ℕ) (room shared left : ℕ) → IsBegun bs x room shared left c
+    → ((k : ℕ) → left ≤ k + (room - shared) → k ≤ left → k ≤ shared → is_wanted_size sb (k + c) ≡ false)
+    → arcs_under sb front c x (reverse (bounded_sums left bs)) ≡ []
+under-unwanted sb front c bs x room shared left begun none =
+    under-none sb front c bs x left (λ v within adds. none (common_size x v)
+    (omega (arith, common-least bs x v begun.within within, begun.bounds_add, begun.own_add, adds)) (omega (arith, common-most x v, adds)) (omega (arith, common-most x v, begun.own_add)))
 
 -- ---- where nothing is left to be placed
 
@@ -186,6 +192,12 @@ pub ended-part : (part : List ℕ → List ℕ → List (List ℕ)) → ((x : Li
     → arcs_under sb front c x (reverse (bounded_sums left bs)) ≡ arcs_under sb front c x (part bs x)
 unfolding bounded_sums box
 ended-part part one sb front c left bs x h none all = grind (arith, both_ended)
+
+-- and if something is left, no vector has it
+pub ended-none : (sb : ℕ) (front : List ℕ) (c left : ℕ) (bs x : List ℕ) → IsWithin x bs → HasEnded bs x → 0 < left → arcs_under sb front c x (reverse (bounded_sums left bs)) ≡ []
+ended-none sb front c left bs x h none some =
+    let ended = both_ended bs x h none in
+    ap₂ (λ v b. arcs_under sb front c v (reverse (bounded_sums left b))) ended.1 ended.0 ∙ ap (λ l. arcs_under sb front c [] (reverse l)) (sums-past left [] (omega (arith, some)))
 
 -- all vectors by their rows
 pub all-rows : (sb : ℕ) (front : List ℕ) (c left b h most : ℕ) (bs xs bounds x : List ℕ) → bounds ≡ b ∷ bs → x ≡ h ∷ xs → most ≡ min left b → arcs_under sb front c (h ∷ xs) (rows left bs 0 (most + 1 - 0)) ≡ arcs_under sb front c x (reverse (bounded_sums left bounds))

@@ -24,40 +24,57 @@ entry-unwanted sb room shared left c b h e within none front bounds x begun =
     (begun-on room shared left c b h e bounds x (b ∷ bounds) (h ∷ x) refl refl within begun) none
 
 -- the entries from one on that have none may be left out
-module _ (sb room shared left c b h : ℕ) (front bounds x : List ℕ) (begun : IsBegun (b ∷ bounds) (h ∷ x) room shared left c) where
+module _ (sb left c h : ℕ) (front bounds x : List ℕ) where
   abbrev arcs_of : ℕ → ℕ → List LocalArc
   arcs_of low n = arcs_under sb front c (h ∷ x) (rows left bounds low n)
 
-  none_of : (low n : ℕ) → ((e : ℕ) → low ≤ e → e < low + n → HasNoArcs sb room shared left c b h e) → arcs_of low n ≡ []
+  abbrev HasNone : ℕ → Type 0
+  HasNone e = arcs_under sb front c (h ∷ x) (row left bounds e) ≡ []
+
+  none_of : (low n : ℕ) → ((e : ℕ) → low ≤ e → e < low + n → HasNone e) → arcs_of low n ≡ []
   none_of low zero none = refl
   none_of low (suc n) none = grind (arith, under-append, none_of low n (λ e from to. none e from (omega arith)))
 
-  pub none-below : (low least end : ℕ) → low ≤ least → least ≤ end → ((e : ℕ) → low ≤ e → e < least → HasNoArcs sb room shared left c b h e) → arcs_of low (end - low) ≡ arcs_of least (end - least)
+  parts_of : (low mid end : ℕ) → low ≤ mid → mid ≤ end → arcs_of low (end - low) ≡ arcs_of mid (end - mid) ++ arcs_of low (mid - low)
+  parts_of low mid end from to =
+      ap (arcs_of low) {y = (mid - low) + (end - mid)} (omega arith)
+      ∙ ap (arcs_under sb front c (h ∷ x)) (rows-parts left bounds low (mid - low) (end - mid))
+      ∙ under-append sb front c (h ∷ x) (rows left bounds (low + (mid - low)) (end - mid)) (rows left bounds low (mid - low))
+      ∙ ap (λ l. l ++ arcs_of low (mid - low)) (ap (λ a. arcs_of a (end - mid)) (omega arith))
+
+  pub none-below : (low least end : ℕ) → low ≤ least → least ≤ end → ((e : ℕ) → low ≤ e → e < least → HasNone e) → arcs_of low (end - low) ≡ arcs_of least (end - least)
   none-below low least end more within none =
-      ap (arcs_of low) {y = (least - low) + (end - least)} (omega arith)
-      ∙ ap (arcs_under sb front c (h ∷ x)) (rows-parts left bounds low (least - low) (end - least))
-      ∙ under-append sb front c (h ∷ x) (rows left bounds (low + (least - low)) (end - least)) (rows left bounds low (least - low))
-      ∙ ap₂ (λ l m. l ++ m) (ap (λ a. arcs_of a (end - least)) (omega arith)) (none_of low (least - low) (λ e from to. none e from (omega arith)))
+      parts_of low least end more within
+      ∙ ap (λ l. arcs_of least (end - least) ++ l) (none_of low (least - low) (λ e from to. none e from (omega arith)))
       ∙ append-nil (arcs_of least (end - least))
 
-  pub none-above : (low after end : ℕ) → low ≤ after → after ≤ end → ((e : ℕ) → after ≤ e → e < end → HasNoArcs sb room shared left c b h e) → arcs_of low (end - low) ≡ arcs_of low (after - low)
+  pub none-above : (low after end : ℕ) → low ≤ after → after ≤ end → ((e : ℕ) → after ≤ e → e < end → HasNone e) → arcs_of low (end - low) ≡ arcs_of low (after - low)
   none-above low after end more within none =
-      ap (arcs_of low) {y = (after - low) + (end - after)} (omega arith)
-      ∙ ap (arcs_under sb front c (h ∷ x)) (rows-parts left bounds low (after - low) (end - after))
-      ∙ under-append sb front c (h ∷ x) (rows left bounds (low + (after - low)) (end - after)) (rows left bounds low (after - low))
-      ∙ ap₂ (λ l m. l ++ m) (none_of (low + (after - low)) (end - after) (λ e from to. none e (omega arith) (omega arith))) refl
+      parts_of low after end more within
+      ∙ ap (λ l. l ++ arcs_of low (after - low)) (none_of after (end - after) (λ e from to. none e from (omega arith)))
 
-  -- so all arcs are those by the wanted entries
-  pub wanted-rows : (end at count least after : ℕ) → end ≡ min left b + 1 → ((bs : List ℕ) → sum bs ≡ room - b → rows left bs 0 (end - 0) ≡ rows left bs at count)
-      → at ≤ least → least ≤ at + count → ((e : ℕ) → at ≤ e → e < least → HasNoArcs sb room shared left c b h e)
-      → least ≤ after → after ≤ at + count → ((e : ℕ) → after ≤ e → e < at + count → HasNoArcs sb room shared left c b h e)
-      → arcs_under sb front c (h ∷ x) (reverse (bounded_sums left (b ∷ bounds))) ≡ arcs_of least (after - least)
-  wanted-rows end at count least after end_is kept from to none_before more within none_after =
-      ap (arcs_under sb front c (h ∷ x)) (sums-rows left b bounds ∙ ap (rows left bounds 0) {x = b + 1} {y = b + 1 - 0} (omega arith) ∙ rows-end left bounds 0 b (omega arith) ∙ ap (λ n. rows left bounds 0 (n - 0)) (sym end_is)
-      ∙ kept bounds (omega (arith, begun.bounds_add, sum-cons b bounds)))
-      ∙ ap (arcs_of at) {x = count} {y = at + count - at} (omega arith)
+  -- those in a gap too
+  pub none-between : (low n from to : ℕ) → low ≤ from → from ≤ to → to ≤ low + n → ((e : ℕ) → from ≤ e → e < to → HasNone e) → arcs_of low n ≡ arcs_of to (low + n - to) ++ arcs_of low (from - low)
+  none-between low n from to more order within none =
+      ap (arcs_of low) {y = low + n - low} (omega arith)
+      ∙ parts_of low from (low + n) more (omega arith)
+      ∙ ap (λ l. l ++ arcs_of low (from - low)) (none-below from to (low + n) order within none)
+
+  -- so the arcs by some entries are those by the wanted ones
+  pub wanted-among : (at count least after : ℕ) → at ≤ least → least ≤ at + count → ((e : ℕ) → at ≤ e → e < least → HasNone e)
+      → least ≤ after → after ≤ at + count → ((e : ℕ) → after ≤ e → e < at + count → HasNone e)
+      → arcs_of at count ≡ arcs_of least (after - least)
+  wanted-among at count least after from to none_before more within none_after =
+      ap (arcs_of at) {x = count} {y = at + count - at} (omega arith)
       ∙ none-below at least (at + count) from to none_before
       ∙ none-above least after (at + count) more within none_after
+
+  -- and all arcs are those by the entries within the bound that leave no more than there is room for
+  pub rows-kept : (room b end at count : ℕ) → sum bounds ≡ room - b → end ≡ min left b + 1 → ((bs : List ℕ) → sum bs ≡ room - b → rows left bs 0 (end - 0) ≡ rows left bs at count)
+      → arcs_under sb front c (h ∷ x) (reverse (bounded_sums left (b ∷ bounds))) ≡ arcs_of at count
+  rows-kept room b end at count adds end_is kept =
+      ap (arcs_under sb front c (h ∷ x)) (sums-rows left b bounds ∙ ap (rows left bounds 0) {x = b + 1} {y = b + 1 - 0} (omega arith) ∙ rows-end left bounds 0 b (omega arith) ∙ ap (λ n. rows left bounds 0 (n - 0)) (sym end_is)
+      ∙ kept bounds adds)
 
 -- ---- the vector where an arc leads, entry by entry
 

@@ -15,6 +15,7 @@ ghost use Rattle.std.specs.Simd.Lanes.{sum_l, zip2};
 mod counts;
 mod descents;
 mod few_bounds;
+mod gaps;
 mod last_entries;
 mod left_over;
 mod list_counts;
@@ -24,6 +25,7 @@ mod pair_sums;
 mod pairs;
 mod row_sums;
 mod sizes;
+mod wide;
 
 use crate::counted_places::CountedPlaces;
 use crate::params::SubsetsParams;
