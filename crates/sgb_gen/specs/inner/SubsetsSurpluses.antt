@@ -18,12 +18,15 @@ pairs_above least (b ∷ bounds) surplus common =
     added (common + 1) (λ y. added (surplus + 1) (λ x.
     if nat_lt x least then 0 else if nat_lt b (x + y) then 0 else pairs_above least bounds (surplus - x) (common - y)))
 
--- how many pairs of vectors have so many elements in common, and each one `surplus` others, where the first one has more at the
--- places where a number has the bit 1, and not at the others
+-- how many pairs of vectors have so many elements in common, and each one `surplus` others, where the first one has more at some
+-- places, within these bounds, and not at others
+abbrev pub pairs_of_size : List ℕ → List ℕ → ℕ → ℕ → ℕ
+pairs_of_size ones others surplus common =
+    added (common + 1) (λ c. pairs_above 1 ones surplus c * pairs_above 0 others surplus (common - c))
+
+-- the same where it has more at the places where a number has the bit 1
 abbrev pub pairs_by_bits : ℕ → List ℕ → ℕ → ℕ → ℕ
-pairs_by_bits number bounds surplus common =
-    added (common + 1) (λ c. pairs_above 1 (with_bit 1 number bounds) surplus c
-    * pairs_above 0 (with_bit 0 number bounds) surplus (common - c))
+pairs_by_bits number bounds surplus common = pairs_of_size (with_bit 1 number bounds) (with_bit 0 number bounds) surplus common
 
 -- wherever the first one has more
 abbrev pub pairs_in_common : List ℕ → ℕ → ℕ → ℕ
@@ -33,12 +36,6 @@ pairs_in_common bounds surplus common = added (2 ^ length bounds) (λ number. pa
 abbrev pub pairs_wanted : ℕ → List ℕ → ℕ → ℕ → ℕ
 pairs_wanted size_bits bounds total most =
     added (most + 1) (λ common. if is_wanted_size size_bits common then pairs_in_common bounds (total - common) common else 0)
-
--- how many pairs have so many elements in common, and each one `surplus` others, where the first one has more at some places,
--- and not at others
-abbrev pub pairs_of_size : List ℕ → List ℕ → ℕ → ℕ → ℕ
-pairs_of_size ones others surplus common =
-    added (common + 1) (λ c. pairs_above 1 ones surplus c * pairs_above 0 others surplus (common - c))
 
 -- the same for all wanted sizes up to the most, of vectors that add to the total
 abbrev pub pairs_of_rows : ℕ → ℕ → ℕ → List ℕ → List ℕ → ℕ

@@ -20,6 +20,7 @@ ghost use Rattle.sgb_gen.specs.inner.BoardCounts.{starts_on, is_home_on, starts_
 ghost use Rattle.sgb_gen.specs.inner.Moves.{longest_move};
 
 use super::Board;
+use super::norm_counts::FEW_SIDES;
 use crate::moves::wraps;
 use sgb_vec::{Family, Panic};
 use std::alloc::Global;
@@ -48,8 +49,8 @@ impl Board {
     /// displacements, with no arc made: at once for each that moves on at most one side that does not wrap around, and
     /// length by length for the others. Where they are very many they may be counted together, by a row of numbers, and
     /// for a rider by a table of the lengths at which it is home, too. A row takes some two steps for each number up to
-    /// the piece on at most four sides, and on more, for each side more, up to the piece times its root: that of a piece
-    /// of 131,071 half a second on twelve sides. Where the piece is 64 or more, and at most 131,071, the row takes 16
+    /// the piece on at most four sides, and on more, for each side more, up to the piece times its root: for a piece of
+    /// 131,071 on twelve sides up to a second. Where the piece is 64 or more, and at most 131,071, the row takes 16
     /// bytes for each number up to the piece. The table has such a row for each divisor of the least common multiple of
     /// the sizes that wrap around, at most two megabytes together, and beside it room for the places of these lengths,
     /// which takes less. Where memory is refused, the count goes on without them.
@@ -130,7 +131,7 @@ impl Board {
         if self.sizes().len() < MANY_SIDES {
             return u64::MAX;
         }
-        let steps = if self.sizes().len() > 4 {
+        let steps = if self.sizes().len() > FEW_SIDES {
             STEPS_WALKED_ON_MORE
         } else {
             STEPS_WALKED

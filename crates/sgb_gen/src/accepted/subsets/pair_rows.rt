@@ -84,9 +84,9 @@ pub(super) fn pairs_by_rows(
     }
     let width = sides.most + 1;
     let cells = (sides.total + 1) * width;
-    let mut ended = zeros(alloc, cells)?;
-    let mut sums = zeros(alloc, cells + width)?;
-    let mut diagonals = zeros(alloc, cells + width)?;
+    let mut ended = vec![in alloc; 0; cells].ok()?;
+    let mut sums = vec![in alloc; 0; cells + width].ok()?;
+    let mut diagonals = vec![in alloc; 0; cells + width].ok()?;
     put_ended(ended.as_mut_slice());
     pairs_parted(
         ended.as_slice(),
@@ -97,13 +97,6 @@ pub(super) fn pairs_by_rows(
         Asked { size_bits, sides },
         alloc,
     )
-}
-
-// So many zeros. `None` when out of memory.
-fn zeros(alloc: Global, count: usize) -> Option<Vec<u64>>
-    ensures { IfSome result (λ zeros. length zeros.items ≡ count) }
-{
-    vec![in alloc; 0; count].ok()
 }
 
 // What is counted, and up to where.
@@ -149,7 +142,7 @@ fn pairs_parted(
     let Some((bound, left)) = bounds.split_last() else {
         return products(first, second, asked.size_bits, asked.sides);
     };
-    let mut made = zeros(alloc, first.len())?;
+    let mut made = vec![in alloc; 0; first.len()].ok()?;
     take_in(
         first,
         made.as_mut_slice(),
