@@ -9,7 +9,7 @@ use super::descents::{Begun, EntryRange};
 use super::sizes::WantedSizes;
 
 // Among so many entries no gap is looked for.
-pub(super) const FEW_ENTRIES: u32 = 256;
+pub(super) const FEW_ENTRIES: u32 = 4;
 
 // The entries from one on and below another.
 #[derive(Clone, Copy)]
