@@ -46,10 +46,14 @@ def read(path):
         return file.read()
 
 
+# the one function of sgb_text is there for sgb_file
+WITHOUT_PAGE = {"sgb_text"}
+
+
 def libraries():
     """The crates of crates.txt that others call: those with a root of a library that hands something on, and that are no tests."""
-    names = re.findall(r"^(\w+):", read("crates.txt"), re.M)
-    roots = {name: f"crates/{name}/src/lib.rt" for name in names if not name.endswith("_tests")}
+    names = set(re.findall(r"^(\w+):", read("crates.txt"), re.M)) - WITHOUT_PAGE
+    roots = {name: f"crates/{name}/src/lib.rt" for name in sorted(names) if not name.endswith("_tests")}
     return [name for name, root in roots.items() if os.path.exists(root) and re.search(r"^pub ", read(root), re.M)]
 
 

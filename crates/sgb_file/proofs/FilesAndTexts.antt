@@ -7,6 +7,7 @@ use Rattle.sgb_graph.specs.Sound.{arc_kinds}
 use Rattle.sgb_graph.specs.declared.fields.Kind.{Kind}
 use Rattle.sgb_graph.specs.declared.fields.Kind.TheVariants.{A, I, V}
 use Rattle.sgb_graph.specs.declared.fields.Util.{Util}
+use Rattle.sgb_text.specs.Checksums.{agrees}
 use Rattle.sgb_text.specs.Languages.{Each}
 use Rattle.sgb_file.specs.FileLines.{clean_lines, text_of_lines}
 use Rattle.sgb_file.specs.inner.LinesLeft.{lines_of_text}
@@ -16,7 +17,7 @@ use Rattle.sgb_file.specs.inner.FieldValues.{number_of}
 use Rattle.sgb_file.specs.inner.Heads.{Counts, Head, AreRecordLines, head_of, SaysHead, OpensWith, IsRecordAmong}
 use Rattle.sgb_file.specs.Files.{IsComment, IsChecksumLine, AreMoreFields, IsArcRecord, AreRecordsOf, IsClosed}
 use Rattle.sgb_file.specs.inner.ReadRecords.{records_at}
-use Rattle.sgb_file.specs.inner.ReadFiles.{Opening, leading_number, head_of_line, opening_of, checksum_in_line, checksum_agrees, line_closes, closes}
+use Rattle.sgb_file.specs.inner.ReadFiles.{Opening, leading_number, head_of_line, opening_of, checksum_in_line, line_closes, closes}
 use Rattle.sgb_file.proofs.LineLemmas.{is_one_line, lines_again, lines_read, clean_are_one_line}
 use Rattle.sgb_file.proofs.NumberReading.{at_most_passes, number_says}
 use Rattle.sgb_file.proofs.FirstLines.{IsLeading, leading_found, leading_says, first_line_found, kinds_read}
@@ -65,10 +66,10 @@ opening_found (line ∷ lines) opening e = elim (opened_where (head_of_line line
 ]
 
 -- a minus stands for a negative number, or for 0
-minus_agrees : (k : ℕ) (lines : List (List ℕ)) → checksum_agrees (neg_ℤ (pos k)) lines ≡ true → (0 < k) ⊎ (k ≡ checksum_of_lines lines)
+minus_agrees : (k : ℕ) (lines : List (List ℕ)) → agrees (neg_ℤ (pos k)) (checksum_of_lines lines) ≡ true → (0 < k) ⊎ (k ≡ checksum_of_lines lines)
 minus_agrees k lines h = grind (arith, Decides-eqb)
 
-minus_passes : (k : ℕ) (lines : List (List ℕ)) → (0 < k) ⊎ (k ≡ checksum_of_lines lines) → checksum_agrees (neg_ℤ (pos k)) lines ≡ true
+minus_passes : (k : ℕ) (lines : List (List ℕ)) → (0 < k) ⊎ (k ≡ checksum_of_lines lines) → agrees (neg_ℤ (pos k)) (checksum_of_lines lines) ≡ true
 minus_passes k lines h = grind (arith, nat_tests)
 
 minus_first : (text : List ℕ) → (slice_index text 0 == 45) ≡ true → text ≡ 45 ∷ drop 1 text
@@ -80,7 +81,7 @@ agreeing_line : (sum : ℕ) (line text : List ℕ) (found : Found ℕ) → IsLea
 agreeing_line sum line text found l h = grind (arith, digits_found)
 
 -- a line that is read as an agreeing checksum's is one
-checksum_found : (line : List ℕ) (c : ℤ) (lines : List (List ℕ)) → checksum_in_line line ≡ Some c → checksum_agrees c lines ≡ true → IsChecksumLine (checksum_of_lines lines) line
+checksum_found : (line : List ℕ) (c : ℤ) (lines : List (List ℕ)) → checksum_in_line line ≡ Some c → agrees c (checksum_of_lines lines) ≡ true → IsChecksumLine (checksum_of_lines lines) line
 checksum_found line c lines e agrees =
     let g = was_given (after_prefix (codes "* Checksum ") line) e in
     let text = g.first in
@@ -161,7 +162,7 @@ pub closed_found : (records following : List (List ℕ)) → line_closes records
 closed_found records [] e = absurd cc
 closed_found records (last ∷ others) e = by_checksum (checksum_in_line last) refl e
   where
-    by_checksum : (o : Option ℤ) → checksum_in_line last ≡ o → option_map_or (λ c. checksum_agrees c records) o false ≡ true → IsClosed records (last ∷ others)
+    by_checksum : (o : Option ℤ) → checksum_in_line last ≡ o → option_map_or (λ c. agrees c (checksum_of_lines records)) o false ≡ true → IsClosed records (last ∷ others)
     by_checksum None here e = absurd cc
     by_checksum (Some c) here e = (last, others, refl, checksum_found last c records here e)
 

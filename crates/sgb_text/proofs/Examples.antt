@@ -1,6 +1,7 @@
 -- Words of small languages, and texts that go wrong in them.
 use Rattle.std.proofs.Common.{◌≡◌, ◌≤◌, ◌<◌, ◌+◌, ◌++◌, ℕ, zero, suc, List, [], ◌∷◌, take, codes, ap, refl, arith}
-use Rattle.std.specs.Prelude.{slice_index}
+use Rattle.std.specs.Prelude.{slice_index, pos, negsuc, Bool, true, false, map}
+use Rattle.sgb_text.specs.Checksums.{agrees}
 use Rattle.sgb_text.specs.Languages.{Then, After, Each, Fixed, Begins, IsLongestPrefixOf}
 use Rattle.sgb_text.specs.Numbers.{IsNumber}
 
@@ -49,3 +50,7 @@ two_digits = record { numeral = (omega arith, (omega arith, (omega arith, tt)));
 
 three_digits : IsNumber 16 2 (codes "0fF") 255 → ⊥
 three_digits is = let many : 3 ≤ 2 = is.short in absurd (omega (arith, many))
+
+-- a checksum of 5 is taken where 5 or one below 0 is told, and no other
+checksums_of_5 : map (λ told. agrees told 5) (pos 5 ∷ pos 4 ∷ pos 6 ∷ pos 0 ∷ negsuc 0 ∷ negsuc 6 ∷ []) ≡ true ∷ false ∷ false ∷ false ∷ true ∷ true ∷ []
+checksums_of_5 = refl

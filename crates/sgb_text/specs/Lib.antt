@@ -3,3 +3,5 @@
 pub mod Languages
 -- texts of numbers
 pub mod Numbers
+-- checksums that texts tell of themselves
+pub mod Checksums

@@ -1,6 +1,7 @@
 -- The graph that a text is a file of, or the code of a text that is a file of none, as it is read [GB_SAVE, restore_graph].
-use Rattle.std.specs.Prelude.{ℕ, ◌-◌, ℤ, pos, negsuc, neg_ℤ, Bool, true, false, List, [], ◌∷◌, length, take, drop, codes, Option, Some, None, Result, Ok, Err, option_map, filter_map, take_while, slice_index, ◌==◌, nat_le, if◌then◌else◌}
+use Rattle.std.specs.Prelude.{ℕ, ◌-◌, ℤ, pos, neg_ℤ, Bool, true, false, List, [], ◌∷◌, length, take, drop, codes, Option, Some, None, Result, Ok, Err, option_map, filter_map, take_while, slice_index, ◌==◌, nat_le, if◌then◌else◌}
 use Rattle.std.specs.Option.{option_map_or}
+use Rattle.sgb_text.specs.Checksums.{agrees}
 use Rattle.sgb_text.proofs.Findings.{Found, after_prefix, given}
 use Rattle.sgb_vec.specs.Limits.{most_vertices}
 use Rattle.sgb_vec.specs.declared.panics.Panic.{Panic}
@@ -82,15 +83,10 @@ checksum_in_line line =
 abbrev pub lines_before : Opening → List (List ℕ) → List (List ℕ)
 lines_before opening following = take (length opening.lines - length following) opening.lines
 
--- a checksum that is negative, or that of the lines
-abbrev pub checksum_agrees : ℤ → List (List ℕ) → Bool
-checksum_agrees (pos c) lines = c == checksum_of_lines lines
-checksum_agrees (negsuc c) lines = true
-
 -- the first of the lines after the records is a checksum line that agrees; any lines may follow it
 abbrev pub line_closes : List (List ℕ) → List (List ℕ) → Bool
 line_closes before [] = false
-line_closes before (line ∷ anything) = option_map_or (λ c. checksum_agrees c before) (checksum_in_line line) false
+line_closes before (line ∷ anything) = option_map_or (λ c. agrees c (checksum_of_lines before)) (checksum_in_line line) false
 
 -- the text after the records closes the file
 abbrev pub closes : Opening → List ℕ → Bool

@@ -3,10 +3,11 @@ ghost use Rattle.std.specs.Prelude.{◌≡◌, ◌∷◌, [], ℕ, List};
 ghost use Rattle.sgb_file.specs.Checksum.{checksum_of_lines};
 ghost use Rattle.sgb_file.specs.inner.LinesLeft.{text_left};
 ghost use Rattle.sgb_file.specs.inner.Heads.{Head as FileHead};
-ghost use Rattle.sgb_file.specs.inner.ReadFiles.{checksum_agrees, checksum_in_line, closes, line_closes};
+ghost use Rattle.sgb_file.specs.inner.ReadFiles.{checksum_in_line, closes, line_closes};
 
 use super::lines::Lines;
 use super::texts::{after_prefix, leading_number};
+use sgb_text::agrees;
 
 // Whether the line under way closes the file: it is a checksum line, which is negative or agrees with the lines after the
 // first one and before it.
@@ -26,17 +27,9 @@ fn line_closes(line: &[u8], sum: u32) -> bool
         ≡ line_closes lines (line.now ∷ []) }
 {
     match checksum_in_line(line) {
-        Some(checksum) => checksum_agrees(checksum, sum),
+        Some(checksum) => agrees(checksum, sum),
         None => false,
     }
-}
-
-// Whether the checksum of a checksum line is negative, or this one.
-fn checksum_agrees(checksum: i64, sum: u32) -> bool
-    ensures { (lines : List (List ℕ)) → sum ≡ checksum_of_lines lines → result
-        ≡ checksum_agrees checksum lines }
-{
-    checksum < 0 || checksum == i64::from(sum)
 }
 
 // The number c of a line `* Checksum c`, followed by anything.

@@ -1,6 +1,6 @@
 //! Entries between which no vector is joined with `x`: one that has few elements in common with `x` has a small entry where
 //! that of `x` is great, or so great a one that the bounds of the others do not leave room for what is left.
-ghost use Rattle.std.specs.Prelude.{◌≡◌, ◌+◌, ◌^◌, ◌≤◌, ◌<◌, ℕ, List, sum};
+ghost use Rattle.std.specs.Prelude.{◌≡◌, ◌+◌, ◌^◌, ◌≤◌, ◌<◌, ℕ, sum};
 ghost use Rattle.sgb_vec.specs.Lexicographic.{IsWithin};
 ghost use Rattle.sgb_vec.specs.Limits.{most_vertices};
 ghost use Rattle.sgb_gen.specs.inner.Descents.{AreBetween, HasNoneBeyond, IsUnjoined, slack};
