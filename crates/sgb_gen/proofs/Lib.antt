@@ -149,6 +149,7 @@ pub mod ListsOfBoards
 -- the list of a vector of a simplex
 pub mod SimplexLists
 -- its arcs, pair of places by pair
+pub mod PairCompletions
 pub mod PairWalks
 -- the list of a vector of subsets
 pub mod SubsetsLists
