@@ -6,7 +6,7 @@ use Rattle.std.proofs.Math.Seq.{set-append_seam}
 use Rattle.std.proofs.lemmas.Int.{ints}
 use Rattle.std.proofs.lemmas.Bool.{cases_eq}
 use Rattle.std.proofs.lemmas.Grind.{get_or-set_at, same_number_lists}
-use Rattle.std.proofs.lemmas.List.{at_drop_more, drop_all}
+use Rattle.std.proofs.lemmas.List.{at_drop_more, drop_all, length-map}
 use Rattle.std.proofs.lemmas.List.Elements.{All-cons, All-nil, AllZip-get_or, length_all_zip}
 use Rattle.sgb_vec.specs.Lexicographic.{IsBelow}
 use Rattle.sgb_gen.specs.Moves.{sides_of, in_front, opposite, place}
@@ -113,6 +113,10 @@ moved_opposite n [] = refl
 moved_opposite n (pos zero ∷ t) = moved_opposite (n + 1) t
 moved_opposite n (pos (suc c) ∷ t) = ap (λ ks. n ∷ ks) (moved_opposite (n + 1) t)
 moved_opposite n (negsuc c ∷ t) = ap (λ ks. n ∷ ks) (moved_opposite (n + 1) t)
+
+-- and as many
+pub length_parts_opposite : (t : List ℤ) → length (parts_of (opposite t)) ≡ length (parts_of t)
+length_parts_opposite t = grind (arith, ap length (moved_opposite 0 t), length-map)
 
 parts-within : (k n : ℕ) (t : List ℤ) → k + length t ≡ n → All (λ p. p.0 < n) (parts_from k t)
 parts-within k n [] e = All-nil (λ (p : ℕ × ℤ). p.0 < n)

@@ -1,10 +1,9 @@
 //! Displacements with the coordinates that they move.
-ghost use Rattle.std.specs.Prelude.{◌≡◌, ◌<◌, ◌≤◌, length, All, IfSome, if◌then◌else◌};
+ghost use Rattle.std.specs.Prelude.{◌≡◌, ◌<◌, ◌≤◌, length, All, if◌then◌else◌};
 ghost use Rattle.sgb_vec.specs.Limits.{most_dimensions};
 ghost use Rattle.sgb_gen.specs.MovedCoordinates.{parts_of};
 
 use arrayvec::ArrayVec;
-use std::alloc::Global;
 use std::marker::Model;
 
 /// A coordinate that a displacement moves: its number, counted from 0, and how far it goes for each unit of length.
@@ -71,56 +70,6 @@ pub(crate) fn either<'s>(first: bool, one: &'s Step<'_>, other: &'s Step<'_>) ->
         return Step::of(one.entries(), one.parts());
     }
     Step::of(other.entries(), other.parts())
-}
-
-/// A displacement that is kept. Contracts see it as its entries.
-#[derive(Drop)]
-pub(crate) struct KeptStep {
-    entries: Vec<i32>,
-    parts: Vec<Part>,
-}
-
-impl Model for KeptStep {
-    ghost use Rattle.std.specs.Prelude.{◌≡◌, List, ℤ};
-    ghost use Rattle.sgb_gen.specs.MovedCoordinates.{parts_of};
-
-    ghost Value = { List ℤ };
-
-    ghost view = { λ s. s.entries.items };
-
-    ghost invariant = { λ s. s.parts.items ≡ parts_of s.entries.items };
-}
-
-impl KeptStep {
-    /// The displacement of these entries. `None` out of memory. `parts` is what it is found with: what it holds is open.
-    pub(crate) fn new(alloc: Global, entries: &[i32], parts: &mut Parts) -> Option<KeptStep>
-        requires { length entries.now ≤ most_dimensions }
-        ensures { IfSome result (λ s. s ≡ entries.now) }
-    {
-        put_parts_of(entries, parts);
-        let entries = kept(alloc, entries)?;
-        let parts = kept(alloc, parts.as_slice())?;
-        Some(KeptStep { entries, parts })
-    }
-
-    /// The displacement.
-    pub(crate) fn step(&self) -> Step<'_>
-        ensures { result ≡ self.now }
-    {
-        Step {
-            entries: self.entries.as_slice(),
-            parts: self.parts.as_slice(),
-        }
-    }
-}
-
-// These elements, kept. `None` out of memory.
-fn kept<T: Copy>(alloc: Global, items: &[T]) -> Option<Vec<T>>
-    ensures { IfSome result (λ v. v.items ≡ items.now) }
-{
-    let mut kept = Vec::with_capacity(alloc, items.len()).ok()?;
-    kept.extend_from_slice(items).ok()?;
-    Some(kept)
 }
 
 /// Puts the coordinates that a displacement moves into `parts`.
