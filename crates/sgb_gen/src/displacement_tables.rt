@@ -32,9 +32,12 @@ impl Model for KeptPair {
 
     ghost view = { λ p. take (length p.entries.items / 2) p.entries.items };
 
-    ghost invariant = { λ p. (drop (length p.entries.items / 2) p.entries.items ≡ opposite (take (length p.entries.items / 2) p.entries.items))
-        × (take (length p.parts.items / 2) p.parts.items ≡ parts_of (take (length p.entries.items / 2) p.entries.items))
-        × (drop (length p.parts.items / 2) p.parts.items ≡ parts_of (drop (length p.entries.items / 2) p.entries.items)) };
+    ghost invariant = { λ p. (drop (length p.entries.items / 2) p.entries.items
+        ≡ opposite (take (length p.entries.items / 2) p.entries.items))
+        × (take (length p.parts.items / 2) p.parts.items
+        ≡ parts_of (take (length p.entries.items / 2) p.entries.items))
+        × (drop (length p.parts.items / 2) p.parts.items
+        ≡ parts_of (drop (length p.entries.items / 2) p.entries.items)) };
 }
 
 impl KeptPair {
