@@ -1,5 +1,5 @@
 -- The vertices that entries make: the names of all, and the events between them.
-use Rattle.sgb_vec.proofs.Common.{rules, ◌≡◌, ◌<◌, ◌≤◌, ◌+◌, ℕ, Bool, false, List, [], ◌∷◌, length, get_or, refl, arith, All, list_any, range_with_len, enumerate_from, length-append, length-map, get_or_default, All-nil, All-map, All-filter, All-weaker, length-range_with_len, length-enumerate_from, get_or-enumerate_from, sum_by-cons, sum_by-take-le}
+use Rattle.sgb_vec.proofs.Common.{rules, ◌≡◌, ◌<◌, ◌≤◌, ◌+◌, ℕ, Bool, false, List, [], ◌∷◌, length, get_or, refl, arith, All, list_any, range_with_len, enumerate_from, length-append, length-map, get_or_default, All-nil, All-map, All-filter, All-weaker, flat_map, length-range_with_len, length-enumerate_from, get_or-enumerate_from, sum_by-cons, sum_by-take-le}
 use Rattle.sgb_vec.proofs.Lists.{All-flat_map, range-within}
 use Rattle.sgb_graph.specs.Events.{HasEndsBelow}
 use Rattle.sgb_graph.specs.Graphs.{GraphData}
@@ -46,11 +46,11 @@ module _ (entries : List Entry) (directed : Bool) (numbered : list_any is_unnumb
   of_arc : (v u : ℕ) (a : Link) → u < total_of entries → AllWithin (total_of entries) (events_of_arc entries directed v u a)
   of_arc v u a below = search (rules, All-map, All-filter, all_copies)
 
-  pub of_copy : (g : GraphData) (v u : ℕ) → u < total_of entries → AllWithin (total_of entries) (events_of_copy g entries directed v u)
-  of_copy g v u below = All-flat_map (HasEndsBelow (total_of entries)) (events_of_arc entries directed v u) (taken directed g v) (λ k d h. of_arc v u (get_or (taken directed g v) k d) below)
+  pub of_arcs : (v u : ℕ) (arcs : List Link) → u < total_of entries → AllWithin (total_of entries) (flat_map (events_of_arc entries directed v u) arcs)
+  of_arcs v u arcs below = All-flat_map (HasEndsBelow (total_of entries)) (events_of_arc entries directed v u) arcs (λ k d h. of_arc v u (get_or arcs k d) below)
 
   of_copies : (g : GraphData) (v : ℕ) → AllWithin (total_of entries) (events_of_copies g entries directed v)
-  of_copies g v = All-flat_map (HasEndsBelow (total_of entries)) (events_of_copy g entries directed v) (copies_of entries v) (λ k d h. of_copy g v (get_or (copies_of entries v) k d) (all_copies v k d h))
+  of_copies g v = All-flat_map (HasEndsBelow (total_of entries)) (events_of_copy g entries directed v) (copies_of entries v) (λ k d h. of_arcs v (get_or (copies_of entries v) k d) (taken directed g v) (all_copies v k d h))
 
   -- the events between copies are between vertices of the result
   pub between_within : (g : GraphData) → AllWithin (total_of entries) (events_between g entries directed)

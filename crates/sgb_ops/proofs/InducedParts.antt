@@ -22,7 +22,7 @@ use Rattle.sgb_ops.specs.inner.Slots.{inner_graph}
 use Rattle.sgb_ops.specs.inner.Entries.{inner_event, inner_events_from, total_of}
 use Rattle.sgb_ops.specs.inner.Induced.{copies_met, event_between, events_of_arc, events_of_copies, events_of_copy, is_met, is_wanted, wanted}
 use Rattle.sgb_ops.proofs.CopiesInOrder.{copy_between, firsts_order}
-use Rattle.sgb_ops.proofs.CopiesWithin.{of_copy as copy_events_within}
+use Rattle.sgb_ops.proofs.CopiesWithin.{of_arcs as events_of_arcs_within}
 use Rattle.sgb_ops.proofs.Ends.{ends}
 use Rattle.sgb_ops.proofs.EntryTotals.{copies-range, next_copy, number_below}
 use Rattle.sgb_ops.proofs.ListedEvents.{listed_tips}
@@ -71,7 +71,7 @@ entry_inside : (directed : Bool) (start : ℕ) (e : Entry) → IsKeptEntry e →
 entry_inside directed start e kept = grind (arith, All-nil, Inside, graph_inside)
 
 -- the vertex is a copy that stands for v alone
-abbrev Own : List Entry → ℕ → ℕ → Type 0
+abbrev pub Own : List Entry → ℕ → ℕ → Type 0
 Own entries v u = (first_copy entries v ≤ u) × (u < first_copy entries (v + 1))
 
 -- first copies rise
@@ -79,7 +79,7 @@ firsts_up : (entries : List Entry) (v w : ℕ) → v < w → first_copy entries 
 firsts_up entries v w less = let next : v + 1 ≡ suc v = omega arith in omega (arith, firsts_order entries v w less, ap (first_copy entries) next)
 
 -- so a copy stands for one vertex
-own_same : (entries : List Entry) (v w u : ℕ) → Own entries v u → Own entries w u → w ≡ v
+pub own_same : (entries : List Entry) (v w u : ℕ) → Own entries v u → Own entries w u → w ≡ v
 own_same entries v w u a b = grind (arith, cases_lt, firsts_up)
 
 -- an entry that is looked up
@@ -139,7 +139,7 @@ module _ (g : GraphData) (entries : List Entry) (directed : Bool) (numbered : li
     | inr merged ↦ absurd (omega (arith, number_below entries v (entry.Merged (u + 1)) merged, apart))
   ]
 
-  all_own : (v : ℕ) → All (Own entries v) (copies_of entries v)
+  pub all_own : (v : ℕ) → All (Own entries v) (copies_of entries v)
   all_own v = λ k d h. own_copy v (get_or (copies_of entries v) k d) (All-contains_itself (copies_of entries v) k d h)
 
   -- copy u of v is joined to no copy before it by an edge
@@ -231,10 +231,11 @@ module _ (g : GraphData) (entries : List Entry) (directed : Bool) (numbered : li
         rw (within_places entries directed kept, filter-append (is_wanted self) (flat_map (inside_at entries directed) (range_with_len 0 (length entries))) (events_between g entries directed))
         (sym (merged_both multi directed _ others (All-filter (is_wanted self) (λ e. All (λ f. has_ends_of directed e f ≡ false) others) _ all)))
 
--- the events from copy u are between vertices of the result
-pub copy_within : (g : GraphData) (entries : List Entry) (directed : Bool) (numbered : list_any is_unnumbered entries ≡ false) (self : Bool) (v u : ℕ) → u < total_of entries
-    → AllWithin (total_of entries) (wanted self (events_of_copy g entries directed v u))
-copy_within g entries directed numbered self v u below = search (rules, All-filter, copy_events_within)
+-- the events from copy u for arcs are between vertices of the result
+pub arcs_within : (entries : List Entry) (directed : Bool) (numbered : list_any is_unnumbered entries ≡ false) (self : Bool) (v u : ℕ) (arcs : List Link) → u < total_of entries
+    → AllWithin (total_of entries) (wanted self (flat_map (events_of_arc entries directed v u) arcs))
+arcs_within entries directed numbered self v u arcs below =
+    All-filter (is_wanted self) (HasEndsBelow (total_of entries)) (flat_map (events_of_arc entries directed v u) arcs) (events_of_arcs_within entries directed numbered v u arcs below)
 
 -- of no events none are left
 pub none_left : (multi directed : Bool) → merged_unless multi directed [] ≡ []

@@ -81,6 +81,8 @@ pub mod RisingSums
 pub mod OwnSums
 -- the events of an induced graph, part by part
 pub mod InducedParts
+-- arcs of which no two lead to one vertex, and the events for them
+pub mod ArcsApart
 -- an induced graph under way
 pub mod BegunGraphs
 -- worked examples

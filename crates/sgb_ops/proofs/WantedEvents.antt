@@ -2,6 +2,9 @@
 use Rattle.sgb_vec.proofs.Common.{rules, ◌≡◌, ◌<◌, ◌+◌, ℕ, Bool, List, [], ◌∷◌, ◌++◌, map, refl, ap, ◌∙◌, arith, filter, flat_map, enumerate_from, ltb-false, cases_Bool, filter-append}
 use Rattle.sgb_vec.proofs.Lists.{made-append}
 use Rattle.sgb_graph.specs.Events.{Event}
+use Rattle.sgb_graph.specs.Graphs.{GraphData}
+use Rattle.sgb_graph.specs.Growth.{AddsEvents}
+use Rattle.sgb_graph.proofs.AddedEvents.{AddsUpTo, up_to-more}
 use Rattle.sgb_graph.specs.declared.fields.Link.{Link}
 use Rattle.sgb_ops.specs.declared.induced_graphs.entries.Entry.{Entry}
 use Rattle.sgb_ops.specs.inner.Copies.{leads_to_copies}
@@ -14,6 +17,12 @@ use Rattle.sgb_ops.proofs.PlainLists.{part_more, places_from, places-next}
 pub wanted_more : (self : Bool) (now new part rest whole all : List Event) → whole ≡ part ++ rest → now ++ wanted self whole ≡ all → new ≡ now ++ wanted self part → new ++ wanted self rest ≡ all
 wanted_more self now new part rest whole all is h grown =
     part_more now new (wanted self part) (wanted self rest) (wanted self whole) all (ap (wanted self) is ∙ filter-append (is_wanted self) part rest) h grown
+
+-- they are added to a graph
+pub wanted_added : (self directed : Bool) (old now new : GraphData) (part rest whole all : List Event) → whole ≡ part ++ rest → AddsUpTo directed old now (wanted self whole) all
+    → AddsEvents directed now new (wanted self part) → AddsUpTo directed old new (wanted self rest) all
+wanted_added self directed old now new part rest whole all is h added =
+    up_to-more directed old now new (wanted self part) (wanted self rest) all (wanted self whole) h (ap (wanted self) is ∙ filter-append (is_wanted self) part rest) added
 
 -- the events of the places from i on, before the one where they stop
 abbrev pub events_until : (ℕ → List Event) → ℕ → ℕ → List Event

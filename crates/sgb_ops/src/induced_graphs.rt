@@ -15,6 +15,8 @@ ghost use Rattle.sgb_ops.specs.inner.Entries.{total_of};
 ghost use Rattle.sgb_ops.specs.inner.Compounds.{induced_id};
 ghost use Rattle.sgb_ops.specs.inner.Induced.{wanted};
 
+// The events from a copy of a vertex, added one after another.
+mod added;
 // The names of the copies of vertices.
 mod copied_names;
 // The entries of an induced graph, and where the copies of each vertex are.

@@ -1,5 +1,6 @@
 -- The events of an induced graph, part by part [GB_BASIC, induced].
-use Rattle.std.specs.Prelude.{ℕ, ℤ, ◌==◌, Bool, not, ◌||◌, List, map, filter, flat_map, nat_le}
+use Rattle.std.specs.Prelude.{ℕ, ℤ, ◌==◌, Bool, true, not, ◌&&◌, ◌||◌, List, [], ◌∷◌, length, map, filter, flat_map, nat_le}
+use Rattle.std.specs.List.{list_any}
 use Rattle.sgb_graph.specs.Descriptions.{Description}
 use Rattle.sgb_graph.specs.Events.{Event}
 use Rattle.sgb_graph.specs.Graphs.{GraphData}
@@ -36,6 +37,15 @@ events_of_copy g entries directed v u = flat_map (events_of_arc entries directed
 -- those from all copies of v
 abbrev pub events_of_copies : GraphData → List Entry → Bool → ℕ → List Event
 events_of_copies g entries directed v = flat_map (events_of_copy g entries directed v) (copies_of entries v)
+
+-- no two of the arcs lead to one vertex
+abbrev pub lead_apart : List Link → Bool
+lead_apart [] = true
+lead_apart (a ∷ arcs) = not (list_any (λ l. l.tip == a.tip) arcs) && lead_apart arcs
+
+-- and there are few of them
+abbrev pub are_few_apart : List Link → Bool
+are_few_apart arcs = nat_le (length arcs) 8 && lead_apart arcs
 
 -- loops are dropped unless they are wanted
 abbrev pub is_wanted : Bool → Event → Bool

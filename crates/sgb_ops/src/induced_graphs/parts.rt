@@ -2,7 +2,7 @@
 //!
 //! So no list of all events is made. It is possible where no vertices are merged and no vertex with a graph in its
 //! place has a loop; else all are merged at once (`induced_graphs`).
-ghost use Rattle.std.specs.Prelude.{◌≡◌, ◌<◌, ◌≤◌, ◌+◌, false, length, map, flat_map, All, OnOk, IfOk, IsOkUnless};
+ghost use Rattle.std.specs.Prelude.{◌≡◌, ◌<◌, ◌≤◌, ◌+◌, ◌||◌, false, length, map, flat_map, All, OnOk, IfOk, IsOkUnless};
 ghost use Rattle.std.specs.Bool.{OnTrue};
 ghost use Rattle.std.specs.List.{list_any};
 ghost use Rattle.sgb_vec.specs.Limits.{most_vertices};
@@ -17,11 +17,12 @@ ghost use Rattle.sgb_ops.specs.inner.Parts.{AreInParts, has_loop_inside, has_loo
 ghost use Rattle.sgb_ops.specs.inner.Entries.{inner_events_from, total_of};
 ghost use Rattle.sgb_ops.specs.inner.Slots.{inner_held};
 ghost use Rattle.sgb_ops.specs.inner.Sources.{HasTips};
-ghost use Rattle.sgb_ops.specs.inner.Induced.{events_of_arc, events_of_copies, wanted};
+ghost use Rattle.sgb_ops.specs.inner.Induced.{are_few_apart, events_of_arc, events_of_copies, wanted};
 
+use super::added::add_from_copy;
 use super::entries::Copies;
 use super::events::{Flags, push_from_copy, push_inner_arcs};
-use super::rooms::Rooms;
+use super::rooms::{Rooms, are_few_apart};
 use super::slots::{Inner, Slot, Slots};
 use crate::circles::Circle;
 use crate::events::{Event, add_events};
@@ -306,11 +307,53 @@ fn add_from_copies(
 {
     rooms.take_arcs(graph, copies, flags.directed, v)?;
     let arcs = rooms.arcs.as_slice();
+    let part_flags = flags_for(arcs, flags);
     for u in copies.start(v)..copies.end(v) {
-        put_events_from_copy(&mut rooms.events, copies, arcs, flags, v, u)?;
-        add_part(built, alloc, &rooms.events, flags)?;
+        add_copy(built, alloc, &mut rooms.events, copies, arcs, part_flags, v, u)?;
     }
     Ok(())
+}
+
+// The same flags, but with parallel arcs where no two of these few arcs lead to one vertex: then there are none to be merged.
+fn flags_for(arcs: &[Link], flags: Flags) -> Flags
+    ensures self_loops { result.self_loops ≡ flags.self_loops }
+    ensures multi { result.multi ≡ (flags.multi || are_few_apart arcs.now) }
+    ensures directed { result.directed ≡ flags.directed }
+{
+    Flags {
+        multi: flags.multi || are_few_apart(arcs),
+        ..flags
+    }
+}
+
+// Adds the events from copy `u` of vertex `v` for these arcs from `v`, merged by themselves. Where none are to be merged they are
+// added one after another, with no list of them. What `events` holds then is open.
+fn add_copy(
+    built: &mut Graph,
+    alloc: Global,
+    events: &mut Vec<Event>,
+    copies: &Copies,
+    arcs: &[Link],
+    flags: Flags,
+    v: u32,
+    u: u32,
+) -> Result<(), Panic>
+    requires copy { u < length built.old.vertices }
+    requires tips { All (λ l. l.tip < length copies.now) arcs.now }
+    requires numbered { list_any is_unnumbered copies.now ≡ false }
+    requires size { length built.old.vertices ≡ total_of copies.now }
+    requires plain { HasPlainArcs built.old }
+    ensures ok { OnOk result (AddsEvents flags.directed built.old built.new
+        (merged_unless flags.multi flags.directed
+        (wanted flags.self_loops (flat_map (events_of_arc copies.now flags.directed v u)
+        arcs.now)))) }
+    ensures memory { IsOkUnless result Panic.NoRoom }
+{
+    if flags.multi {
+        return add_from_copy(built, copies, arcs, flags, v, u);
+    }
+    put_events_from_copy(events, copies, arcs, flags, v, u)?;
+    add_part(built, alloc, events, flags)
 }
 
 // Puts the events from copy `u` of vertex `v` for these arcs from `v` in the place of those in `events`.

@@ -3,7 +3,7 @@ ghost use Rattle.std.specs.Prelude.{◌≡◌, ◌<◌, ◌++◌, ◌==◌, [], 
 ghost use Rattle.std.specs.List.{list_any};
 ghost use Rattle.sgb_ops.specs.Taken.{taken};
 ghost use Rattle.sgb_ops.specs.inner.Copies.{leads_to_copies};
-ghost use Rattle.sgb_ops.specs.inner.Induced.{events_of_arc, events_of_copy};
+ghost use Rattle.sgb_ops.specs.inner.Induced.{are_few_apart, events_of_arc, events_of_copy, lead_apart};
 
 use super::entries::Copies;
 use crate::events::Event;
@@ -89,7 +89,31 @@ impl Rooms {
     }
 }
 
+// So few arcs are compared in pairs.
+const FEW: usize = 8;
+
+/// Whether the arcs are so few that they are compared in pairs, and no two of them lead to one vertex.
+pub(super) fn are_few_apart(arcs: &[Link]) -> bool
+    ensures { result ≡ are_few_apart arcs.now }
+{
+    arcs.len() <= FEW && lead_apart(arcs)
+}
+
+// Whether no two of the arcs lead to one vertex. It takes the time of their pairs.
+#[inline(always)]
+fn lead_apart(arcs: &[Link]) -> bool
+    ensures { result ≡ lead_apart arcs.now }
+{
+    for i in 0..arcs.len() {
+        if lead_to(&arcs[i + 1..], arcs[i].tip) {
+            return false;
+        }
+    }
+    true
+}
+
 // Whether one of the arcs leads to vertex `v`.
+#[inline(always)]
 fn lead_to(arcs: &[Link], v: u32) -> bool
     ensures { result ≡ list_any (λ l. l.tip == v) arcs.now }
 {

@@ -9,5 +9,5 @@ use Rattle.sgb_ops.proofs.induced_graphs.parts.add_from_copies.Given as goal
 -- the events from the copies from u on are still to come
 abbrev pub invariant-loop-u : goal.invariant-loop-u
 invariant-loop-u l =
-    let part = copy_part l.flags.self_loops l.flags.multi l.graph l.copies l.flags.directed l.v in
-    AddsUpTo l.flags.directed l.fn.built l.built (events_until part (copies_end l.copies l.v) l.u) (flat_map part (copies_of l.copies l.v))
+    let part = copy_part l.fn.flags.self_loops l.fn.flags.multi l.graph l.copies l.fn.flags.directed l.v in
+    AddsUpTo l.fn.flags.directed l.fn.built l.built (events_until part (copies_end l.copies l.v) l.u) (flat_map part (copies_of l.copies l.v))
