@@ -132,8 +132,9 @@ copy_part self multi g entries directed v u = merged_unless multi directed (want
 abbrev pub vertex_part : Bool → Bool → GraphData → List Entry → Bool → ℕ → List Event
 vertex_part self multi g entries directed v = merged_unless multi directed (wanted self (events_of_copies g entries directed v))
 
-module _ (g : GraphData) (entries : List Entry) (directed : Bool) (numbered : list_any is_unnumbered entries ≡ false) (apart : merged_count entries ≡ 0) where
-  own_copy : (v u : ℕ) → Contains (copies_of entries v) u → Own entries v u
+-- where no vertices are merged each copy stands for one alone
+module _ (entries : List Entry) (numbered : list_any is_unnumbered entries ≡ false) (apart : merged_count entries ≡ 0) where
+  pub own_copy : (v u : ℕ) → Contains (copies_of entries v) u → Own entries v u
   own_copy v u copy = elim (copy_between entries v u numbered copy) [
     | inl own ↦ let next : suc v ≡ v + 1 = omega arith in (own.0, omega (arith, own.1, ap (first_copy entries) next))
     | inr merged ↦ absurd (omega (arith, number_below entries v (entry.Merged (u + 1)) merged, apart))
@@ -142,6 +143,7 @@ module _ (g : GraphData) (entries : List Entry) (directed : Bool) (numbered : li
   pub all_own : (v : ℕ) → All (Own entries v) (copies_of entries v)
   all_own v = λ k d h. own_copy v (get_or (copies_of entries v) k d) (All-contains_itself (copies_of entries v) k d h)
 
+module _ (g : GraphData) (entries : List Entry) (directed : Bool) (numbered : list_any is_unnumbered entries ≡ false) (apart : merged_count entries ≡ 0) where
   -- copy u of v is joined to no copy before it by an edge
   met_up : (b : Bool) (v u tip t : ℕ) → b ≡ false → v ≤ tip → Own entries v u → Own entries tip t → is_met b v u tip t ≡ true → u ≤ t
   met_up b v u tip t edge up own there met = grind (arith, cases_eq, eq-eqb, nat_tests, firsts_up)
@@ -150,7 +152,7 @@ module _ (g : GraphData) (entries : List Entry) (directed : Bool) (numbered : li
   of_arc v u a own up =
       All-map (Rises directed u (u + 1)) (event_between u a.len) (copies_met entries directed v u a.tip)
       (λ k d h.
-      let there = All-filter (is_met directed v u a.tip) (Own entries a.tip) (copies_of entries a.tip) (all_own a.tip) k d h in
+      let there = All-filter (is_met directed v u a.tip) (Own entries a.tip) (copies_of entries a.tip) (all_own entries numbered apart a.tip) k d h in
       let met = filter_passes (is_met directed v u a.tip) (copies_of entries a.tip) k d h in
       (omega arith, omega arith, λ edge. met_up directed v u a.tip _ edge (up edge) own there met))
 
@@ -162,7 +164,7 @@ module _ (g : GraphData) (entries : List Entry) (directed : Bool) (numbered : li
       All-flat_map (Rises directed (first_copy entries v) (first_copy entries (v + 1))) (events_of_copy g entries directed v) (copies_of entries v)
       (λ k d h.
       let u = get_or (copies_of entries v) k d in
-      let own = all_own v k d h in
+      let own = all_own entries numbered apart v k d h in
       All-weaker (Rises directed u (u + 1)) (Rises directed (first_copy entries v) (first_copy entries (v + 1)))
       (λ e r. rises_wider directed (first_copy entries v) (first_copy entries (v + 1)) u (u + 1) e own.0 (omega (arith, own.1)) r)
       (events_of_copy g entries directed v u) (of_copy v u own))
@@ -174,7 +176,7 @@ module _ (g : GraphData) (entries : List Entry) (directed : Bool) (numbered : li
       let count = option_map_or count_by (slice_get entries v) 0 in
       rw (copies-range entries v)
       (merged_rising self multi directed (events_of_copy g entries directed v) (λ u. u) start count
-      (λ u low high. of_copy v u (own_copy v u (rw (copies-range entries v) (Contains-range start count u low high))))
+      (λ u low high. of_copy v u (own_copy entries numbered apart v u (rw (copies-range entries v) (Contains-range start count u low high))))
       (λ u w less. omega (arith, less)))
 
   -- those between all copies that are left
@@ -195,8 +197,8 @@ module _ (g : GraphData) (entries : List Entry) (directed : Bool) (numbered : li
       (λ i x h. All-flat_map (Leaves v) (events_of_copy g entries directed _) (copies_of entries _)
       (λ j y m. All-flat_map (Leaves v) (events_of_arc entries directed _ _) (taken directed g _)
       (λ n z o. All-map (Leaves v) (event_between _ _) (copies_met entries directed _ _ _)
-      (λ k d q from to. no_loop v _ _ none (All-contains_itself (taken directed g _) n z o) (own_same entries v _ _ from (all_own _ j y m))
-      (own_same entries v _ _ to (All-filter (is_met directed _ _ _) (Own entries _) (copies_of entries _) (all_own _) k d q))))))
+      (λ k d q from to. no_loop v _ _ none (All-contains_itself (taken directed g _) n z o) (own_same entries v _ _ from (all_own entries numbered apart _ j y m))
+      (own_same entries v _ _ to (All-filter (is_met directed _ _ _) (Own entries _) (copies_of entries _) (all_own entries numbered apart _) k d q))))))
 
   -- an event inside the copies of v has not the ends of one that leaves them
   inside_apart : (v : ℕ) (e f : Event) → Inside (first_copy entries v) (first_copy entries (v + 1)) e → Leaves v f → has_ends_of directed e f ≡ false

@@ -1,9 +1,10 @@
 -- What is told of arcs by their tips and lengths alone: the events from copies, and whether one is a loop.
-use Rattle.sgb_vec.proofs.Common.{◌≡◌, ◌∙◌, ◌==◌, ◌++◌, ◌||◌, ℕ, Bool, List, [], ◌∷◌, map, filter, flat_map, length, refl, sym, ap, subst, list_any, All, All-filter}
+use Rattle.sgb_vec.proofs.Common.{◌≡◌, ◌∙◌, ◌<◌, ◌==◌, ◌++◌, ◌||◌, ℕ, Bool, List, [], ◌∷◌, map, filter, flat_map, length, refl, sym, ap, subst, list_any, All, All-filter, All-map}
 use Rattle.sgb_graph.specs.declared.fields.Link.{Link}
 use Rattle.sgb_ops.specs.declared.induced_graphs.entries.Entry.{Entry}
 use Rattle.sgb_ops.specs.inner.Copies.{leads_to_copies}
 use Rattle.sgb_ops.specs.inner.Induced.{events_of_arc}
+use Rattle.sgb_ops.specs.inner.Ends.{event_of}
 use Rattle.sgb_ops.specs.inner.Sources.{bare}
 use Rattle.sgb_ops.proofs.EventsWithin.{TipBelow}
 use Rattle.sgb_ops.proofs.WantedEvents.{arcs_to_copies}
@@ -26,6 +27,10 @@ module _ (copies : List Entry) (directed : Bool) (v u : ℕ) where
   same_events kept read links is same =
       ap (flat_map (events_of_arc copies directed v u)) is
       ∙ (arcs_to_copies copies directed v u read ∙ (sym (events_bare read) ∙ (ap (flat_map (events_of_arc copies directed v u)) same ∙ events_bare links)))
+
+-- the ends of their events are below what their tips are
+pub ends_below : (n v : ℕ) (links : List Link) → All (TipBelow n) links → All (λ e. e.to < n) (map (event_of v) links)
+ends_below n v links all = All-map (λ e. e.to < n) (event_of v) links all
 
 -- and their tips have copies where those of all have
 pub kept_tips : (copies : List Entry) (n : ℕ) (kept read : List Link) → kept ≡ filter (leads_to_copies copies) read → length copies ≡ n → All (TipBelow n) read → All (TipBelow (length copies)) kept

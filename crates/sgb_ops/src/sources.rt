@@ -189,6 +189,25 @@ impl<'a> Source<'a> {
         }
     }
 
+    /// Makes `events` those of the arcs taken of vertex `v`, all of which lead to vertices. `room` is what they are found with.
+    ///
+    /// `NoRoom` when out of memory, and nothing else.
+    pub(crate) fn put_taken(
+        &self,
+        events: &mut Vec<Event>,
+        directed: bool,
+        v: u32,
+        room: &mut ListRoom,
+    ) -> Result<(), Panic>
+        requires vertex { v < length self.now.vertices }
+        ensures ok { OnOk result (events.new.items ≡ map (event_of v) (taken directed self.now v)) }
+        ensures tips { HasTips self.now }
+        ensures memory { IsOkUnless result Panic.NoRoom }
+    {
+        events.clear();
+        self.push_taken(events, directed, v, self.n(), room)
+    }
+
     /// Makes `arcs` those that are taken of vertex `v`, as far as their tips and lengths go. `events` and `room` are what they
     /// are found with: what the events are is open.
     ///

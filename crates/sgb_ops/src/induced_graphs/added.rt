@@ -1,8 +1,8 @@
 //! The events from a copy of a vertex, added to the graph one after another (GB_BASIC, induced).
-ghost use Rattle.std.specs.Prelude.{◌≡◌, ◌<◌, [], ◌∷◌, false, length, map, filter, flat_map, All, OnOk, IsOkUnless};
-ghost use Rattle.std.specs.List.{list_any};
+ghost use Rattle.std.specs.Prelude.{◌≡◌, ◌<◌, ◌≤◌, ◌-◌, [], ◌∷◌, false, length, map, filter, flat_map, All, Contains, OnOk, IsOkUnless};
+ghost use Rattle.std.specs.List.{list_any, range_with_len};
 ghost use Rattle.sgb_graph.specs.Growth.{AddsEvents, HasPlainArcs};
-ghost use Rattle.sgb_ops.specs.Entries.{is_unnumbered};
+ghost use Rattle.sgb_ops.specs.Entries.{copies_of, is_unnumbered, merged_count};
 ghost use Rattle.sgb_ops.specs.inner.Entries.{total_of};
 ghost use Rattle.sgb_ops.specs.inner.Induced.{event_between, events_of_arc, is_met, wanted};
 
@@ -25,6 +25,8 @@ pub(super) fn add_from_copy(
     requires copy { u < length built.old.vertices }
     requires tips { All (λ l. l.tip < length copies.now) arcs.now }
     requires numbered { list_any is_unnumbered copies.now ≡ false }
+    requires own { merged_count copies.now ≡ 0 }
+    requires of { Contains (copies_of copies.now v) u }
     requires size { length built.old.vertices ≡ total_of copies.now }
     requires plain { HasPlainArcs built.old }
     ensures ok { OnOk result (AddsEvents flags.directed built.old built.new
@@ -51,14 +53,44 @@ fn add_to_copies(
     requires copy { u < length built.old.vertices }
     requires tip { arc.tip < length copies.now }
     requires numbered { list_any is_unnumbered copies.now ≡ false }
+    requires own { merged_count copies.now ≡ 0 }
+    requires of { Contains (copies_of copies.now v) u }
     requires size { length built.old.vertices ≡ total_of copies.now }
     requires plain { HasPlainArcs built.old }
     ensures ok { OnOk result (AddsEvents flags.directed built.old built.new
         (wanted flags.self_loops (events_of_arc copies.now flags.directed v u arc))) }
     ensures memory { IsOkUnless result Panic.NoRoom }
 {
-    for t in copies.start(arc.tip)..copies.end(arc.tip) {
+    let start = copies.start(arc.tip);
+    let end = copies.end(arc.tip);
+    if arc.tip != v {
+        return add_to_all(built, start, end, arc.len, flags.directed, u);
+    }
+    for t in start..end {
         add_met(built, arc, flags, v, u, t)?;
+    }
+    Ok(())
+}
+
+// Adds the events of this length from `u` to the vertices from `start` to `end`.
+#[inline(always)]
+fn add_to_all(
+    built: &mut Graph,
+    start: u32,
+    end: u32,
+    len: i64,
+    directed: bool,
+    u: u32,
+) -> Result<(), Panic>
+    requires copy { u < length built.old.vertices }
+    requires within { end ≤ length built.old.vertices }
+    requires plain { HasPlainArcs built.old }
+    ensures ok { OnOk result (AddsEvents directed built.old built.new
+        (map (event_between u len) (range_with_len start (end - start)))) }
+    ensures memory { IsOkUnless result Panic.NoRoom }
+{
+    for t in start..end {
+        built.add_event(directed, u, t, len)?;
     }
     Ok(())
 }

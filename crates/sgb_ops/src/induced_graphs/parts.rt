@@ -2,13 +2,13 @@
 //!
 //! So no list of all events is made. It is possible where no vertices are merged and no vertex with a graph in its
 //! place has a loop; else all are merged at once (`induced_graphs`).
-ghost use Rattle.std.specs.Prelude.{◌≡◌, ◌<◌, ◌≤◌, ◌+◌, ◌||◌, false, length, map, flat_map, All, OnOk, IfOk, IsOkUnless};
+ghost use Rattle.std.specs.Prelude.{◌≡◌, ◌<◌, ◌≤◌, ◌+◌, ◌||◌, false, length, map, flat_map, All, Contains, OnOk, IfOk, IsOkUnless};
 ghost use Rattle.std.specs.Bool.{OnTrue};
 ghost use Rattle.std.specs.List.{list_any};
 ghost use Rattle.sgb_vec.specs.Limits.{most_vertices};
 ghost use Rattle.sgb_graph.specs.Growth.{AddsEvents, HasPlainArcs};
 ghost use Rattle.sgb_ops.specs.declared.induced_graphs.entries.Entry.TheVariants as entry;
-ghost use Rattle.sgb_ops.specs.Entries.{events_within, inner_events, is_unnumbered, merged_count, size_of_entry};
+ghost use Rattle.sgb_ops.specs.Entries.{copies_of, events_within, inner_events, is_unnumbered, merged_count, size_of_entry};
 ghost use Rattle.sgb_ops.specs.Induced.{events_between};
 ghost use Rattle.sgb_ops.specs.Merged.{merged_unless};
 ghost use Rattle.sgb_ops.specs.inner.Copies.{IsKeptEntry, sized};
@@ -341,6 +341,8 @@ fn add_copy(
     requires copy { u < length built.old.vertices }
     requires tips { All (λ l. l.tip < length copies.now) arcs.now }
     requires numbered { list_any is_unnumbered copies.now ≡ false }
+    requires own { merged_count copies.now ≡ 0 }
+    requires of { Contains (copies_of copies.now v) u }
     requires size { length built.old.vertices ≡ total_of copies.now }
     requires plain { HasPlainArcs built.old }
     ensures ok { OnOk result (AddsEvents flags.directed built.old built.new

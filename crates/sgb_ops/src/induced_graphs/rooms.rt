@@ -1,8 +1,9 @@
 //! What the arcs of a vertex are read with (GB_BASIC, induced).
-ghost use Rattle.std.specs.Prelude.{◌≡◌, ◌<◌, ◌++◌, ◌==◌, [], ◌∷◌, ℕ, length, filter, flat_map, All, OnOk, IfOk, IsOkUnless, if◌then◌else◌};
+ghost use Rattle.std.specs.Prelude.{◌≡◌, ◌<◌, ◌++◌, ◌==◌, [], ◌∷◌, ℕ, length, map, filter, flat_map, All, OnOk, IfOk, IsOkUnless, if◌then◌else◌};
 ghost use Rattle.std.specs.List.{list_any};
 ghost use Rattle.sgb_ops.specs.Taken.{taken};
 ghost use Rattle.sgb_ops.specs.inner.Copies.{leads_to_copies};
+ghost use Rattle.sgb_ops.specs.inner.Sources.{link_of};
 ghost use Rattle.sgb_ops.specs.inner.Induced.{are_few_apart, events_of_arc, events_of_copy, lead_apart};
 
 use super::entries::Copies;
@@ -77,15 +78,9 @@ impl Rooms {
         ensures tips { OnOk result (All (λ l. l.tip < length copies.now) self.new.arcs.items) }
         ensures memory { IsOkUnless result Panic.NoRoom }
     {
-        graph.take_arcs(
-            &mut self.all,
-            directed,
-            v,
-            &mut self.events,
-            &mut self.lists,
-        )?;
+        graph.put_taken(&mut self.events, directed, v, &mut self.lists)?;
         self.arcs.clear();
-        push_arcs_to_copies(&mut self.arcs, copies, &self.all)
+        push_arcs_to_copies(&mut self.arcs, copies, &self.events)
     }
 }
 
@@ -125,15 +120,19 @@ fn lead_to(arcs: &[Link], v: u32) -> bool
     false
 }
 
-// Appends those of the arcs that lead to vertices with copies.
-fn push_arcs_to_copies(arcs: &mut Vec<Link>, copies: &Copies, all: &[Link]) -> Result<(), Panic>
-    requires { All (λ l. l.tip < length copies.now) all.now }
+// Appends the arcs of those of the events that lead to vertices with copies, as far as tips and lengths go.
+fn push_arcs_to_copies(
+    arcs: &mut Vec<Link>,
+    copies: &Copies,
+    events: &[Event],
+) -> Result<(), Panic>
+    requires { All (λ e. e.to < length copies.now) events.now }
     ensures ok { OnOk result (arcs.new.items
-        ≡ arcs.old.items ++ filter (leads_to_copies copies.now) all.now) }
+        ≡ arcs.old.items ++ filter (leads_to_copies copies.now) (map link_of events.now)) }
     ensures memory { IsOkUnless result Panic.NoRoom }
 {
-    for arc in all {
-        push_arc_to_copies(arcs, copies, *arc)?;
+    for event in events {
+        push_arc_to_copies(arcs, copies, event.link())?;
     }
     Ok(())
 }

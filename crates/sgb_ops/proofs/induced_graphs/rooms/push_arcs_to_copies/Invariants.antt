@@ -1,7 +1,10 @@
-use Rattle.std.proofs.Common.{◌≡◌, ◌++◌, drop, filter}
+use Rattle.std.proofs.Common.{◌≡◌, ◌++◌, drop, filter, map}
 use Rattle.sgb_ops.specs.inner.Copies.{leads_to_copies}
+use Rattle.sgb_ops.specs.inner.Sources.{link_of}
 use Rattle.sgb_ops.proofs.induced_graphs.rooms.push_arcs_to_copies.Given as goal
 
--- with those of the arcs that are left, they are all
-abbrev pub invariant-loop-arc : goal.invariant-loop-arc
-invariant-loop-arc l = l.arcs.items ++ filter (leads_to_copies l.copies) (drop l.arc-index l.all) ≡ l.fn.arcs.items ++ filter (leads_to_copies l.copies) l.all
+-- with those of the events that are left, they are all
+abbrev pub invariant-loop-event : goal.invariant-loop-event
+invariant-loop-event l =
+    l.arcs.items ++ filter (leads_to_copies l.copies) (map link_of (drop l.event-index l.events))
+    ≡ l.fn.arcs.items ++ filter (leads_to_copies l.copies) (map link_of l.events)
