@@ -97,14 +97,7 @@ fn add_to_all(
 
 // Adds the one to copy `t` of the tip, where `u` is joined to it.
 #[inline(always)]
-fn add_met(
-    built: &mut Graph,
-    arc: Link,
-    flags: Flags,
-    v: u32,
-    u: u32,
-    t: u32,
-) -> Result<(), Panic>
+fn add_met(built: &mut Graph, arc: Link, flags: Flags, v: u32, u: u32, t: u32) -> Result<(), Panic>
     requires copy { u < length built.old.vertices }
     requires other { t < length built.old.vertices }
     requires plain { HasPlainArcs built.old }

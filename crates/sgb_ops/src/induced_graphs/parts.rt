@@ -309,7 +309,16 @@ fn add_from_copies(
     let arcs = rooms.arcs.as_slice();
     let part_flags = flags_for(arcs, flags);
     for u in copies.start(v)..copies.end(v) {
-        add_copy(built, alloc, &mut rooms.events, copies, arcs, part_flags, v, u)?;
+        add_copy(
+            built,
+            alloc,
+            &mut rooms.events,
+            copies,
+            arcs,
+            part_flags,
+            v,
+            u,
+        )?;
     }
     Ok(())
 }

@@ -121,11 +121,7 @@ fn lead_to(arcs: &[Link], v: u32) -> bool
 }
 
 // Appends the arcs of those of the events that lead to vertices with copies, as far as tips and lengths go.
-fn push_arcs_to_copies(
-    arcs: &mut Vec<Link>,
-    copies: &Copies,
-    events: &[Event],
-) -> Result<(), Panic>
+fn push_arcs_to_copies(arcs: &mut Vec<Link>, copies: &Copies, events: &[Event]) -> Result<(), Panic>
     requires { All (λ e. e.to < length copies.now) events.now }
     ensures ok { OnOk result (arcs.new.items
         ≡ arcs.old.items ++ filter (leads_to_copies copies.now) (map link_of events.now)) }
