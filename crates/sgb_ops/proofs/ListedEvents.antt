@@ -1,5 +1,7 @@
 -- The events of a list by its tips and lengths.
-use Rattle.sgb_vec.proofs.Common.{◌≡◌, ◌≢◌, ◌∙◌, ◌+◌, ◌-◌, ◌*◌, ◌<◌, ℕ, suc, ℤ, pos, Bool, true, false, Some, None, List, [], ◌∷◌, ◌++◌, append_assoc, length, map, reverse, refl, sym, ap, ap₂, subst, Result, Ok, Err, arith, All, OnOk, filter, nat_lt, if◌then◌else◌, range_with_len, cases_lt, lt-ltb, le-ltb, ne_eqb, nat_tests, length-append, length-map, length-reverse, reverse-append, map-range_with_len_more, All-tail}
+use Rattle.sgb_vec.proofs.Common.{◌≡◌, ◌≢◌, ◌∙◌, ◌+◌, ◌-◌, ◌*◌, ◌<◌, ◌≤◌, ℕ, suc, ℤ, pos, Bool, true, false, Some, None, List, [], ◌∷◌, ◌++◌, append_assoc, length, map, reverse, refl, sym, ap, ap₂, subst, Result, Ok, Err, arith, All, OnOk, filter, nat_lt, if◌then◌else◌, range_with_len, cases_lt, lt-ltb, le-ltb, ne_eqb, nat_tests, get_or, length-append, length-map, length-reverse, reverse-append, map-range_with_len_more, All-head, All-tail, All-map}
+use Rattle.std.proofs.Math.Nat.{mul-pos}
+use Rattle.sgb_vec.proofs.Lists.{range-within}
 use Rattle.sgb_graph.specs.Events.{Event}
 use Rattle.sgb_graph.specs.Graphs.{GraphData, chain_of}
 use Rattle.sgb_graph.specs.Growth.{IsKept}
@@ -11,6 +13,26 @@ use Rattle.sgb_ops.specs.inner.Sources.{HasTips, event_to, events_to}
 use Rattle.sgb_ops.specs.inner.TakenArcs.{taken_of, without_other}
 use Rattle.sgb_ops.proofs.EventsWithin.{TipBelow, chain_tips}
 use Rattle.sgb_ops.proofs.Taking.{all_once, one_taken}
+
+-- of edges none is put to earlier vertices
+none_to_earlier : (v n : ℕ) (tips : List ℕ) (lengths : List ℤ) → All (λ t. t < v) tips → events_to false v n tips lengths ≡ []
+none_to_earlier v n [] lengths all = refl
+none_to_earlier v n (t ∷ tips) [] all = refl
+none_to_earlier v n (t ∷ tips) (l ∷ lengths) all = grind (arith, nat_tests, All-head (λ x. x < v) t tips all, none_to_earlier v n tips lengths (All-tail (λ x. x < v) t tips all))
+
+back_is_earlier : (v places farthest : ℕ) → 0 < places → ((l : ℕ) → 0 < l → l ≤ farthest → l * places ≤ v) → All (λ t. t < v) (tips_back v places farthest)
+back_is_earlier v places farthest some within =
+    All-map (λ t. t < v) (λ l. v - l * places) (range_with_len 1 farthest)
+    (λ k d h.
+    let l = get_or (range_with_len 1 farthest) k d in
+    let there = range-within 1 farthest k d h in
+    let first : 0 < l = omega (arith, there.0) in
+    omega (arith, within l first (omega (arith, there.1)), mul-pos first some))
+
+pub none_back : (directed : Bool) (v n places farthest : ℕ) → directed ≡ false → 0 < places → ((l : ℕ) → 0 < l → l ≤ farthest → l * places ≤ v)
+    → events_to directed v n (tips_back v places farthest) (lengths_to farthest) ≡ []
+none_back directed v n places farthest edges some within =
+    ap (λ b. events_to b v n (tips_back v places farthest) (lengths_to farthest)) edges ∙ none_to_earlier v n (tips_back v places farthest) (lengths_to farthest) (back_is_earlier v places farthest some within)
 
 -- a graph that is built has its tips among its vertices
 pub kept_tips : (g : GraphData) → IsKept g → HasTips g

@@ -109,6 +109,10 @@ fn push_back(
         (tips_back v places farthest) (lengths_to farthest)) }
     ensures memory { IsOkUnless result Panic.NoRoom }
 {
+    // They lead to earlier vertices.
+    if !directed && places > 0 {
+        return Ok(());
+    }
     for shorter in 0..farthest {
         let l = shorter + 1;
         push_event(events, v, v - l * places, l, directed, n)?;

@@ -1,6 +1,11 @@
-use Rattle.std.proofs.Common.{◌+◌, arith, refl}
-use Rattle.sgb_ops.proofs.ListedEvents.{back_put}
+use Rattle.std.proofs.Common.{◌+◌, ◌∙◌, ◌++◌, append-nil, sym, ap, arith, refl}
+use Rattle.sgb_ops.proofs.ListedEvents.{back_put, none_back}
 use Rattle.sgb_ops.proofs.sources.flat.push_back.Goals as goal
+
+pub returns-then-places-gt0-clause-ok : goal.returns-then-places-gt0-clause-ok
+returns-then-places-gt0-clause-ok c =
+    let put = c.args.events.now.items in
+    sym (ap (λ es. put ++ es) (none_back c.args.directed c.args.v c.args.n c.args.places c.args.farthest c.if-not-directed.true c.if-places-gt0.true c.requires) ∙ append-nil put)
 
 pub loop-shorter-preserved : goal.loop-shorter-preserved
 loop-shorter-preserved c =
