@@ -64,7 +64,7 @@ abbrev mutual
 
   pub entry_of : EntryExpr → Entry
   entry_of (entry.Number n) = Number n
-  entry_of (entry.Graph e) = Graph (expression_of e)
+  entry_of (entry.Graph' p e) = Graph (expression_of e)
 
   -- those of a `Vec`
   pub row_entries : {n : _} → Row_of-EntryExpr n → Entries

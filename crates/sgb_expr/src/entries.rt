@@ -13,8 +13,8 @@ use crate::expressions::Expr;
 pub enum EntryExpr {
     /// An integer.
     Number(i64),
-    /// An expression.
-    Graph(Expr),
+    /// An expression. In a box it takes no more than an integer does: an induced graph may have 32,000 entries.
+    Graph(Box<Expr>),
 }
 
 /// The entries of an induced graph, in order (GB_BASIC, induced).

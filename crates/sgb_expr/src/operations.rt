@@ -193,7 +193,7 @@ fn entry(alloc: Global, text: &[u8]) -> Result<(EntryExpr, &[u8]), Wrong>
         Err(Mismatch { left }) => left,
     };
     match expression(alloc, text) {
-        Ok((graph, rest)) => Ok((EntryExpr::Graph(graph), rest)),
+        Ok((graph, rest)) => Ok((EntryExpr::Graph(boxed(alloc, graph)?), rest)),
         Err(Wrong::Left(other)) => Err(Wrong::Left(left.min(other))),
         Err(Wrong::NoRoom) => Err(Wrong::NoRoom),
     }
