@@ -224,3 +224,9 @@ pub mod KeptCounts
 pub mod PlainBoards
 -- vectors in order, one found from that before or after it
 pub mod SteppedVectors
+-- so many steps of 32 bits together, in 64 bits
+mod SignedSteps
+-- what is left of a number by the size of a side
+mod SideRests
+-- the coordinates of a place, below the sizes of the sides
+pub mod SideEntries

@@ -53,6 +53,13 @@ place-end total most = let h = total + 1 in omega (arith, ap (λ n. n * (most + 
 
 -- ---- cells that are turned
 
+-- after the last cell of two sums comes the first of the next two, and after the last of one sum the first of the next
+pub place-next : (total most f s : ℕ) → place_of_pairs total most f (s + 1) 0 ≡ place_of_pairs total most f s (most + 1)
+place-next total most f s = omega arith
+
+pub place-next_row : (total most f : ℕ) → place_of_pairs total most (f + 1) 0 0 ≡ place_of_pairs total most f (total + 1) 0
+place-next_row total most f = omega arith
+
 pub turned-before_end : (total most n : ℕ) (low high : ℕ → ℕ → ℕ → ℕ) (table : List ℕ) → n ≡ cell_count total most → IsTurned total most n low high table → HasCounts total most low table
 turned-before_end total most n low high table all so f s c within few =
     so.before f s c within few (omega (arith, all, place-within total most f s c (omega (arith, within)) (omega (arith, within)) few))
