@@ -64,6 +64,12 @@ pub turned-before_end : (total most n : ℕ) (low high : ℕ → ℕ → ℕ →
 turned-before_end total most n low high table all so f s c within few =
     so.before f s c within few (omega (arith, all, place-within total most f s c (omega (arith, within)) (omega (arith, within)) few))
 
+pub turned-none : (total most n : ℕ) (low high : ℕ → ℕ → ℕ → ℕ) (table : List ℕ) → n ≡ 0 → HasCounts total most high table → IsTurned total most n low high table
+turned-none total most n low high table none has = record {
+  before = λ f s c within few h. absurd (omega (arith, none, h));
+  from = λ f s c within few h. has f s c within few;
+}
+
 pub turned-from_start : (total most n : ℕ) (low high : ℕ → ℕ → ℕ → ℕ) (table : List ℕ) → n ≡ 0 → IsTurned total most n low high table → HasCounts total most high table
 turned-from_start total most n low high table none so f s c within few = so.from f s c within few (omega (arith, none))
 

@@ -3,6 +3,7 @@ use Rattle.std.proofs.lemmas.Int.{to_z-of_z}
 use Rattle.std.specs.Option.{is_some}
 use Rattle.sgb_gen.specs.Moves.{coordinate_on}
 use Rattle.sgb_gen.proofs.PartReaches.{part_of, reach-more}
+use Rattle.sgb_gen.proofs.SideEntries.{entry_less, entry_there}
 use Rattle.sgb_gen.proofs.moves.reach.Goals as goal
 
 pub loop-k-preserved : goal.loop-k-preserved
@@ -15,3 +16,12 @@ loop-k-preserved c =
     reach-more sizes wrap x c.args.most c.args.parts.now c.loop-k.k-index c.loop-k.reach c.steps_on-reach.result (omega arith) c.loop-k.invariant c.steps_on-reach.ensures.within
     (λ m h. sym (read m) ∙ c.steps_on-reach.ensures.stay m h)
     (λ h. sym (read (c.steps_on-reach.result + 1)) ∙ c.steps_on-reach.ensures.end h)
+
+pub bounds-sizes-k : goal.bounds-sizes-k
+bounds-sizes-k c = c.requires.parts c.loop-k.k-index (0, pos 0) c.loop-k-test.true
+
+pub bounds-x-k : goal.bounds-x-k
+bounds-x-k c = entry_there c.args.sizes.now c.args.x.now _ c.requires.below (c.requires.parts c.loop-k.k-index (0, pos 0) c.loop-k-test.true)
+
+pub steps_on-reach-requires : goal.steps_on-reach-requires
+steps_on-reach-requires c = entry_less c.args.sizes.now c.args.x.now _ c.requires.below (c.requires.parts c.loop-k.k-index (0, pos 0) c.loop-k-test.true)

@@ -1,11 +1,18 @@
-use Rattle.std.proofs.Common.{rules, ◌≡◌, ◌<◌, ◌+◌, ◌-◌, ◌++◌, ◌∙◌, ℕ, map, slice_index_or, take, sym, ap, subst, arith}
+use Rattle.std.proofs.Common.{rules, Bool, true, false, ℤ, List, All, Some, slice_get, ◌≡◌, ◌<◌, ◌+◌, ◌-◌, ◌++◌, ◌∙◌, ℕ, map, slice_index_or, take, sym, ap, subst, arith}
+use Rattle.std.specs.Bool.{OnTrue}
 use Rattle.sgb_gen.specs.LocalLists.{LocalArc}
 use Rattle.sgb_gen.specs.Strides.{lengths_of_stride, tips_of_stride}
+use Rattle.sgb_gen.specs.inner.MovedCoordinates.{StayAtOne}
 use Rattle.sgb_gen.specs.inner.StraightLists.{IsRun, arcs_by_all}
 use Rattle.sgb_gen.specs.inner.Strides.{LeadsByStride}
 use Rattle.sgb_gen.proofs.RunsOfLists.{at_has, width_in_table}
 use Rattle.sgb_gen.proofs.StrideTips.{IsNextStride, next_stride, stride_at, vertex_to}
 use Rattle.sgb_gen.proofs.accepted.boards.strides.Strides.next_stride.Goals as goal
+
+-- what holds of all displacements, where a flag tells it, holds of one
+near_at : (near : Bool) (P : List ℤ → Type 0) (ts : List (List ℤ)) (k : ℕ) (t : List ℤ) → OnTrue near (All P ts) → slice_get ts k ≡ Some t → OnTrue near (P t)
+near_at true P ts k t all at = at_has P ts k t all at
+near_at false P ts k t all at = tt
 
 pub run_by-run-requires-clause-dimensions : goal.run_by-run-requires-clause-dimensions
 run_by-run-requires-clause-dimensions c = search (rules, width_in_table)
@@ -91,3 +98,10 @@ returns-clause-back c l some within =
     (stride_at b.sizes strides table k t c.self.invariant.6 c.at.ensures).1 (width_in_table b table k t c.self.invariant.1 c.at.ensures)
     e.farthest e.farthest_back e.stay e.stay_back e.within e.within_back in
     omega (arith, next.back l some within, ap (λ d. d.vertex) c.self.view_is)
+
+pub run_by-run-requires-clause-below : goal.run_by-run-requires-clause-below
+run_by-run-requires-clause-below c = c.self.invariant.3
+
+pub run_by-run-requires-clause-near : goal.run_by-run-requires-clause-near
+run_by-run-requires-clause-near c =
+    near_at c.self.inside.near (StayAtOne c.self.inside.board.now.sizes c.self.inside.board.now.wrap c.self.inside.x.now) c.self.inside.table.now (c.self.inside.left - 1) c.at.result.now c.self.invariant.4 c.at.ensures
