@@ -64,6 +64,12 @@ pub turned-before_end : (total most n : ℕ) (low high : ℕ → ℕ → ℕ →
 turned-before_end total most n low high table all so f s c within few =
     so.before f s c within few (omega (arith, all, place-within total most f s c (omega (arith, within)) (omega (arith, within)) few))
 
+pub turned-all : (total most n : ℕ) (low high : ℕ → ℕ → ℕ → ℕ) (table : List ℕ) → n ≡ cell_count total most → HasCounts total most low table → IsTurned total most n low high table
+turned-all total most n low high table all has = record {
+  before = λ f s c within few h. has f s c within few;
+  from = λ f s c within few h. absurd (omega (arith, all, h, place-within total most f s c (omega (arith, within)) (omega (arith, within)) few));
+}
+
 pub turned-none : (total most n : ℕ) (low high : ℕ → ℕ → ℕ → ℕ) (table : List ℕ) → n ≡ 0 → HasCounts total most high table → IsTurned total most n low high table
 turned-none total most n low high table none has = record {
   before = λ f s c within few h. absurd (omega (arith, none, h));

@@ -1,7 +1,8 @@
-use Rattle.std.proofs.Common.{◌≡◌, ℕ, ℤ, ◌/◌, min, pos, nat_abs, get_or, rules}
+use Rattle.std.proofs.Common.{◌≡◌, ◌<◌, ℕ, ℤ, ◌/◌, min, pos, nat_abs, get_or, length, ap, arith, rules}
 use Rattle.sgb_vec.proofs.BoxPlaces.{Contains-from_IsBelow}
 use Rattle.sgb_gen.specs.MovedCoordinates.{parts_of}
 use Rattle.sgb_gen.proofs.FallingPlaces.{around_arcs}
+use Rattle.sgb_gen.proofs.SideEntries.{entry_there}
 use Rattle.sgb_gen.proofs.accepted.boards.Board.lengths_before.Goals as goal
 
 pub returns-clause-order : goal.returns-clause-order
@@ -16,3 +17,14 @@ returns-clause-order c =
     let turn : near ≡ min behind (get_or x (get_or (parts_of t) 0 (0, pos 0)).0 0 / nat_abs (get_or (parts_of t) 0 (0, pos 0)).1) =
     rw (← c.parts.ensures.parts, ← step) c.times_within.ensures in
     around_arcs b t x (Contains-from_IsBelow b.sizes x c.requires.below) c.requires.dimensions behind near c.requires.some c.requires.once c.requires.behind turn
+
+pub bounds-parts-0 : goal.bounds-parts-0
+bounds-parts-0 c = omega (arith, ap length c.parts.ensures.parts, c.requires.some)
+
+pub bounds-parts-0-2 : goal.bounds-parts-0-2
+bounds-parts-0-2 c = omega (arith, ap length c.parts.ensures.parts, c.requires.some)
+
+pub bounds-x-k : goal.bounds-x-k
+bounds-x-k c =
+    let some : 0 < length c.parts.result.now = omega (arith, ap length c.parts.ensures.parts, c.requires.some) in
+    entry_there c.args.self.now.sizes c.args.x.now _ c.requires.below (omega (arith, c.parts.ensures.within 0 (0, pos 0) some, c.requires.dimensions))

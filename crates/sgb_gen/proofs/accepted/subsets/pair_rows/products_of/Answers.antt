@@ -1,10 +1,29 @@
-use Rattle.std.proofs.Common.{◌≡◌, ◌+◌, ◌-◌, ◌*◌, ◌<◌, ◌∙◌, true, cond, ℕ, length, get_or, ap, ap₂, sym, rules, arith, mul_comm}
-use Rattle.std.proofs.lemmas.Nat.{mul-add-lt}
+use Rattle.std.proofs.Common.{◌≡◌, ◌+◌, ◌-◌, ◌*◌, ◌<◌, ◌≤◌, ◌∙◌, true, cond, ℕ, length, get_or, ap, ap₂, sym, rules, arith, mul_comm}
+use Rattle.std.proofs.lemmas.Nat.{mul-add-lt, mul-le}
 use Rattle.sgb_gen.specs.Subsets.{is_wanted_size}
 use Rattle.sgb_gen.specs.inner.SubsetsPairs.{added}
-use Rattle.sgb_gen.specs.inner.SubsetsSurpluses.{pairs_above, pairs_of_size}
+use Rattle.sgb_gen.specs.inner.SubsetsSurpluses.{pairs_above, pairs_of_size, row_cells}
 use Rattle.sgb_gen.proofs.SubsetsRows.{added-one, pairs-read}
 use Rattle.sgb_gen.proofs.accepted.subsets.pair_rows.products_of.Goals as goal
+
+-- a cell of these elements in common is one of the row's
+row_inside : (total most common own : ℕ) → common ≤ most → own ≤ common → (total - common) * (most + 1) + own < row_cells total most
+row_inside total most common own few less = let d = total - common in omega (arith, mul-le (d + 1) (most + 1) (total + 1) (most + 1) (omega arith) (omega arith))
+
+pub overflow_mul-row : goal.overflow_mul-row
+overflow_mul-row c = record { fits = omega (arith, row_inside c.args.sides.total c.args.sides.most c.args.common 0 c.requires.common (omega arith), c.requires.cells) }
+
+pub overflow_add-row-in-loop-own : goal.overflow_add-row-in-loop-own
+overflow_add-row-in-loop-own c = record { fits = omega (arith, row_inside c.args.sides.total c.args.sides.most c.args.common c.loop-own.own c.requires.common (omega (arith, c.loop-own-test.true)), c.requires.cells) }
+
+pub overflow_add-row-in-loop-own-2 : goal.overflow_add-row-in-loop-own-2
+overflow_add-row-in-loop-own-2 c = record { fits = omega (arith, row_inside c.args.sides.total c.args.sides.most c.args.common (c.args.common - c.loop-own.own) c.requires.common (omega arith), c.requires.cells) }
+
+pub bounds-first-row : goal.bounds-first-row
+bounds-first-row c = rw c.requires.first (row_inside c.args.sides.total c.args.sides.most c.args.common c.loop-own.own c.requires.common (omega (arith, c.loop-own-test.true)))
+
+pub bounds-second-row : goal.bounds-second-row
+bounds-second-row c = rw c.requires.second (row_inside c.args.sides.total c.args.sides.most c.args.common (c.args.common - c.loop-own.own) c.requires.common (omega arith))
 
 pub loop-own-preserved : goal.loop-own-preserved
 loop-own-preserved c ones others first second =

@@ -1,7 +1,15 @@
 use Rattle.std.proofs.Common.{◌≡◌, ◌+◌, ◌-◌, ◌∷◌, ◌∙◌, ap, arith, subst}
 use Rattle.sgb_gen.specs.inner.SubsetsPairs.{IsTurned, pairs_of_sums, pairs_up_to, place_of_pairs}
-use Rattle.sgb_gen.proofs.SubsetsPairTables.{turned-from_start}
+use Rattle.sgb_gen.proofs.SubsetsPairTables.{place-end, turned-all, turned-from_start}
 use Rattle.sgb_gen.proofs.accepted.subsets.pair_sums.take_in.Goals as goal
+
+pub loop-first-init : goal.loop-first-init
+loop-first-init c =
+    let s = c.args.sides in (
+      c.requires.length,
+      λ size_bits bounds most has.
+          turned-all s.total s.most (place_of_pairs s.total s.most (s.total + 1) 0 0) (pairs_up_to size_bits bounds) (pairs_of_sums size_bits (c.args.bound ∷ bounds)) c.args.table.now (place-end s.total s.most) has,
+    )
 
 pub loop-first-preserved : goal.loop-first-preserved
 loop-first-preserved c =
