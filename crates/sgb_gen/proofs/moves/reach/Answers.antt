@@ -25,3 +25,9 @@ bounds-x-k c = entry_there c.args.sizes.now c.args.x.now _ c.requires.below (c.r
 
 pub steps_on-reach-requires : goal.steps_on-reach-requires
 steps_on-reach-requires c = entry_less c.args.sizes.now c.args.x.now _ c.requires.below (c.requires.parts c.loop-k.k-index (0, pos 0) c.loop-k-test.true)
+
+pub offset_bounds-sizes-k : goal.offset_bounds-sizes-k
+offset_bounds-sizes-k c = omega (arith, c.requires.parts c.loop-k.k-index (0, pos 0) c.loop-k-test.true)
+
+pub offset_bounds-x-k : goal.offset_bounds-x-k
+offset_bounds-x-k c = omega (arith, c.requires.parts c.loop-k.k-index (0, pos 0) c.loop-k-test.true)

@@ -1,4 +1,6 @@
-use Rattle.std.proofs.Common.{◌≡◌, ℤ, pos, to_z, of_z, w64, slice_index, ◌∙◌, rules}
+use Rattle.std.proofs.Common.{◌≡◌, ℤ, pos, to_z, of_z, w64, slice_index, length, ap, ◌∙◌, arith, rules}
+use Rattle.std.proofs.lemmas.List.{length-map}
+use Rattle.std.proofs.lemmas.Option.{slice_get_within}
 use Rattle.std.proofs.lemmas.Int.{to_z-of_z}
 use Rattle.sgb_gen.proofs.Coordinates.{PutsCoordinates, coordinates-more}
 use Rattle.sgb_gen.proofs.FamilyWalks.{at_front, next_left}
@@ -21,3 +23,10 @@ loop-u-preserved g c =
       next_left vectors c.loop-u.left c.advance-some.new.self u c.loop-u.invariant.0 c.advance-some.ensures.rest,
       coordinates-more vectors u v c.args.graph.now now new here c.loop-u.invariant.1 put,
     )
+
+pub set_vertex_ints-requires : goal.set_vertex_ints-requires
+set_vertex_ints-requires g c =
+    let vectors = g.F.Family.members c.args.family.now in
+    let here = at_front vectors c.loop-u.left c.loop-u.u c.in-Some.vector.now c.loop-u.invariant.0 c.in-Some.ensures.first in
+    let same = simp length-map at (ap length c.loop-u.invariant.1.names) in
+    omega (arith, slice_get_within vectors c.loop-u.u c.in-Some.vector.now here, c.requires.vertices, same)

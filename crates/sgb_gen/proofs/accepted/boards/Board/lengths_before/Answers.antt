@@ -28,3 +28,9 @@ pub bounds-x-k : goal.bounds-x-k
 bounds-x-k c =
     let some : 0 < length c.parts.result.now = omega (arith, ap length c.parts.ensures.parts, c.requires.some) in
     entry_there c.args.self.now.sizes c.args.x.now _ c.requires.below (omega (arith, c.parts.ensures.within 0 (0, pos 0) some, c.requires.dimensions))
+
+pub offset_bounds-x-k : goal.offset_bounds-x-k
+offset_bounds-x-k c =
+    let some : 0 < length c.parts.result.now = omega (arith, ap length c.parts.ensures.parts, c.requires.some) in
+    let there = entry_there c.args.self.now.sizes c.args.x.now (get_or c.parts.result.now 0 (0, pos 0)).0 c.requires.below (omega (arith, c.parts.ensures.within 0 (0, pos 0) some, c.requires.dimensions)) in
+    omega (arith, there)

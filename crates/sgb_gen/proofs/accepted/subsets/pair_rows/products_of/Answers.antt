@@ -19,6 +19,12 @@ overflow_add-row-in-loop-own c = record { fits = omega (arith, row_inside c.args
 pub overflow_add-row-in-loop-own-2 : goal.overflow_add-row-in-loop-own-2
 overflow_add-row-in-loop-own-2 c = record { fits = omega (arith, row_inside c.args.sides.total c.args.sides.most c.args.common (c.args.common - c.loop-own.own) c.requires.common (omega arith), c.requires.cells) }
 
+pub offset_bounds-first-row : goal.offset_bounds-first-row
+offset_bounds-first-row c = record { fits = omega (arith, row_inside c.args.sides.total c.args.sides.most c.args.common c.loop-own.own c.requires.common (omega (arith, c.loop-own-test.true)), c.requires.cells) }
+
+pub offset_bounds-second-row : goal.offset_bounds-second-row
+offset_bounds-second-row c = record { fits = omega (arith, row_inside c.args.sides.total c.args.sides.most c.args.common (c.args.common - c.loop-own.own) c.requires.common (omega arith), c.requires.cells) }
+
 pub bounds-first-row : goal.bounds-first-row
 bounds-first-row c = rw c.requires.first (row_inside c.args.sides.total c.args.sides.most c.args.common c.loop-own.own c.requires.common (omega (arith, c.loop-own-test.true)))
 
