@@ -1,5 +1,5 @@
 -- Columns: those that are not used, their places, one value more.
-use Rattle.sgb_vec.proofs.Common.{◌≡◌, ◌<◌, ◌+◌, ℕ, [], ◌∷◌, ◌++◌, length, ap, sym, ◌∙◌, arith, replicate, length-map, length-replicate, length_push, replicate_more, add_comm}
+use Rattle.sgb_vec.proofs.Common.{◌≡◌, ◌<◌, ◌+◌, ℕ, [], ◌∷◌, ◌++◌, length, ap, sym, ◌∙◌, arith, replicate, length-map, Some, slice_get, slice_get_read, get_or-replicate, length-replicate, length_push, replicate_more, add_comm}
 use Rattle.sgb_graph.specs.inner.Columns.{HasPlace, HoldsMany, column_kind, values}
 use Rattle.sgb_graph.specs.declared.columns.Column.{Column}
 use Rattle.sgb_graph.specs.declared.columns.Column.TheVariants.{Unused}
@@ -25,3 +25,7 @@ HasPlace-below c n k h l = grind (arith, length-map)
 -- a column of one value more
 pub HoldsMany-push : (n : ℕ) (c c' : Column) (x : Util) → HoldsMany n c → values (1 + n) c' ≡ values n c ++ x ∷ [] → HoldsMany (1 + n) c'
 HoldsMany-push n c c' x h e = omega (arith, ap length e, length_push (values n c) x)
+
+-- and nothing at each place
+pub slice_get-unused : (n k : ℕ) (c : Column) → c ≡ Unused → k < n → slice_get (values n c) k ≡ Some Nothing
+slice_get-unused n k c is below = rw is (slice_get_read (replicate n Nothing) n k Nothing (sym (length-replicate n Nothing)) below (sym (get_or-replicate n k Nothing Nothing below)))

@@ -1,5 +1,5 @@
 -- A cycle of random numbers, the next one, and the numbers of the sequence that they are.
-use Rattle.sgb_vec.proofs.Common.{rules, ◌≡◌, ℕ, ◌+◌, ◌-◌, ◌<◌, ◌≤◌, List, get_or, set, ap, sym, ◌∙◌, inl, inr, arith, length-set, get_or-set_same, get_or-set_other, cases_eq, cases_lt}
+use Rattle.sgb_vec.proofs.Common.{rules, ◌≡◌, ◌≢◌, refl, ◌%◌, ℕ, ◌+◌, ◌-◌, ◌<◌, ◌≤◌, List, length, get_or, set, ap, sym, ◌∙◌, inl, inr, arith, length-set, get_or-set_same, get_or-set_other, cases_eq, cases_lt}
 use Rattle.sgb_graph.specs.Draws.{modulus, difference, x_number}
 use Rattle.sgb_graph.specs.inner.Flips.{IsCycle, IsNextCycle}
 use Rattle.sgb_graph.specs.inner.Jumps.{IsPartOf}
@@ -19,6 +19,33 @@ pub record IsCycling (old now : List ℕ) (n : ℕ) : Type 0 where
   pub early : (i : ℕ) → i < n → i < 24 → get_or now i 0 ≡ difference (get_or old i 0) (get_or old (i + 31) 0)
   pub late : (i : ℕ) → i < n → 24 ≤ i → get_or now i 0 ≡ difference (get_or old i 0) (get_or now (i - 24) 0)
   pub rest : (i : ℕ) → n ≤ i → get_or now i 0 ≡ get_or old i 0
+
+-- one number more
+pub cycling_more :
+    (old now : List ℕ) (n x : ℕ) → IsCycling old now n → n < 55 → x ≡ difference (get_or now n 0) (get_or now ((n + 31) % 55) 0) → IsCycling old (set now n x) (n + 1)
+cycling_more old now n x is inside e =
+    let fits : n < length now = omega (arith, is.cycle.many) in
+    let here : get_or (set now n x) n 0 ≡ x = get_or-set_same now n x 0 fits in
+    let old_one : get_or now n 0 ≡ get_or old n 0 = is.rest n (omega arith) in
+    let first : n < 24 → x ≡ difference (get_or old n 0) (get_or old (n + 31) 0) = λ small.
+    let place : (n + 31) % 55 ≡ n + 31 = omega arith in
+    e ∙ (rw (place, old_one, is.rest (n + 31) (omega arith)) refl) in
+    let later : 24 ≤ n → x ≡ difference (get_or old n 0) (get_or now (n - 24) 0) = λ great.
+    let place : (n + 31) % 55 ≡ n - 24 = omega arith in
+    e ∙ (rw (place, old_one) refl) in
+    let others : (j : ℕ) → j ≢ n → get_or (set now n x) j 0 ≡ get_or now j 0 = λ j other. get_or-set_other now n j x 0 other in
+    record {
+      cycle = cycle_with now n x is.cycle (rw e (difference_below (get_or now n 0) (get_or now ((n + 31) % 55) 0)));
+      early = λ j below small. elim (cases_eq j n) [
+        | inl same ↦ rw same (here ∙ first (omega arith))
+        | inr other ↦ others j other ∙ is.early j (omega arith) small
+      ];
+      late = λ j below great. elim (cases_eq j n) [
+        | inl same ↦ rw same (here ∙ (later (omega arith) ∙ ap (difference (get_or old n 0)) (sym (others (n - 24) (omega arith)))))
+        | inr other ↦ others j other ∙ (is.late j (omega arith) great ∙ ap (difference (get_or old j 0)) (sym (others (j - 24) (omega arith))))
+      ];
+      rest = λ j past. others j (omega arith) ∙ is.rest j (omega arith);
+    }
 
 -- the numbers are X(n + 1) to X(n + 55)
 pub record IsWindow (seed n : ℕ) (numbers : List ℕ) : Type 0 where

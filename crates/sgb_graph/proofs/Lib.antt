@@ -63,6 +63,8 @@ pub mod NewGraphs
 pub mod Numbers
 -- the graph of a list of events, for examples
 pub mod PlainGraphs
+-- lists that are followed side by side
+pub mod SideBySide
 -- a generator at a draw, and what it hands out
 pub mod Standing
 -- tables, given by their columns

@@ -1,5 +1,6 @@
 -- Lemmas on places of lists, and on tests that each element passes.
-use Rattle.sgb_vec.proofs.Common.{◌≡◌, ◌≢◌, ◌+◌, ◌<◌, ℕ, zero, suc, Bool, true, ◌&&◌, List, [], ◌∷◌, ◌++◌, length, get_or, set, map, Some, refl, ap, sym, ◌∙◌, arith, slice_get, list_all, flat_map, range_with_len, and_parts, and_from, list_all-map}
+use Rattle.sgb_vec.proofs.Common.{◌≡◌, ◌≢◌, ◌+◌, ◌<◌, ◌≤◌, ℕ, zero, suc, Bool, true, ◌&&◌, List, [], ◌∷◌, ◌++◌, length, get_or, set, map, drop, append_assoc, append-nil, add-one, Some, refl, ap, sym, ◌∙◌, arith, slice_get, list_all, flat_map, range_with_len, and_parts, and_from, list_all-map, drop_all, slice_get-map, slice_get_read}
+use Rattle.std.proofs.Math.Seq.{drop-cons}
 use Rattle.sgb_graph.specs.Growth.{at_place}
 
 -- what stands in a prefix of a list
@@ -97,3 +98,21 @@ pub list_all-range : (p : ℕ → Bool) (a n : ℕ) → ((k : ℕ) → k < a + n
 list_all-range p a zero passes = refl
 list_all-range p a (suc n) passes =
     and_from (p a) (list_all p (range_with_len (a + 1) n)) (passes a (omega arith)) (list_all-range p (a + 1) n (λ k below. passes k (omega arith)))
+
+-- mapped one after another: with those that are left, they are all
+pub mapped_more :
+    {X Y : Type 0} (f : X → Y) (xs ys : List X) (i : ℕ) (d : X) (p : Y) (done more all : List Y) → ys ≡ xs → i < length ys → p ≡ f (get_or ys i d) →
+    more ≡ done ++ p ∷ [] → done ++ map f (drop i xs) ≡ all → more ++ map f (drop (i + 1) xs) ≡ all
+mapped_more f xs ys i d p done more all same inside put one so_far =
+    let below : i < length xs = rw same at inside in
+    rw (one, put, same, append_assoc, add-one) (ap (λ zs. done ++ map f zs) (sym (drop-cons xs i d below)) ∙ so_far)
+
+-- and at the end
+pub mapped_all : {X Y : Type 0} (f : X → Y) (xs ys : List X) (i : ℕ) (done all : List Y) → ys ≡ xs → length ys ≤ i → done ++ map f (drop i xs) ≡ all → done ≡ all
+mapped_all f xs ys i done all same over so_far =
+    let none : drop i xs ≡ [] = drop_all i xs (rw same at over) in
+    sym (append-nil done) ∙ (ap (λ zs. done ++ map f zs) (sym none) ∙ so_far)
+
+-- what stands in a mapped list
+pub slice_get-mapped : {X Y : Type 0} (f : X → Y) (xs : List X) (k : ℕ) (x : X) → k < length xs → x ≡ get_or xs k x → slice_get (map f xs) k ≡ Some (f x)
+slice_get-mapped f xs k x inside is = grind (arith, slice_get-map, slice_get_read)

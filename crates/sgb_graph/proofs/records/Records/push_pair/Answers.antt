@@ -1,7 +1,8 @@
-use Rattle.std.proofs.Common.{[], ◌∷◌, ◌++◌, ap, ◌∙◌, rules, w64}
+use Rattle.std.proofs.Common.{[], ◌∷◌, ◌++◌, length, ap, ◌∙◌, rules, w64}
 use Rattle.std.proofs.lemmas.Int.{to_z-of_z}
 use Rattle.sgb_graph.specs.Graphs.{arc_record}
 use Rattle.sgb_graph.specs.inner.KeptRecords.{KeptRecords, kept_records, plain_records}
+use Rattle.sgb_graph.proofs.ColumnValues.{HoldsMany-unused}
 use Rattle.sgb_graph.proofs.KeptRecords.{kept_records-push_pair, record_with-is}
 use Rattle.sgb_graph.proofs.records.Records.push_pair.Goals as goal
 
@@ -16,3 +17,8 @@ returns-clause-ok c =
     let more = kept_records-push_pair (plain_records r.plain) r.a r.b c.new-lower.result c.new-higher.result first second (search rules) (search rules) one other in
     ap (λ ps. kept_records ps r.a r.b) c.in_ok-push_two.ensures.ok
     ∙ (more ∙ ap (λ (d : KeptRecords). record d { items = d.items ++ first ∷ second ∷ [] }) c.self.view_is)
+
+pub invariant_of-self-2 : goal.invariant_of-self-2
+invariant_of-self-2 c =
+    let many = length (plain_records c.push_two.new.self) in
+    (HoldsMany-unused many c.self.inside.a (ap (λ d. d.a) c.self.view_is ∙ c.requires.plain.0), HoldsMany-unused many c.self.inside.b (ap (λ d. d.b) c.self.view_is ∙ c.requires.plain.1))
