@@ -1,4 +1,6 @@
-use Rattle.std.proofs.Common.{sym, ◌∙◌, arith}
+use Rattle.std.proofs.Common.{rules, sym, ◌∙◌, arith}
+use Rattle.std.proofs.lemmas.Grind.{common_steps}
+use Rattle.sgb_vec.proofs.SumRowLemmas.{take_written}
 use Rattle.sgb_graph.proofs.MarkedWays.{not_all_end, all_end}
 use Rattle.sgb_graph.proofs.parts.walks.chains_end.Goals as goal
 
@@ -7,3 +9,9 @@ returns-then-not-way_ends c = sym (not_all_end c.args.records.now.items c.loop-k
 
 pub returns : goal.returns
 returns c = sym (all_end c.args.records.now.items (λ j below. c.loop-k.invariant.before j (omega arith)))
+
+pub loop-k-init : goal.loop-k-init
+loop-k-init c = grind (arith, common_steps)
+
+pub loop-k-preserved : goal.loop-k-preserved
+loop-k-preserved c = search (rules, take_written)

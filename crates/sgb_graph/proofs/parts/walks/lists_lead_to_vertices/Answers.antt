@@ -1,4 +1,5 @@
-use Rattle.std.proofs.Common.{rules}
+use Rattle.std.proofs.lemmas.Grind.{common_steps}
+use Rattle.std.proofs.Common.{arith, rules}
 use Rattle.sgb_vec.proofs.SumRowLemmas.{take_written}
 use Rattle.sgb_graph.specs.inner.Walks.{MarksLead}
 use Rattle.sgb_graph.proofs.WalkedLists.{list_ends, one_leads_astray, one_more_leads}
@@ -15,3 +16,9 @@ mark_way-requires-clause-ends c = search (rules, list_ends)
 
 pub loop-v-preserved : goal.loop-v-preserved
 loop-v-preserved c = search (rules, take_written, MarksLead, one_more_leads)
+
+pub loop-v-init : goal.loop-v-init
+loop-v-init c = grind (arith, common_steps)
+
+pub returns : goal.returns
+returns c = grind (arith, common_steps)
