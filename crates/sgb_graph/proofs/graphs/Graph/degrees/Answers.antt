@@ -1,4 +1,4 @@
-use Rattle.std.proofs.Common.{◌≡◌, ◌+◌, ◌∷◌, [], length, ap, sym, ◌∙◌, add-zero, arith}
+use Rattle.std.proofs.Common.{length, ap, sym, ◌∙◌, add-zero}
 use Rattle.sgb_graph.specs.Graphs.{chain_of}
 use Rattle.sgb_graph.proofs.SideBySide.{all_counted, more_stepped, one_stepped, stepped_falls, still_short}
 use Rattle.sgb_graph.proofs.graphs.Graph.degrees.Goals as goal

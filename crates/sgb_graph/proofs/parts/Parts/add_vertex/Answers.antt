@@ -1,5 +1,4 @@
 use Rattle.std.proofs.Common.{◌∷◌, [], ap, sym, ◌∙◌, append_assoc}
-use Rattle.sgb_graph.specs.Graphs.{GraphData}
 use Rattle.sgb_graph.specs.Parts.{with_vertex}
 use Rattle.sgb_graph.specs.inner.Fitting.{with_more}
 use Rattle.sgb_graph.proofs.parts.Parts.add_vertex.Goals as goal

@@ -4,7 +4,7 @@ use Rattle.sgb_graph.specs.inner.KeptRecords.{KeptRecords, plain_records}
 use Rattle.sgb_graph.proofs.KeptRecords.{IsMore, record_pushed, record_with-is}
 use Rattle.sgb_graph.proofs.records.Records.push.Goals as goal
 
-abbrev pushed : (c : goal.After-push-3) → IsMore (plain_records c.self.inside.plain) c.self.inside.a c.self.inside.b (plain_records c.push.new.self) c.push-2.new.self c.push-3.new.self c.args.arc
+pushed : (c : goal.After-push-3) → IsMore (plain_records c.self.inside.plain) c.self.inside.a c.self.inside.b (plain_records c.push.new.self) c.push-2.new.self c.push-3.new.self c.args.arc
 pushed c =
     let r = c.self.inside in
     let arc = c.args.arc in
