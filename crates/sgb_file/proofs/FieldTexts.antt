@@ -1,5 +1,5 @@
 -- The texts of fields, laid out as pieces one after another.
-use Rattle.sgb_vec.proofs.Common.{rules, ◌≡◌, ◌<◌, ◌≤◌, ◌+◌, ◌++◌, ℕ, Bool, true, false, List, [], ◌∷◌, Result, Ok, Err, length, drop, map, slice_index_or, refl, sym, subst, append-nil, Some, arith, slice_get, flat_map, at_drop_more, drop_all}
+use Rattle.sgb_vec.proofs.Common.{rules, ◌≡◌, ◌<◌, ◌≤◌, ◌+◌, ◌++◌, ℕ, Bool, true, false, List, [], ◌∷◌, Result, Ok, Err, length, drop, take, get_or, map, ◌∙◌, flat_map-append, slice_index_or, refl, sym, subst, append-nil, Some, arith, slice_get, flat_map, at_drop_more, drop_all}
 use Rattle.sgb_graph.specs.Columns.{util_seen}
 use Rattle.sgb_graph.specs.declared.fields.UtilRef.{UtilRef}
 use Rattle.sgb_graph.specs.declared.fields.Util.{Util}
@@ -88,3 +88,19 @@ pub six_values : {X : Type 0} (xs : List X) (a b c d e f : X) → length xs ≡ 
     → slice_get xs 3 ≡ Some d → slice_get xs 4 ≡ Some e → slice_get xs 5 ≡ Some f → a ∷ b ∷ c ∷ d ∷ e ∷ f ∷ [] ≡ xs
 six_values (x0 ∷ x1 ∷ x2 ∷ x3 ∷ x4 ∷ x5 ∷ []) a b c d e f n h0 h1 h2 h3 h4 h5 = cc
 six_values _ a b c d e f n h0 h1 h2 h3 h4 h5 = absurd (omega (arith, n))
+
+-- no text, where there is not any
+nothing_any : (texts : List (List ℕ)) → false ≡ has_any texts → texts ≡ []
+nothing_any [] e = refl
+nothing_any (text ∷ texts) e = absurd cc
+
+-- the texts of six fields, of which the first three have none and the others one each
+pub three_texts :
+    {U : Type 0} (seen : U → Util) (fields : List U) (a b c : U) (x y z : List ℕ) → length fields ≡ 6 → false ≡ has_any (flat_map field_texts (map seen (take 3 fields)))
+    → a ≡ get_or fields 3 a → b ≡ get_or fields 4 b → c ≡ get_or fields 5 c → field_texts (seen a) ≡ x ∷ [] → field_texts (seen b) ≡ y ∷ [] → field_texts (seen c) ≡ z ∷ []
+    → flat_map field_texts (map seen fields) ≡ x ∷ y ∷ z ∷ []
+three_texts seen (u ∷ v ∷ w ∷ a' ∷ b' ∷ c' ∷ []) a b c x y z six none ea eb ec ta tb tc =
+    let empty = nothing_any (flat_map field_texts (map seen (u ∷ v ∷ w ∷ []))) none in
+    flat_map-append field_texts (map seen (u ∷ v ∷ w ∷ [])) (map seen (a' ∷ b' ∷ c' ∷ []))
+    ∙ (rw (empty, ← ea, ← eb, ← ec, ta, tb, tc) refl)
+three_texts seen _ a b c x y z six none ea eb ec ta tb tc = absurd (omega (arith, six))

@@ -1,5 +1,5 @@
 -- Lemmas on the text that is left of a file's lines.
-use Rattle.sgb_vec.proofs.Common.{rules, ap, sym, ◌∙◌, append_assoc, arith, ◌≡◌, ℕ, ◌+◌, ◌<◌, ◌≤◌, Bool, true, not, ◌||◌, List, [], ◌∷◌, ◌++◌, length, take, drop, codes, Some, None, ◌==◌, slice_get, refl, list_any, list_all, position_or_len, prefix_len, before_first, option_map_or, and_parts, not-true, nat_tests, drop-append-le, get_or-take, take-append-le, length-take, prefix_len-append, fails_before_first, list_all-from_AllPass, prefix_len-le-length, prefix_len_passes}
+use Rattle.sgb_vec.proofs.Common.{rules, ap, sym, ◌∙◌, append_assoc, arith, ◌≡◌, ℕ, ◌+◌, ◌<◌, ◌≤◌, Bool, true, not, ◌||◌, List, [], ◌∷◌, ◌++◌, length, take, drop, codes, Some, None, ◌==◌, slice_get, refl, list_any, list_all, position_or_len, prefix_len, before_first, option_map_or, and_parts, not-true, nat_tests, drop-append-le, get_or-take, length-append, take-append-le, length-take, prefix_len-append, fails_before_first, list_all-from_AllPass, prefix_len-le-length, prefix_len_passes}
 use Rattle.sgb_text.proofs.Findings.{after_prefix}
 use Rattle.sgb_file.specs.FileLines.{text_of_lines}
 use Rattle.sgb_file.specs.inner.ReadFields.{plain_text}
@@ -63,3 +63,7 @@ plain_length (b ∷ line) more h = grind (arith, and_parts, plain_length line mo
 pub plain_of_line : (line more : List ℕ) → has_no_newline line ≡ true → before_first (λ b. b == 44) line ≡ plain_text (line ++ 10 ∷ more)
 plain_of_line line more h =
     rw (plain_length line more h) (sym (take-append-le (position_or_len (λ b. b == 44) line) line (10 ∷ more) (prefix_len-le-length (λ b. not (b == 44)) line)))
+
+-- what is left after a line is shorter than what was left with it
+pub begun_shorter : (line others : List ℕ) → length others < length (line ++ 10 ∷ others)
+begun_shorter line others = omega (arith, length-append line (10 ∷ others))

@@ -108,6 +108,10 @@ leading_within (suc most) (b ∷ text) = grind (arith, first_byte, leading_withi
 left_of_digits : (most : ℕ) (text : List ℕ) (n : ℕ) (rest : List ℕ) → leading_number 10 most text ≡ Some (n, rest) → length text - length rest ≡ length (leading_digits 10 most text)
 left_of_digits most text n rest e = grind (arith, length-drop, leading_within most text)
 
+-- what is left of a text is no longer than the text
+pub rest_within : (most : ℕ) (text : List ℕ) (n : ℕ) (rest : List ℕ) → leading_number 10 most text ≡ Some (n, rest) → length rest ≤ length text
+rest_within most text n rest e = grind (arith, length-drop)
+
 pub long_read : (text : List ℕ) (n : ℕ) (rest : List ℕ) → leading_number 10 19 text ≡ Some (n, rest) → 18 < length text - length rest → number_of 18 (take_while is_decimal_digit text) ≡ None
 long_read text n rest e long =
     let many = too_many 19 text (omega (arith, long, left_of_digits 19 text n rest e)) in

@@ -1,5 +1,5 @@
 -- Lemmas on strings that are read part by part, each on a line.
-use Rattle.sgb_vec.proofs.Common.{ap, ◌∙◌, append_assoc, arith, ◌≡◌, ℕ, zero, suc, ◌+◌, ◌-◌, ◌<◌, Bool, true, false, not, List, [], ◌∷◌, ◌++◌, length, take, drop, Some, None, ◌==◌, ◌↔◌, Result, IfOk, IsErrOf, IsOkUnless, slice_index_or, refl, list_all, position, position_or_len, after_first, take-append-add, drop-append-add, and_parts, not-true, nat_tests, take-append-le, AllPass-from_list_all, list_all-from_AllPass, list_all-append}
+use Rattle.sgb_vec.proofs.Common.{ap, ◌∙◌, append_assoc, arith, ◌≡◌, ℕ, zero, suc, ◌+◌, ◌-◌, ◌<◌, ◌≤◌, Bool, true, false, not, List, [], ◌∷◌, ◌++◌, length, take, drop, Some, None, ◌==◌, ◌↔◌, Result, IfOk, IsErrOf, IsOkUnless, slice_index_or, refl, list_all, position, position_or_len, after_first, take-append-add, drop-append-add, and_parts, not-true, nat_tests, take-append-le, AllPass-from_list_all, list_all-from_AllPass, list_all-append}
 use Rattle.sgb_text.proofs.Findings.{after_prefix, was_let_through}
 use Rattle.sgb_vec.specs.Limits.{most_bytes}
 use Rattle.sgb_vec.specs.Names.{IsText, is_text_byte}
@@ -82,3 +82,8 @@ text_found bytes left r ok refused err = grind (arith, nat_tests, AllPass-from_l
 
 pub id_found : (bytes left : List ℕ) (r : Result (List ℕ) Panic) → IfOk r (λ s. (s ≡ bytes) × IsId bytes) → (IsErrOf r Syntax ↔ ¬ IsId bytes) → IsOkUnless r Syntax → IsFoundBy (string_before most_id_bytes bytes left) r left
 id_found bytes left r ok refused err = grind (arith, nat_tests, AllPass-from_list_all, list_all-from_AllPass)
+
+-- a line that is broken has a byte
+pub broken_some : (line : List ℕ) → true ≡ is_broken line → 1 ≤ length line
+broken_some [] e = absurd cc
+broken_some (b ∷ line) e = omega arith

@@ -1,5 +1,5 @@
-use Rattle.std.proofs.Common.{rules}
-use Rattle.sgb_file.proofs.NumberReading.{long_read, short_read, not_read}
+use Rattle.std.proofs.Common.{rules, sym}
+use Rattle.sgb_file.proofs.NumberReading.{long_read, short_read, not_read, rest_within}
 use Rattle.sgb_file.proofs.reading.texts.leading_number.Goals as goal
 
 pub returns-in_err-number-clause-value : goal.returns-in_err-number-clause-value
@@ -13,3 +13,6 @@ returns-clause-value c = search (rules, short_read c.args.text.now c.in_ok-numbe
 
 pub returns-clause-bound : goal.returns-clause-bound
 returns-clause-bound c = search (rules, short_read c.args.text.now c.in_ok-number.number c.in_ok-number.rest.now)
+
+pub overflow_sub-text : goal.overflow_sub-text
+overflow_sub-text c = rest_within 19 c.args.text.now c.in_ok-number.number c.in_ok-number.rest.now (sym c.in_ok-number.ensures.value)
