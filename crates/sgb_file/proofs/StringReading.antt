@@ -1,5 +1,5 @@
 -- Lemmas on strings that are read part by part, each on a line.
-use Rattle.sgb_vec.proofs.Common.{ap, ◌∙◌, append_assoc, arith, ◌≡◌, ℕ, zero, suc, ◌+◌, ◌-◌, ◌<◌, ◌≤◌, Bool, true, false, not, List, [], ◌∷◌, ◌++◌, length, take, drop, Some, None, ◌==◌, ◌↔◌, Result, IfOk, IsErrOf, IsOkUnless, slice_index_or, refl, list_all, position, position_or_len, after_first, take-append-add, drop-append-add, and_parts, not-true, nat_tests, take-append-le, AllPass-from_list_all, list_all-from_AllPass, list_all-append}
+use Rattle.sgb_vec.proofs.Common.{ap, ◌∙◌, append_assoc, arith, ◌≡◌, ℕ, zero, suc, ◌+◌, ◌-◌, ◌<◌, ◌≤◌, Bool, true, false, not, List, [], ◌∷◌, ◌++◌, length, length-append, take, drop, Some, None, ◌==◌, ◌↔◌, Result, IfOk, IsErrOf, IsOkUnless, slice_index_or, refl, list_all, position, position_or_len, after_first, take-append-add, drop-append-add, and_parts, not-true, nat_tests, take-append-le, AllPass-from_list_all, list_all-from_AllPass, list_all-append}
 use Rattle.sgb_text.proofs.Findings.{after_prefix, was_let_through}
 use Rattle.sgb_vec.specs.Limits.{most_bytes}
 use Rattle.sgb_vec.specs.Names.{IsText, is_text_byte}
@@ -8,7 +8,7 @@ use Rattle.sgb_vec.specs.declared.panics.Panic.TheVariants.{NoRoom, Syntax}
 use Rattle.sgb_graph.specs.Ids.{most_id_bytes, IsId}
 use Rattle.sgb_file.specs.inner.ReadFields.{string_at}
 use Rattle.sgb_file.specs.Fields.{unbroken}
-use Rattle.sgb_file.specs.inner.Found.{IsFoundBy, IsPartOf, IsNoString, goes_on, is_broken, string_before, string_from}
+use Rattle.sgb_file.specs.inner.Found.{IsFoundBy, IsPartOf, IsNoString, checked_text, goes_on, is_broken, string_before, string_from}
 use Rattle.sgb_file.specs.inner.LinesLeft.{has_no_newline}
 use Rattle.sgb_file.proofs.LineLemmas.{list_all-take}
 use Rattle.sgb_file.proofs.LeftTexts.{none_before, first_beyond, any_beyond, first_within, any_within}
@@ -87,3 +87,11 @@ id_found bytes left r ok refused err = grind (arith, nat_tests, AllPass-from_lis
 pub broken_some : (line : List ℕ) → true ≡ is_broken line → 1 ≤ length line
 broken_some [] e = absurd cc
 broken_some (b ∷ line) e = omega arith
+
+-- a string is not found where its bytes so far are too many
+too_many_bytes : (most : ℕ) (bytes more : List ℕ) → most < length bytes → checked_text most (bytes ++ more) ≡ None
+too_many_bytes most bytes more many = grind (arith, length-append, nat_tests)
+
+pub too_long : (closed : Bool) (most : ℕ) (bytes text : List ℕ) → most < length bytes → goes_on closed most bytes text ≡ None
+too_long true most bytes text many = grind (arith, nat_tests)
+too_long false most bytes text many = grind (arith, too_many_bytes)

@@ -14,3 +14,33 @@ returns c =
       sum = arc_counted counts c.args.line.now second.second.now tip.tip c.in_ok-next.next c.in_ok-len.len c.args.sum _ _ _ _ _ c.checksum_of_value.result tip.ensures second.ensures
           c.value_after_byte-after_tip.ensures read c.checksum_of_value.ensures c.from.ensures c.ranges.sum.fits (search (rules, arith));
     }
+
+pub returns-in_err-tip-clause-arc : goal.returns-in_err-tip-clause-arc
+returns-in_err-tip-clause-arc c = rw c.from_residual.ensures tt
+
+pub returns-in_err-tip-clause-sum : goal.returns-in_err-tip-clause-sum
+returns-in_err-tip-clause-sum c = rw c.from_residual.ensures tt
+
+pub returns-in_err-second-clause-arc : goal.returns-in_err-second-clause-arc
+returns-in_err-second-clause-arc c = rw c.from_residual-in_err-second.ensures tt
+
+pub returns-in_err-second-clause-sum : goal.returns-in_err-second-clause-sum
+returns-in_err-second-clause-sum c = rw c.from_residual-in_err-second.ensures tt
+
+pub returns-in_err-next-clause-arc : goal.returns-in_err-next-clause-arc
+returns-in_err-next-clause-arc c = rw c.from_residual-in_err-next.ensures tt
+
+pub returns-in_err-next-clause-sum : goal.returns-in_err-next-clause-sum
+returns-in_err-next-clause-sum c = rw c.from_residual-in_err-next.ensures tt
+
+pub returns-in_err-third-clause-arc : goal.returns-in_err-third-clause-arc
+returns-in_err-third-clause-arc c = rw c.from_residual-in_err-third.ensures tt
+
+pub returns-in_err-third-clause-sum : goal.returns-in_err-third-clause-sum
+returns-in_err-third-clause-sum c = rw c.from_residual-in_err-third.ensures tt
+
+pub returns-in_err-len-clause-arc : goal.returns-in_err-len-clause-arc
+returns-in_err-len-clause-arc c = rw c.from_residual-in_err-len.ensures tt
+
+pub returns-in_err-len-clause-sum : goal.returns-in_err-len-clause-sum
+returns-in_err-len-clause-sum c = rw c.from_residual-in_err-len.ensures tt
