@@ -20,9 +20,12 @@ returns-in_err-push_part-2-clause-none c =
     let bytes = c.loop-closed.bytes.items in
     let part = c.in_ok-part.part in
     let long = c.in_err-push_part-2.ensures.long in
-    rw (p.1, p.2) (long.0, λ most few. c.loop-closed.invariant.so_far most
-    ∙ (ap (λ closed. goes_on closed most bytes (text_left c.loop-closed.lines)) c.loop-closed-test.true
-    ∙ (c.in_ok-part.ensures.part most bytes ∙ too_long part.closed most (bytes ++ part.bytes.now) (text_left c.take_part.new.lines) (omega (arith, long.1, few)))))
+    rw (p.1, p.2) (
+      long.0,
+      λ most few. c.loop-closed.invariant.so_far most
+          ∙ (ap (λ closed. goes_on closed most bytes (text_left c.loop-closed.lines)) c.loop-closed-test.true
+          ∙ (c.in_ok-part.ensures.part most bytes ∙ too_long part.closed most (bytes ++ part.bytes.now) (text_left c.take_part.new.lines) (omega (arith, long.1, few)))),
+    )
 
 pub returns-in_err-push_part-clause-whole : goal.returns-in_err-push_part-clause-whole
 returns-in_err-push_part-clause-whole c = let p = err_from_is_err_and c.from_residual.result c.from_residual.ensures.1 in rw p.1 tt
