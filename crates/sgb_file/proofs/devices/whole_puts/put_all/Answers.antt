@@ -1,4 +1,4 @@
-use Rattle.sgb_vec.proofs.Common.{rules, ◌++◌, take, ◌∙◌, ◌≡◌, ◌≢◌, ℕ, ◌-◌, ◌≤◌, ◌<◌, Bool, true, false, List, length, drop, arith, append_assoc, take-append-drop, length-append, length-take-le, Appends-trans, append-nil, nat_tests, nil_from_length, sym, ap, ◌==◌, take_rest}
+use Rattle.sgb_vec.proofs.Common.{rules, ◌++◌, take, ◌∙◌, ◌≡◌, ◌≢◌, ℕ, ◌-◌, ◌≤◌, ◌<◌, Bool, true, false, List, length, drop, arith, append_assoc, take-append-drop, length-append, length-take-le, Appends-trans, append-nil, nat_tests, nil_from_length, ap, ◌==◌, take_rest}
 use Rattle.sgb_file.proofs.devices.whole_puts.put_all.Goals as goal
 
 -- a prefix of what is left moves after what is done
