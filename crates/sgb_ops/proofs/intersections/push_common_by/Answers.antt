@@ -1,8 +1,8 @@
-use Rattle.sgb_vec.proofs.Common.{◌≡◌, ◌==◌, ◌+◌, ◌∙◌, ◌++◌, ◌∷◌, [], take, drop, get_or, sym, ap, refl, if◌then◌else◌, w64, to_z, of_z, rules, arith, to_z-of_z, take_more, drop_more, take-append-drop}
+use Rattle.sgb_vec.proofs.Common.{◌≡◌, ◌==◌, ◌+◌, ◌∙◌, ◌++◌, ◌∷◌, [], take, drop, get_or, sym, ap, refl, if◌then◌else◌, w64, to_z, of_z, rules, arith, to_z-of_z, take_more, drop_all, drop_more, take-append-drop}
 use Rattle.sgb_ops.specs.inner.Tallies.{tally_at, tally_to, event_left, second_length, without_one}
 use Rattle.sgb_ops.specs.inner.Intersection.{common_event}
 use Rattle.sgb_ops.proofs.CommonEvents.{commons_after, commons_at_places, left_after, left_at_first, left_more, event_there}
-use Rattle.sgb_ops.proofs.PlainLists.{part_more}
+use Rattle.sgb_ops.proofs.PlainLists.{part_more, parts_all}
 use Rattle.sgb_ops.proofs.TallyLemmas.{no_arc}
 use Rattle.sgb_ops.proofs.intersections.push_common_by.Goals as goal
 
@@ -42,3 +42,9 @@ loop-arc-preserved c =
           ∙ (left_more multi u gs before l ∙ ap (left_after multi u gs) (sym next)))),
       c.in_ok-push_if_left.ensures.size ∙ c.loop-arc.invariant.2,
     )
+
+pub returns-clause-ok : goal.returns-clause-ok
+returns-clause-ok c =
+    let theirs = c.args.theirs.now in
+    let i = c.loop-arc.arc-index in
+    parts_all c.loop-arc.events.items _ _ (ap (commons_after c.args.multi c.args.v c.args.ours.now theirs (take i theirs)) (drop_all i theirs (omega arith))) c.loop-arc.invariant.0

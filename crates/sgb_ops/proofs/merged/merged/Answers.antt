@@ -1,4 +1,4 @@
-use Rattle.sgb_vec.proofs.Common.{rules, ◌≡◌, ◌+◌, ◌∙◌, ◌++◌, ◌∷◌, [], sym, ap, take, arith, take_more}
+use Rattle.sgb_vec.proofs.Common.{rules, ◌≡◌, ◌+◌, ◌∙◌, ◌++◌, ◌∷◌, [], sym, ap, take, arith, take_all, take_more}
 use Rattle.sgb_ops.specs.inner.Ends.{ends_key}
 use Rattle.sgb_ops.specs.Merged.{merged}
 use Rattle.sgb_ops.proofs.MergeSteps.{merged_more}
@@ -17,3 +17,6 @@ loop-event-preserved c =
       rw (c.in_ok-merge_event.ensures.ok, next, c.loop-event.invariant.0) (sym (merged_more c.args.directed (take i events) e)),
       c.in_ok-merge_event.ensures.ends,
     )
+
+pub returns-clause-ok : goal.returns-clause-ok
+returns-clause-ok c = c.loop-event.invariant.0 ∙ ap (merged c.args.directed) (take_all c.loop-event.event-index c.args.events.now (omega arith))

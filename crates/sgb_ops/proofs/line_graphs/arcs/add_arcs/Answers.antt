@@ -1,7 +1,7 @@
-use Rattle.sgb_vec.proofs.Common.{rules, ◌≡◌, ◌<◌, ◌+◌, ◌∷◌, drop, get_or, arith, drop_more}
+use Rattle.sgb_vec.proofs.Common.{rules, ◌≡◌, ◌<◌, ◌+◌, ◌∷◌, drop, get_or, arith, true, ap, drop_all, drop_more}
 use Rattle.sgb_graph.specs.Growth.{AddsEvents}
 use Rattle.sgb_graph.specs.Graphs.{GraphData}
-use Rattle.sgb_graph.proofs.AddedEvents.{AddsUpTo, up_to-more, up_to-none}
+use Rattle.sgb_graph.proofs.AddedEvents.{AddsUpTo, up_to-all, up_to-more, up_to-none}
 use Rattle.sgb_ops.specs.Lines.{line_events}
 use Rattle.sgb_ops.specs.inner.Lines.{no_line}
 use Rattle.sgb_ops.proofs.LineEvents.{events_from}
@@ -29,3 +29,9 @@ loop-i-preserved c =
     let first = ends_read c.args.n (line.to + 1) lines c.in_ok-ends.ends.items c.index.result.now (omega (arith, below)) c.in_ok-ends.ensures.size c.in_ok-ends.ensures.ends c.index.ensures in
     let end = ends_read c.args.n line.to lines c.in_ok-ends.ends.items c.index-in-loop-i.result.now (omega (arith, below)) c.in_ok-ends.ensures.size c.in_ok-ends.ensures.ends c.index-in-loop-i.ensures in
     search (rules, next, first, end, AddsEvents, run_events, up_to-more, events_from, line_events)
+
+pub returns-clause-ok : goal.returns-clause-ok
+returns-clause-ok c =
+    let lines = c.args.lines.now in
+    let i = c.loop-i.i in
+    up_to-all true c.args.built.now c.loop-i.built (events_from true lines i (drop i lines)) (line_events true lines) c.loop-i.invariant (ap (events_from true lines i) (drop_all i lines (omega arith)))

@@ -1,5 +1,5 @@
-use Rattle.sgb_vec.proofs.Common.{◌≡◌, ◌+◌, ◌++◌, ◌∷◌, ◌∙◌, [], ℕ, List, false, drop, take, get_or, refl, sym, ap, arith, if◌then◌else◌, drop_more}
-use Rattle.sgb_graph.proofs.AddedEvents.{up_to-more}
+use Rattle.sgb_vec.proofs.Common.{◌≡◌, ◌+◌, ◌++◌, ◌∷◌, ◌∙◌, [], ℕ, List, false, drop, take, get_or, refl, sym, ap, arith, if◌then◌else◌, drop_all, drop_more}
+use Rattle.sgb_graph.proofs.AddedEvents.{up_to-all, up_to-more}
 use Rattle.sgb_ops.specs.Lines.{line_events}
 use Rattle.sgb_ops.specs.inner.Lines.{no_line, events_to}
 use Rattle.sgb_ops.specs.inner.LineLists.{touches}
@@ -19,3 +19,9 @@ loop-i-preserved c =
           ∙ (ap (λ (ks : List ℕ). ks ++ (if touches w line then i ∷ [] else [])) (c.loop-i.invariant.1 w) ∙ sym (numbers_more w i lines line (omega arith) refl))),
       c.in_ok-push_line.ensures.size ∙ c.loop-i.invariant.2,
     )
+
+pub returns-clause-ok : goal.returns-clause-ok
+returns-clause-ok c =
+    let lines = c.args.lines.now in
+    let i = c.loop-i.i in
+    up_to-all false c.args.built.now c.loop-i.built (events_from false lines i (drop i lines)) (line_events false lines) c.loop-i.invariant.0 (ap (events_from false lines i) (drop_all i lines (omega arith)))
