@@ -16,4 +16,5 @@ pub returns-in_err-built-clause-memory : goal.returns-in_err-built-clause-memory
 returns-in_err-built-clause-memory c = search (rules, count_of)
 
 pub begun_in_parts-requires-clause-size : goal.begun_in_parts-requires-clause-size
-begun_in_parts-requires-clause-size c = search (rules, count_of, length-map, new_vertex)
+begun_in_parts-requires-clause-size c =
+    ap (λ b. length b.vertices) c.in_ok-built.ensures.ok ∙ (length-map c.in_ok-names.names new_vertex ∙ count_of c.args.graph.now c.args.entries.now c.in_ok-names.names c.requires.count c.in_ok-names.ensures.ok)

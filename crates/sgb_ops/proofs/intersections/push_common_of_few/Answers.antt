@@ -1,8 +1,8 @@
-use Rattle.sgb_vec.proofs.Common.{◌≡◌, ◌+◌, ◌∙◌, ◌++◌, ◌∷◌, [], take, drop, get_or, sym, ap, refl, w64, to_z, of_z, rules, arith, to_z-of_z, take_more, drop_more, take-append-drop}
+use Rattle.sgb_vec.proofs.Common.{◌≡◌, ◌+◌, ◌∙◌, ◌++◌, ◌∷◌, [], take, drop, get_or, sym, ap, refl, w64, to_z, of_z, rules, arith, to_z-of_z, take_more, drop_all, drop_more, take-append-drop}
 use Rattle.sgb_ops.specs.inner.Tallies.{tally_to, event_left, second_length}
 use Rattle.sgb_ops.specs.inner.Intersection.{common_event}
 use Rattle.sgb_ops.proofs.CommonEvents.{commons_after, commons_at_places, left_after, event_there}
-use Rattle.sgb_ops.proofs.PlainLists.{part_more}
+use Rattle.sgb_ops.proofs.PlainLists.{part_more, parts_all}
 use Rattle.sgb_ops.proofs.TallyLemmas.{no_arc}
 use Rattle.sgb_ops.proofs.intersections.push_common_of_few.Goals as goal
 
@@ -31,3 +31,9 @@ loop-k-preserved c =
     part_more c.loop-k.events.items _ now (commons_after multi v gs hs (take (i + 1) hs) links) (commons_after multi v gs hs before (drop i hs)) _
     (ap (commons_after multi v gs hs before) rest ∙ ap (λ b. now ++ commons_after multi v gs hs b links) (sym next)) c.loop-k.invariant
     (c.in_ok-push_event_left.ensures.ok ∙ ap (λ e. c.loop-k.events.items ++ e) event)
+
+pub returns-clause-ok : goal.returns-clause-ok
+returns-clause-ok c =
+    let theirs = c.args.theirs.now in
+    let k = c.loop-k.k in
+    parts_all c.loop-k.events.items _ _ (ap (commons_after c.args.multi c.args.v c.args.ours.now theirs (take k theirs)) (drop_all k theirs (omega arith))) c.loop-k.invariant
