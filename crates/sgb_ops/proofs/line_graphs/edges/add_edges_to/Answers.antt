@@ -1,6 +1,6 @@
-use Rattle.sgb_vec.proofs.Common.{◌≡◌, ◌+◌, ◌∷◌, ◌∙◌, ℕ, List, false, drop, filter, get_or, ap, arith, if◌then◌else◌, [], subst, drop_more}
+use Rattle.sgb_vec.proofs.Common.{◌≡◌, ◌+◌, ◌∷◌, ◌∙◌, ℕ, List, false, drop, filter, get_or, ap, arith, if◌then◌else◌, [], subst, drop_all, drop_more}
 use Rattle.sgb_graph.specs.Growth.{AddsEvents}
-use Rattle.sgb_graph.proofs.AddedEvents.{up_to-more}
+use Rattle.sgb_graph.proofs.AddedEvents.{up_to-all, up_to-more}
 use Rattle.sgb_ops.specs.inner.LineLists.{counts}
 use Rattle.sgb_ops.specs.inner.Lines.{events_to_numbers}
 use Rattle.sgb_ops.proofs.LineLists.{first_counted}
@@ -18,3 +18,10 @@ loop-j-preserved c =
     let added = subst (λ b. AddsEvents false c.loop-j.built c.add_edge_if.new.built (events_to_numbers i (if b then j ∷ [] else []))) c.counts-wanted.ensures c.in_ok-add_edge_if.ensures.ok in
     up_to-more false c.args.built.now c.loop-j.built c.add_edge_if.new.built _ (events_to_numbers i (filter test rest)) _ _ c.loop-j.invariant
     (ap (λ (js : List ℕ). events_to_numbers i (filter test js)) next ∙ first_counted i j (test j) (filter test rest)) added
+
+pub returns-clause-ok : goal.returns-clause-ok
+returns-clause-ok c =
+    let events = λ (js : List ℕ). events_to_numbers c.args.i (filter (counts c.args.elsewhere c.args.lines.now c.args.i) js) in
+    let list = c.args.list.now in
+    let k = c.loop-j.j-index in
+    up_to-all false c.args.built.now c.loop-j.built (events (drop k list)) (events list) c.loop-j.invariant (ap events (drop_all k list (omega arith)))
