@@ -50,6 +50,7 @@ def task_of(pid):
     try:
         with open(f"/proc/{pid}/cmdline", "rb") as file:
             words = file.read().decode("utf-8", "replace").split("\0")
+        room = os.path.basename(os.readlink(f"/proc/{pid}/cwd"))
     except OSError:
         return None
     if os.path.basename(words[0]) != "rattle" or "--crate-name" not in words:
@@ -58,6 +59,9 @@ def task_of(pid):
     kept = words[words.index("--incremental") + 1] if "--incremental" in words else ""
     if "/rt-edits-" in kept:
         return crate, "base" if kept.endswith("/seed") else "edits"
+    # the only edit of a crate has no base: it is a check of the crate in a room of its own
+    if room.startswith("rt-edit-"):
+        return crate, "edits"
     return crate, "tests" if "--test" in words else "proof"
 
 

@@ -1,5 +1,5 @@
 -- What is left of a number of 64 bits by a side's size, which is one of 32 bits.
-use Rattle.std.proofs.Common.{◌≡◌, ℕ, ◌+◌, ◌*◌, ◌-◌, ◌^◌, ◌<◌, ◌≤◌, ℤ, pos, negsuc, nat_abs, Fits, to_z, of_z, w32, w64, ap, ap₂, ◌∙◌, arith}
+use Rattle.std.proofs.Common.{◌≡◌, ℕ, ◌^◌, ◌<◌, ℤ, pos, negsuc, nat_abs, Fits, to_z, of_z, w32, w64, ap, ap₂, ◌∙◌, arith}
 use lib.Dec.{T}
 use lib.Signed.{non_neg}
 use Rattle.std.specs.Int.{IsNonNegative, IsNonZero, int_rem_euclid}

@@ -1,5 +1,5 @@
 -- A number of steps and a step, both of 32 bits: what they come to fits 64 bits, also with a coordinate added.
-use Rattle.std.proofs.Common.{◌≡◌, ℕ, suc, ◌+◌, ◌*◌, ◌-◌, ◌^◌, ◌<◌, ◌≤◌, ℤ, pos, negsuc, ◌+ℤ◌, ◌*ℤ◌, Fits, FitsSigned, SFits, to_z, of_z, w32, w64, sym, subst, ap₂, neg_ℤ, arith}
+use Rattle.std.proofs.Common.{◌≡◌, ℕ, suc, ◌*◌, ◌-◌, ◌^◌, ◌<◌, ◌≤◌, ℤ, pos, negsuc, ◌+ℤ◌, ◌*ℤ◌, Fits, FitsSigned, to_z, of_z, w32, w64, sym, subst, ap₂, neg_ℤ, arith}
 use Rattle.std.specs.Int.Signed.{mag}
 use Rattle.std.proofs.lemmas.Int.{ints, to_z-of_z}
 use Rattle.std.proofs.lemmas.Nat.{mul-le}

@@ -1,7 +1,7 @@
 -- Where the moves by a displacement lead among the vectors of a box: equal strides on, where no side is crossed that wraps around.
 use borrow.Author.Differences.{down, neg_is, up}
 use Rattle.std.proofs.Common.{◌≡◌, ◌∙◌, ◌&&◌, ℕ, nat_abs, get_or, zero, suc, ◌+◌, ◌-◌, ◌*◌, ◌/◌, ◌%◌, ◌^◌, ◌<◌, ◌≤◌, ℤ, pos, negsuc, neg_ℤ, ◌+ℤ◌, ◌*ℤ◌, Bool, true, false, cond, List, [], ◌∷◌, ◌++◌, length, map, reverse, take, drop, Some, None, refl, sym, ap, ap₂, subst, arith, true≢false}
-use Rattle.std.specs.Prelude.{◌||◌, ◌==◌, IfSome, Option}
+use Rattle.std.specs.Prelude.{◌||◌, ◌==◌, Option}
 use Rattle.std.specs.Bool.{OnTrue}
 use Rattle.std.specs.List.{All, Contains, flat_map, range_with_len, slice_get}
 use Rattle.std.proofs.lemmas.Int.{ints}
@@ -289,9 +289,3 @@ strides_more sizes ts k t s now after at so_far is put =
     let more : take (k + 1) ts ≡ take k ts ++ t ∷ [] = take_more ts k t (slice_get_within ts k t at) ∙ ap (λ u. take k ts ++ u ∷ []) (get_or_from_slice_get ts k t t at) in
     ap (map (λ (n : ℕ). pos n)) put ∙ map-append (λ (n : ℕ). pos n) now (s ∷ []) ∙ ap₂ (λ zs z. zs ++ z ∷ []) so_far is ∙ sym (map-append (stride_of sizes) (take k ts) (t ∷ []))
     ∙ ap (map (stride_of sizes)) (sym more)
-
--- a table of displacements that have an entry for each side
-pub table_wide : (sizes own : List ℕ) (left : List (List ℤ)) (r : Option (List (List ℤ))) → length sizes ≡ length own → All (λ t. length t ≡ length own) left → IfSome r (λ d. d ≡ left)
-    → IfSome r (All (λ t. length t ≡ length sizes))
-table_wide sizes own left None same wide is = tt
-table_wide sizes own left (Some d) same wide is = rw (is, same) wide

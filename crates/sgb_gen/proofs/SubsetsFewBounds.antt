@@ -1,17 +1,13 @@
 -- Pairs of subsets of at most three bounds, counted with no table.
-use Rattle.std.proofs.Common.{Option, ◌≡◌, ℕ, zero, suc, ◌+◌, ◌-◌, ◌*◌, ◌/◌, ◌%◌, ◌<◌, ◌≤◌, ◌≢◌, ◌⊎◌, min, max, Bool, cond, List, [], ◌∷◌, ◌++◌, length, drop, get_or, refl, sym, ap, ◌∙◌, arith, inl, inr, true, false, append_assoc, length-append}
+use Rattle.std.proofs.Common.{◌≡◌, ℕ, zero, suc, ◌+◌, ◌-◌, ◌*◌, ◌/◌, ◌%◌, ◌<◌, ◌≤◌, ◌≢◌, ◌⊎◌, min, max, Bool, cond, List, [], ◌∷◌, ◌++◌, length, drop, get_or, refl, sym, ap, ◌∙◌, arith, inl, inr, true, false, append_assoc, length-append}
 use Rattle.std.specs.Prelude.{◌==◌, nat_lt, if◌then◌else◌}
 use Rattle.std.proofs.lemmas.Bool.{cases_lt, cond_above, cond_below, eq-eqb, ne_eqb}
 use Rattle.std.proofs.lemmas.Bool.Decides.{nat_tests}
-use Rattle.std.specs.Option.{IfSome}
 use Rattle.std.proofs.lemmas.List.{append-nil, drop_more}
-use Rattle.std.proofs.lemmas.Option.{IfSome_then}
-use Rattle.sgb_vec.specs.Limits.{most_vertices}
-use Rattle.sgb_gen.specs.Subsets.{SubsetsData, is_wanted_size, subsets_vectors}
-use Rattle.sgb_gen.specs.inner.SubsetsPairs.{added, pairs_among, pairs_of_sums}
-use Rattle.sgb_gen.specs.inner.SubsetsSurpluses.{pairs_above, pairs_in_common, pairs_wanted, with_bit}
+use Rattle.sgb_gen.specs.Subsets.{is_wanted_size}
+use Rattle.sgb_gen.specs.inner.SubsetsPairs.{added}
+use Rattle.sgb_gen.specs.inner.SubsetsSurpluses.{pairs_above, pairs_in_common, with_bit}
 use Rattle.sgb_gen.proofs.AddedSums.{added-same, added-zeros}
-use Rattle.sgb_gen.proofs.SubsetsPairs.{pairs-few}
 
 -- ---- what the loops add
 

@@ -1,6 +1,6 @@
 //! Displacements that are kept, for walks that are made again and again.
 //!
-//! Each is also kept turned round, and with each coordinate that moves its number: of 65,536 entries that takes a few
+//! Each is also kept turned round, and with each coordinate that moves its number: of 49,152 entries that takes a few
 //! megabytes.
 ghost use Rattle.std.specs.Prelude.{◌≡◌, ◌<◌, ◌≤◌, ◌/◌, length, take, drop, nat_abs, slice_get, Some, All, IfSome};
 ghost use Rattle.sgb_vec.specs.Limits.{most_dimensions};
@@ -13,7 +13,7 @@ use std::alloc::Global;
 use std::marker::Model;
 
 // A table has at most so many entries of displacements.
-const MOST_ENTRIES: usize = 65_536;
+const MOST_ENTRIES: usize = 49_152;
 
 /// A displacement and its opposite. Contracts see the displacement.
 #[derive(Drop)]
@@ -135,7 +135,7 @@ impl Model for DisplacementTable {
 }
 
 impl DisplacementTable {
-    /// These displacements, each of so many entries. `None` where they have more than 65,536 entries, or out of memory.
+    /// These displacements, each of so many entries. `None` where they have more than 49,152 entries, or out of memory.
     pub(crate) fn new(alloc: Global, width: usize, left: Displacements) -> Option<DisplacementTable>
         requires small { All (λ t. All (λ e. nat_abs e ≤ most_piece) t) left }
         ensures { IfSome result (λ d. d ≡ left) }

@@ -20,6 +20,7 @@ mod edges;
 mod flat_boards;
 mod given;
 mod home_counts;
+mod kept;
 mod list_counts;
 mod lists;
 mod norm_counts;

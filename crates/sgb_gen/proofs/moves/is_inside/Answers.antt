@@ -1,5 +1,5 @@
 use borrow.Author.Count.{below_more}
-use Rattle.std.proofs.Common.{ℕ, ◌+◌, ◌<◌, ◌≤◌, get_or, arith}
+use Rattle.std.proofs.Common.{◌+◌, ◌<◌, ◌≤◌, get_or, arith}
 use Rattle.sgb_gen.proofs.SideEntries.{entry_less, entry_there}
 use Rattle.sgb_gen.proofs.moves.is_inside.Goals as goal
 

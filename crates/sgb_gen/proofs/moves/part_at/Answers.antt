@@ -1,4 +1,4 @@
-use Rattle.std.proofs.Common.{◌≡◌, ◌+ℤ◌, ◌*ℤ◌, pos, get_or, ap, ap₂, ◌∙◌, w32, w64, arith}
+use Rattle.std.proofs.Common.{◌+ℤ◌, ◌*ℤ◌, pos, get_or, ap, ap₂, ◌∙◌, w32, w64, arith}
 use Rattle.std.proofs.lemmas.Int.{to_z-of_z}
 use Rattle.sgb_gen.specs.Moves.{coordinate_on, is_bit_set}
 use Rattle.sgb_gen.proofs.SideEntries.{entry_less, entry_there}

@@ -1,6 +1,6 @@
 //! The lists of a board's vertices, one after another.
 //!
-//! They have their displacements in common, with their opposites. Where these are more than the table takes, or there
+//! They have their displacements in common, with their opposites. Where these are not kept (`kept`), or there
 //! is no memory, they are walked over for each vertex, from the last on. A body that built the whole graph would meet the contracts, which do
 //! not speak of room; the checks from outside see it (`great`).
 ghost use Rattle.std.specs.Prelude.{◌≡◌, ◌≤◌, ◌^◌, ◌⊎◌, [], length, pos, true, Contains, IfErr, IfNone, IfOk, IfSome, OnOk, OnErr, IsOkUnless};
@@ -105,11 +105,7 @@ impl<'a> BoardLists<'a> {
         ensures { self.new ≡ self.old }
     {
         let board = self.board;
-        let table = DisplacementTable::new(
-            links.alloc(),
-            board.family.dims(),
-            board.displacements(),
-        );
+        let table = board.kept_displacements(links.alloc());
         self.straight = lead_onward(board.wrap, &table);
         self.leaping = board.is_leaping(&table);
         self.in_order = board.is_in_order_by(&table);

@@ -246,7 +246,7 @@ impl Board {
     }
 
     // From how many places `l` steps of the displacement `t` lead to a place of the board.
-    fn starts_of_steps(&self, t: &[i32], l: u32) -> u64
+    pub(super) fn starts_of_steps(&self, t: &[i32], l: u32) -> u64
         requires dimensions { length t.now ≡ length self.now.sizes }
         ensures { result ≡ starts_product (sides_of self.now.sizes self.now.wrap) t.now l }
     {

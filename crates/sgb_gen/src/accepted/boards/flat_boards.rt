@@ -55,7 +55,7 @@ impl Board {
         if !self.is_flat() {
             return None;
         }
-        let table = DisplacementTable::new(alloc, self.family.dims(), self.displacements())?;
+        let table = self.kept_displacements(alloc)?;
         if !all_lead_onward(self.wrap, &table) {
             return None;
         }

@@ -1,4 +1,4 @@
-use Rattle.std.proofs.Common.{◌≡◌, ◌+◌, arith}
+use Rattle.std.proofs.Common.{arith}
 use Rattle.sgb_gen.proofs.accepted.boards.Board.steps_between.Goals as goal
 
 pub loop-k-init : goal.loop-k-init

@@ -1,4 +1,4 @@
-use Rattle.std.proofs.Common.{◌≡◌, ℕ, ◌+◌, ◌-◌, ◌*◌, ◌/◌, ◌<◌, ◌≤◌, ◌^◌, refl, arith}
+use Rattle.std.proofs.Common.{◌≡◌, ℕ, ◌+◌, ◌-◌, ◌*◌, ◌<◌, ◌^◌, refl, arith}
 use Rattle.std.proofs.lemmas.Nat.{div_below, mul-le}
 use Rattle.sgb_gen.proofs.accepted.boards.progressions.times_past.Goals as goal
 

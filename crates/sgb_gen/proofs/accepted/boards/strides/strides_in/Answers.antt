@@ -1,4 +1,4 @@
-use Rattle.std.proofs.Common.{◌≡◌, ◌<◌, length, sym, ◌∙◌, ap, arith, rules}
+use Rattle.std.proofs.Common.{length, sym, ◌∙◌, ap, arith, rules}
 use Rattle.std.proofs.lemmas.Option.{get_or_from_slice_get, slice_get_within}
 use Rattle.sgb_gen.specs.inner.Strides.{stride_of}
 use Rattle.sgb_gen.proofs.StrideTips.{strides_more}

@@ -1,4 +1,4 @@
-use Rattle.std.proofs.Common.{◌≡◌, ℕ, ◌-◌, ◌<◌, ◌≤◌, List, length, take, slice_set, slice_index, slice_index_or, ap, sym, subst, ◌∙◌, arith, length-set}
+use Rattle.std.proofs.Common.{◌≡◌, ℕ, ◌-◌, ◌≤◌, List, length, take, slice_set, slice_index, slice_index_or, ap, sym, ◌∙◌, arith, length-set}
 use Rattle.std.specs.List.{refill}
 use Rattle.std.proofs.lemmas.List.{get_or-set_other, take_all}
 use Rattle.sgb_gen.specs.inner.SimplexCounts.{less_at}

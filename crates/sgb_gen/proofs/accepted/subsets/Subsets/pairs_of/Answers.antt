@@ -1,7 +1,5 @@
-use Rattle.std.proofs.Common.{rules, ◌≡◌, ◌≤◌, ◌*◌, length, ap, ◌∙◌, arith}
+use Rattle.std.proofs.Common.{◌≡◌, ap, ◌∙◌, arith}
 use Rattle.std.proofs.lemmas.Option.{IfSome_then}
-use Rattle.sgb_vec.specs.Limits.{most_vertices}
-use Rattle.sgb_gen.specs.Subsets.{subsets_vectors}
 use Rattle.sgb_gen.specs.inner.SubsetsPairs.{pairs_of_sums}
 use Rattle.sgb_gen.proofs.SubsetsMovePairs.{pairs-bounded}
 use Rattle.sgb_gen.proofs.accepted.subsets.Subsets.pairs_of.Goals as goal

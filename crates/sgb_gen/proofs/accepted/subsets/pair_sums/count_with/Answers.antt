@@ -1,4 +1,4 @@
-use Rattle.std.proofs.Common.{◌≡◌, ◌+◌, ◌-◌, ◌%◌, ◌^◌, ◌<◌, ◌≤◌, ℕ, arith}
+use Rattle.std.proofs.Common.{◌≡◌, ◌+◌, ◌-◌, ◌%◌, ◌^◌, ◌<◌, ℕ, arith}
 use Rattle.sgb_gen.proofs.accepted.subsets.pair_sums.count_with.Goals as goal
 
 -- all but those of two parts, without the same of a smaller one
