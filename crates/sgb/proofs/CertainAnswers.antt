@@ -1,7 +1,11 @@
 -- What needs no memory is never out of memory.
-use Rattle.std.proofs.Common.{arith, rules, ◌≡◌, ◌≢◌, ◌⊎◌, ◌&&◌, ◌∙◌, ℕ, List, [], Bool, true, false, true≢false, Option, Result, Ok, Err, IfErr, inl, inr, refl, sym, subst, ap}
+use Rattle.std.proofs.Common.{arith, rules, ◌≡◌, ◌≢◌, ◌⊎◌, ◌&&◌, ◌<◌, ◌∙◌, ℕ, ℤ, pos, negsuc, List, [], length, Bool, true, false, true≢false, Option, Result, Ok, Err, IfErr, IfOk, inl, inr, refl, sym, subst, ap}
 use Rattle.std.specs.Result.{IsErrAnd}
 use Rattle.std.proofs.lemmas.Result.{err_from_is_err_and}
+use Rattle.sgb_vec.specs.Bounds.{simplex_of}
+use Rattle.sgb_vec.specs.Results.{and_then}
+use Rattle.sgb_vec.specs.Sizes.{Normalized}
+use Rattle.sgb_vec.specs.Sums.{BoundedSum, sum_of}
 use Rattle.sgb_vec.specs.declared.panics.Panic.{Panic}
 use Rattle.sgb_vec.specs.declared.panics.Panic.TheVariants.{NoRoom}
 use Rattle.sgb_graph.specs.Graphs.{GraphData}
@@ -11,6 +15,7 @@ use Rattle.sgb_file.specs.Devices.{AppendsUnlessFailed, Change}
 use Rattle.sgb_expr.specs.Expression.{expression_of}
 use Rattle.sgb_expr.specs.declared.expressions.Expr.{Expr}
 use Rattle.sgb_expr.specs.declared.expressions.Expr.TheVariants as expr
+use Rattle.sgb_gen.specs.declared.params.SimplexParams.{SimplexParams}
 use Rattle.sgb_gen.specs.declared.params.Generator.{Generator}
 use Rattle.sgb_gen.specs.declared.params.Generator.TheVariants as generator
 use Rattle.sgb_requests.specs.Faults.{fault_line, status_of}
@@ -26,7 +31,10 @@ use Rattle.sgb.specs.Certain.{IsCertain, IsListedAtOnce, IsPast, IsRefusedAtOnce
 use Rattle.sgb.specs.Outcomes.{answer_of, left_out, outcome_of, reads_input}
 use Rattle.sgb.specs.Runs.{IsGiven, Left}
 use Rattle.sgb_gen.specs.Generators.{IsLocalOf}
-use Rattle.sgb_gen.specs.Generators.{described, generator_value, made}
+use Rattle.sgb_gen.specs.Generators.{described, generator_value, made, vector_graph_of}
+use Rattle.sgb_gen.specs.Simplexes.{SimplexData, accepted_simplex, simplex_vector_graph}
+use Rattle.sgb_gen.specs.VectorGraphs.{HasUnitToMove}
+use Rattle.sgb_vec.proofs.FamilyLaws.{length-sum_member}
 use Rattle.sgb_gen.specs.declared.locals.Local.{Local}
 use Rattle.sgb_gen.specs.declared.locals.Local.TheVariants as local
 use Rattle.sgb_gen.specs.Boards.{BoardData}
@@ -73,7 +81,7 @@ names_refused f p refused accepted h = grind (arith, generator_other)
 -- what is listed without memory is accepted without
 listed_accepted : (f : Generator) (resume : Resume) → IsListedAtOnce f resume → IsAcceptedAtOnce f
 listed_accepted (generator.Board p) resume h = tt
-listed_accepted (generator.Simplex p) resume h = h.0
+listed_accepted (generator.Simplex p) resume h = h
 listed_accepted (generator.Subsets p) resume h = h
 
 -- where its listing needs none
@@ -82,22 +90,46 @@ pub listing_refused : (f : Generator) (resume : Resume) (p : Panic) → ((code :
 listing_refused f resume p refused accepted (inl h) = accepted (listed_accepted f resume h)
 listing_refused f resume p refused accepted (inr h) = names_refused f p refused accepted (inr h)
 
--- of a simplex memory runs out for the head alone, so not where there is none
-pub headless : {T : Type 0} (resume other : Resume) (r : Result T Fault) → IfErr r (λ g. g ≡ fault.Panic NoRoom → resume ≡ other) → resume ≢ other → IfErr r (λ g. g ≢ fault.Panic NoRoom)
-headless resume other (Ok x) simplex apart = tt
-headless resume other (Err f) simplex apart = λ none. apart (simplex none)
+-- a sum of one bound has one
+few_of_sum : (n : ℤ) (bounds : List ℕ) → length bounds < 2 → IfOk (sum_of n bounds) (λ s. length s.bounds < 2)
+few_of_sum (negsuc n) bounds few = tt
+few_of_sum (pos n) bounds few = search (rules, few)
+
+few_in_sum : (params : List ℤ) (sum : Result BoundedSum Panic) (directed : Bool) (s : SimplexData)
+    → and_then sum (λ t. Ok (record { params = params; sum = t; directed = directed })) ≡ Ok s → IfOk sum (λ t. length t.bounds < 2) → length s.sum.bounds < 2
+few_in_sum params (Err code) directed s is few = absurd cc
+few_in_sum params (Ok t) directed s is few =
+    let same : t ≡ s.sum = cc in
+    subst (λ t. length t.bounds < 2) same few
+
+-- a simplex of one bound has vectors of one entry
+few_entries : (shape : Result Normalized Panic) (n : ℤ) (directed : Bool) (s : SimplexData)
+    → and_then shape (λ shape. and_then (sum_of n shape.sizes) (λ sum. Ok (record { params = shape.params; sum = sum; directed = directed }))) ≡ Ok s
+    → IfOk shape (λ shape. length shape.sizes < 2) → length s.sum.bounds < 2
+few_entries (Err code) n directed s is few = absurd cc
+few_entries (Ok shape) n directed s is few = few_in_sum shape.params (sum_of n shape.sizes) directed s is (few_of_sum n shape.sizes few)
+
+-- of a simplex memory runs out where a unit might go to another entry, so not where there is none
+pub unmoved : {T : Type 0} (P : Type 0) (p : SimplexParams) (l : Local) (r : Result T Fault) → ((s : SimplexData) × (accepted_simplex p ≡ Ok s) × (l ≡ local.Simplex s))
+    → IfErr r (λ g. g ≡ fault.Panic NoRoom → P × HasUnitToMove (vector_graph_of l)) → IsAcceptedAtOnce (generator.Simplex p) → IfErr r (λ g. g ≢ fault.Panic NoRoom)
+unmoved P p l (Ok x) made simplex one = tt
+unmoved P p l (Err f) made simplex one = λ none.
+    let unit : HasUnitToMove (simplex_vector_graph made.0) = subst (λ l. HasUnitToMove (vector_graph_of l)) made.2 (simplex none).1 in
+    let bounds : length made.0.sum.bounds < 2 = few_entries (simplex_of p.n p.n0 p.n1 p.n2 p.n3 p.n4) p.n p.directed made.0 made.1 one in
+    absurd (omega (arith, unit.2, length-sum_member made.0.sum unit.0 unit.1, bounds))
 
 -- its listing begins nowhere, or takes no memory
 pub listing_begun : {T : Type 0} (f : Generator) (resume : Resume) (l : Local) (r : Result T Fault) → IsLocalOf (generator_value f) (Ok l) → sort_of l ≡ sort_made f
     → ((code : Panic) → IsGeneratorRefused f code → Ok l ≡ Err code)
     → (IsPast (names_of (graph_described (described l))) resume → IfErr r (λ g. g ≢ fault.Panic NoRoom))
     → (sort_of l ≡ of_subsets → IfErr r (λ g. g ≢ fault.Panic NoRoom))
-    → (sort_of l ≡ of_simplex → IfErr r (λ g. g ≡ fault.Panic NoRoom → resume ≡ resumes.Whole))
+    → (sort_of l ≡ of_simplex → IfErr r (λ g. g ≡ fault.Panic NoRoom → (resume ≡ resumes.Whole) × HasUnitToMove (vector_graph_of l)))
+    → ((p : SimplexParams) → f ≡ generator.Simplex p → (s : SimplexData) × (accepted_simplex p ≡ Ok s) × (l ≡ local.Simplex s))
     → HasListingAtOnce f resume → IfErr r (λ g. g ≢ fault.Panic NoRoom)
-listing_begun (generator.Board p) resume l r is sort refused past subsets simplex (inl from) = past (from (graph_described (described l)) (grind (arith)))
-listing_begun (generator.Simplex p) resume l r is sort refused past subsets simplex (inl h) = headless resume resumes.Whole r (simplex sort) h.1
-listing_begun (generator.Subsets p) resume l r is sort refused past subsets simplex (inl h) = subsets sort
-listing_begun f resume l r is sort refused past subsets simplex (inr h) =
+listing_begun (generator.Board p) resume l r is sort refused past subsets simplex bounds (inl from) = past (from (graph_described (described l)) (grind (arith)))
+listing_begun (generator.Simplex p) resume l r is sort refused past subsets simplex bounds (inl h) = unmoved (resume ≡ resumes.Whole) p l r (bounds p refl) (simplex sort) h
+listing_begun (generator.Subsets p) resume l r is sort refused past subsets simplex bounds (inl h) = subsets sort
+listing_begun f resume l r is sort refused past subsets simplex bounds (inr h) =
     let none = refused h.0 h.1 in
     absurd cc
 
@@ -128,12 +160,12 @@ head_asked true some = refl
 head_asked false some = absurd (some refl)
 
 -- and it is where the answer is not resumed
-pub whole_asked : {T : Type 0} (resume : Resume) (head : Bool) (r : Result T Fault) → (resume ≢ resumes.Whole → head ≡ false) → IfErr r (λ f. f ≢ fault.Write → head ≡ true)
-    → IfErr r (λ f. f ≡ fault.Panic NoRoom → resume ≡ resumes.Whole)
-whole_asked resume head (Ok x) resumed left = tt
-whole_asked resumes.Whole head (Err f) resumed left = λ none. refl
-whole_asked (resumes.Skip k) head (Err f) resumed left = λ none. absurd (true≢false (sym (left (λ write. absurd cc)) ∙ resumed (λ whole. absurd cc)))
-whole_asked (resumes.After name) head (Err f) resumed left = λ none. absurd (true≢false (sym (left (λ write. absurd cc)) ∙ resumed (λ whole. absurd cc)))
+pub whole_asked : {T : Type 0} (P : Type 0) (resume : Resume) (head : Bool) (r : Result T Fault) → (resume ≢ resumes.Whole → head ≡ false) → IfErr r (λ f. f ≢ fault.Write → (head ≡ true) × P)
+    → IfErr r (λ f. f ≡ fault.Panic NoRoom → (resume ≡ resumes.Whole) × P)
+whole_asked P resume head (Ok x) resumed left = tt
+whole_asked P resumes.Whole head (Err f) resumed left = λ none. (refl, (left (λ write. absurd cc)).1)
+whole_asked P (resumes.Skip k) head (Err f) resumed left = λ none. absurd (true≢false (sym (left (λ write. absurd cc)).0 ∙ resumed (λ whole. absurd cc)))
+whole_asked P (resumes.After name) head (Err f) resumed left = λ none. absurd (true≢false (sym (left (λ write. absurd cc)).0 ∙ resumed (λ whole. absurd cc)))
 
 -- and what was left as it was is
 pub exit_untouched : {T S : Type 0} (s : S) (r : Result T Fault) → IfErr r (λ f. f ≡ fault.Panic NoRoom → s ≡ s)

@@ -39,6 +39,10 @@ ring = generator.Board (squares (pos 0))
 abbrev line : ℤ → Generator
 line n = generator.Simplex (record { n = n; n0 = pos 1; n1 = pos 0; n2 = pos 1; n3 = pos 0; n4 = pos 0; directed = false })
 
+-- simplex(2,1,1,0,0,0,0), of two bounds
+abbrev two : Generator
+two = generator.Simplex (record { n = pos 2; n0 = pos 1; n1 = pos 1; n2 = pos 0; n3 = pos 0; n4 = pos 0; directed = false })
+
 -- subsets(2,1,0,1,0,0,0x6,0)
 abbrev sets : Generator
 sets = generator.Subsets (record { n = pos 2; n0 = pos 1; n1 = pos 0; n2 = pos 1; n3 = pos 0; n4 = pos 0; size_bits = 6; directed = false })
@@ -73,13 +77,15 @@ whole_board p g is listed = from_first (names_of g) (listed g is)
     from_first names (inl e) = absurd cc
     from_first names (inr (other, more)) = absurd (other refl)
 
--- a simplex of one bound without its head, and subsets of one bound
-pub one_bound : IsListedAtOnce (line (pos 2)) (resume.Skip 1) × IsListedAtOnce sets resume.Whole
+-- a simplex of one bound, and subsets of one bound
+pub one_bound : IsListedAtOnce (line (pos 2)) resume.Whole × IsListedAtOnce sets resume.Whole
 unfolding repeated
-one_bound = ((omega arith, λ e. absurd cc), omega arith)
+one_bound = (omega arith, omega arith)
 
-pub whole_simplex : IsListedAtOnce (line (pos 2)) resume.Whole → ⊥
-whole_simplex is = absurd (is.1 refl)
+-- of two bounds the head may want memory, and no clause knows whether there is one
+pub two_bounds : IsListedAtOnce two (resume.Skip 1) → ⊥
+unfolding repeated
+two_bounds is = absurd (omega (arith, is))
 
 -- ---- requests that need no memory
 

@@ -33,10 +33,10 @@ IsPast names resume =
     ⊎ ((resume ≢ resumes.Whole) × ((k : ℕ) × (left_out names resume ≡ Ok k) × (length names ≤ k)))
 
 -- the listing of a generator's graph takes no memory: of a board one that is to begin after a name that no vertex has, or after the
--- last vertex; of a simplex of one bound one without the head; of subsets of one bound each
+-- last vertex; of a simplex and of subsets of one bound each
 abbrev pub IsListedAtOnce : Generator → Resume → Type 0
 IsListedAtOnce (generator.Board p) resume = (g : GraphData) → made (board p) ≡ Ok g → IsPast (names_of g) resume
-IsListedAtOnce (generator.Simplex p) resume = IsAcceptedAtOnce (generator.Simplex p) × (resume ≢ resumes.Whole)
+IsListedAtOnce (generator.Simplex p) resume = IsAcceptedAtOnce (generator.Simplex p)
 IsListedAtOnce (generator.Subsets p) resume = IsAcceptedAtOnce (generator.Subsets p)
 
 -- answering the request takes no memory: random numbers, the names of a generator's graph that is accepted without memory, the

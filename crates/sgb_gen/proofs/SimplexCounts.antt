@@ -15,7 +15,7 @@ use Rattle.sgb_vec.specs.declared.panics.Panic.{Panic}
 use Rattle.sgb_vec.specs.declared.panics.Panic.TheVariants.{NoRoom}
 use Rattle.sgb_vec.proofs.Lists.{AllPairs-follows, AllPairs-map, Contains-image, Contains-passing, filter-none, never_true, passing_first}
 use Rattle.sgb_vec.proofs.SumMembers.{Contains-bounded_sums, IsWithin-length, bounded_sums-rise}
-use Rattle.sgb_gen.specs.VectorGraphs.{described_by, family_graph}
+use Rattle.sgb_gen.specs.VectorGraphs.{HasUnitToMove, described_by, family_graph}
 use Rattle.sgb_gen.specs.Simplexes.{SimplexData, Places, pairs_of_places, moves_to, moves_of_simplex, simplex_vector_graph, simplex_vectors}
 use Rattle.sgb_gen.specs.inner.Simplexes.{can_shift, moves_by}
 use Rattle.sgb_gen.specs.inner.SimplexCounts.{less_at, lowered, shifts_count, shifts_by}
@@ -136,6 +136,10 @@ moves_same bounds n [] long = refl
 moves_same bounds n (x ∷ xs) long =
     cc (All-head (λ y. length y ≡ n) x xs long, moves_same bounds n xs (All-tail (λ y. length y ≡ n) x xs long))
 
+empty : {X : Type 0} (xs : List X) → length xs ≡ 0 → xs ≡ []
+empty [] none = refl
+empty (x ∷ xs) none = absurd (omega (arith, none))
+
 -- the moves of a simplex
 pub moves-counted : (s : SimplexData) → length (moves_of_simplex s) ≡ shifts_by s.sum (pairs_of_places (length s.sum.bounds))
 unfolding moves_of_simplex
@@ -143,6 +147,19 @@ moves-counted s =
     let vectors = simplex_vectors s in
     ap length (moves_same s.sum.bounds (length s.sum.bounds) vectors (λ k d within. length_in_sum s (get_or vectors k d) (Contains-get_or vectors k d within)))
     ∙ moves-by_pairs s.sum (pairs_of_places (length s.sum.bounds))
+
+-- without vectors there are none
+pub moves-of_none : (s : SimplexData) → length (simplex_vectors s) ≡ 0 → length (moves_of_simplex s) ≡ 0
+unfolding moves_of_simplex
+moves-of_none s none = rw (empty (simplex_vectors s) none) refl
+
+-- what memory may be wanted for has a unit that might go to another entry
+pub unit_to_move : (s : SimplexData) → 0 < s.sum.total → 1 < length s.sum.bounds → 0 < length (simplex_vectors s) → HasUnitToMove (simplex_vector_graph s)
+unit_to_move s unit pair some =
+    let v = get_or (simplex_vectors s) 0 [] in
+    let member : Contains (simplex_vectors s) v = Contains-get_or (simplex_vectors s) 0 [] some in
+    let adds : sum v ≡ s.sum.total = ((Contains-bounded_sums s.sum.total s.sum.bounds v).0 member).1 in
+    (v, member, omega (arith, length_in_sum s v member, pair), omega (arith, adds, unit))
 
 -- ---- the arcs of the graph
 

@@ -1,5 +1,5 @@
 -- The graph of a family of vectors: what the graphs of board, simplex and subsets have in common [GB_BASIC].
-use Rattle.std.specs.Prelude.{ℕ, pos, Bool, List, [], ◌∷◌, ◌++◌, map, replicate, slice_index, codes, nat_eq}
+use Rattle.std.specs.Prelude.{ℕ, ◌<◌, pos, Bool, List, [], ◌∷◌, ◌++◌, length, map, replicate, slice_index, sum, codes, nat_eq}
 use Rattle.std.specs.List.{Contains, position_or_len, join_with_byte}
 use Rattle.std.specs.Cmp.Lexicographic.{pointwise}
 use Rattle.sgb_vec.specs.Names.{name_of_vector}
@@ -26,6 +26,10 @@ pub record VectorGraph : Type 0 where
   pub directed : Bool
   pub vectors : List (List ℕ)
   pub moves : List Move
+
+-- some vector has a unit, and two entries or more, between which it might go
+abbrev pub HasUnitToMove : VectorGraph → Type 0
+HasUnitToMove g = (v : List ℕ) × Contains g.vectors v × (1 < length v) × (0 < sum v)
 
 -- v and w have the same entries
 abbrev pub same_vector : List ℕ → List ℕ → Bool

@@ -13,7 +13,7 @@ ghost use Rattle.sgb_gen.specs.LocalLists.{list_in};
 ghost use Rattle.sgb_gen.specs.Simplexes.{simplex_vector_graph};
 ghost use Rattle.sgb_gen.specs.Sorts.{Sort, of_board, of_ordered_board, of_simplex, of_subsets};
 ghost use Rattle.sgb_gen.specs.Subsets.{subsets_vector_graph};
-ghost use Rattle.sgb_gen.specs.VectorGraphs.{HasEnds, VectorGraph, described_by, vertex_among};
+ghost use Rattle.sgb_gen.specs.VectorGraphs.{HasEnds, HasUnitToMove, VectorGraph, described_by, vertex_among};
 
 use crate::accepted::{BoardLists, OrderedBoard, Runs, Simplex, Strides, Subsets};
 use crate::arc_sinks::ArcSink;
@@ -51,13 +51,15 @@ pub trait Listed<'a> {
 
     /// How many arcs the graph has, where an edge counts as two. They are counted without the lists.
     ///
-    /// `NoRoom` when out of memory, and nothing else: of a board where 128 bits do not hold the number, and of subsets never.
+    /// `NoRoom` when out of memory, and nothing else: of a board where 128 bits do not hold the number, of a simplex where a
+    /// vector has a unit that might go to another entry, and of subsets never.
     /// The memory is from where that of the links comes.
     fn arcs_count(&self, links: &Links) -> Result<u128, Panic>
         ensures count { IfOk result (λ m. m ≡ (graph_described (described_by (graph self.now))).m) }
         ensures memory { IsOkUnless result Panic.NoRoom }
         ensures board { (sort self.now ≡ of_board) ⊎ (sort self.now ≡ of_ordered_board)
             → IfErr result (λ e. 2 ^ 128 ≤ (graph_described (described_by (graph self.now))).m) }
+        ensures simplex { sort self.now ≡ of_simplex → IfErr result (λ e. HasUnitToMove (graph self.now)) }
         ensures subsets { sort self.now ≡ of_subsets → IsOk result };
 
     /// Makes what all lists have in common, where there is memory for it: they are then made faster. A listing calls it once,

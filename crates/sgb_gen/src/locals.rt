@@ -6,7 +6,9 @@ ghost use Rattle.sgb_vec.specs.Limits.{most_vertices};
 ghost use Rattle.sgb_vec.specs.Names.{name_of_vector};
 ghost use Rattle.sgb_graph.specs.Made.{graph_described};
 ghost use Rattle.sgb_gen.specs.Boards.{BoardData, accepted_board};
+ghost use Rattle.sgb_gen.specs.Simplexes.{SimplexData, accepted_simplex};
 ghost use Rattle.sgb_gen.specs.declared.params.BoardParams.{BoardParams};
+ghost use Rattle.sgb_gen.specs.declared.params.SimplexParams.{SimplexParams};
 
 use crate::accepted::{Board, Simplex, Subsets};
 use crate::links::Links;
@@ -32,6 +34,8 @@ pub fn local_of(alloc: Global, generator: &Generator) -> Result<Local, Panic>
     ensures refused { (p : Panic) → IsGeneratorRefused generator.now p → result ≡ Err p }
     ensures board { (p : BoardParams) (b : BoardData) → generator.now ≡ Generator.Board p
         → accepted_board p ≡ Ok b → result ≡ Ok (Local.Board b) }
+    ensures simplex { (p : SimplexParams) → generator.now ≡ Generator.Simplex p
+        → IfOk result (λ l. (s : SimplexData) × (accepted_simplex p ≡ Ok s) × (l ≡ Local.Simplex s)) }
     ensures certain { IsAcceptedAtOnce generator.now → IfErr result (λ p. p ≢ Panic.NoRoom) }
 {
     match generator {

@@ -10,10 +10,10 @@ ghost use Rattle.sgb_file.specs.Devices.{change};
 ghost use Rattle.sgb_vec.specs.Boxes.{box};
 ghost use Rattle.sgb_vec.specs.Limits.{most_dimensions};
 ghost use Rattle.sgb_gen.specs.Boards.{board_vector_graph};
-ghost use Rattle.sgb_gen.specs.VectorGraphs.{described_by};
+ghost use Rattle.sgb_gen.specs.VectorGraphs.{HasUnitToMove, described_by};
 ghost use Rattle.sgb_graph.specs.Made.{graph_described};
 ghost use Rattle.sgb_requests.specs.declared.faults.Fault.TheVariants as fault;
-ghost use Rattle.sgb_gen.specs.Generators.{described, sort_of, vectors_of};
+ghost use Rattle.sgb_gen.specs.Generators.{described, sort_of, vector_graph_of, vectors_of};
 ghost use Rattle.sgb_gen.specs.Sorts.{of_board, of_simplex, of_subsets};
 ghost use Rattle.sgb.specs.Locals.{family_text, head_if, left_out_after};
 ghost use Rattle.sgb.specs.inner.Locals.{local_block};
@@ -43,7 +43,8 @@ use sgb_vec::{Family, Panic, Vectors};
 /// simplex the counts for the head, about a megabyte at most. What `links` holds afterwards is open.
 ///
 /// `after` is a vector of the family. `Write` where the sink failed; a prefix is then written. `Panic(NoRoom)` when out of
-/// memory, which leaves `out` as it was. Subsets take no memory, and a simplex only for its head.
+/// memory, which leaves `out` as it was. Subsets take no memory, and a simplex only for its head, where a vector has a unit
+/// that might go to another entry.
 pub fn list_family<W: Sink>(
     local: &Local,
     head: bool,
@@ -58,8 +59,8 @@ pub fn list_family<W: Sink>(
         (change W.written W.has_failed out.old out.new) result }
     ensures untouched { IfErr result (λ f. f ≢ Fault.Write → out.new ≡ out.old) }
     ensures subsets { sort_of local.now ≡ of_subsets → IfErr result (λ f. f ≡ Fault.Write) }
-    ensures simplex { sort_of local.now ≡ of_simplex
-        → IfErr result (λ f. f ≢ Fault.Write → head ≡ true) }
+    ensures simplex { sort_of local.now ≡ of_simplex → IfErr result (λ f. f ≢ Fault.Write
+        → (head ≡ true) × HasUnitToMove (vector_graph_of local.now)) }
 {
     if let Local::Board(board) = local {
         return list_board(board, head, after, links, out);
@@ -109,7 +110,7 @@ impl<'l, W: Sink> Visitor<W> for FamilyListing<'l> {
         (left_out_after g.vectors (option_map (λ x. x.now) v.after)))
         (change W.written W.has_failed old new) result
         × (sort ≡ of_subsets → IfErr result (λ f. f ≡ fault.Write))
-        × (sort ≡ of_simplex → IfErr result (λ f. f ≢ fault.Write → v.head ≡ true))
+        × (sort ≡ of_simplex → IfErr result (λ f. f ≢ fault.Write → (v.head ≡ true) × HasUnitToMove g))
         × (sort ≢ of_board → IfErr result (λ f. f ≢ fault.Write → new ≡ old)) };
 }
 
@@ -139,8 +140,8 @@ pub(super) fn list_vectors<'a, L: Listed<'a>, W: Sink>(
         (option_map (λ x. x.now) after.entry)) (L.graph listed.old).vectors ≡ []
         → IfErr result (λ f. f ≢ Fault.Panic NoRoom) }
     ensures subsets { L.sort listed.old ≡ of_subsets → IfErr result (λ f. f ≡ Fault.Write) }
-    ensures simplex { L.sort listed.old ≡ of_simplex
-        → IfErr result (λ f. f ≢ Fault.Write → head ≡ true) }
+    ensures simplex { L.sort listed.old ≡ of_simplex → IfErr result (λ f. f ≢ Fault.Write
+        → (head ≡ true) × HasUnitToMove (L.graph listed.old)) }
     ensures untouched { L.sort listed.old ≢ of_board
         → IfErr result (λ f. f ≢ Fault.Write → out.new ≡ out.old) }
 {
@@ -164,6 +165,7 @@ fn push_head_if<'a, L: Listed<'a>>(
         ++ head_if asked (graph_described (described_by (L.graph listed.now)))) }
     ensures memory { IsOkUnless result Panic.NoRoom }
     ensures none { asked ≡ false → IsOk result }
+    ensures simplex { L.sort listed.now ≡ of_simplex → IfErr result (λ e. HasUnitToMove (L.graph listed.now)) }
     ensures subsets { L.sort listed.now ≡ of_subsets → IsOk result }
 {
     if !asked {
@@ -178,6 +180,7 @@ fn push_head<'a, L: Listed<'a>>(listed: &L, links: &Links, page: &mut Page) -> R
     ensures text { OnOk result (page.new ≡ page.old
         ++ head (graph_described (described_by (L.graph listed.now)))) }
     ensures memory { IsOkUnless result Panic.NoRoom }
+    ensures simplex { L.sort listed.now ≡ of_simplex → IfErr result (λ e. HasUnitToMove (L.graph listed.now)) }
     ensures subsets { L.sort listed.now ≡ of_subsets → IsOk result }
 {
     let m = listed.arcs_count(links)?;

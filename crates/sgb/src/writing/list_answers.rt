@@ -6,9 +6,9 @@ ghost use Rattle.std.specs.Prelude.{◌≡◌, ◌≢◌, false, IfErr};
 ghost use Rattle.sgb_graph.specs.Made.{graph_described};
 ghost use Rattle.sgb_graph.specs.Vertices.{names_of};
 ghost use Rattle.sgb_gen.specs.Boards.{board_vector_graph};
-ghost use Rattle.sgb_gen.specs.Generators.{described, sort_of};
+ghost use Rattle.sgb_gen.specs.Generators.{described, sort_of, vector_graph_of};
 ghost use Rattle.sgb_gen.specs.Sorts.{of_board, of_simplex, of_subsets};
-ghost use Rattle.sgb_gen.specs.VectorGraphs.{described_by};
+ghost use Rattle.sgb_gen.specs.VectorGraphs.{HasUnitToMove, described_by};
 ghost use Rattle.sgb_requests.specs.declared.faults.Fault.TheVariants as fault;
 ghost use Rattle.sgb_requests.specs.declared.requests.Resume.TheVariants.{Whole};
 ghost use Rattle.sgb_vec.specs.declared.panics.Panic.TheVariants.{NoRoom};
@@ -39,8 +39,8 @@ pub(crate) fn write_local_list<W: Sink>(
         → IfErr result (λ f. f ≢ Fault.Panic NoRoom) }
     ensures subsets { sort_of local.now ≡ of_subsets
         → IfErr result (λ f. f ≢ Fault.Panic NoRoom) }
-    ensures simplex { sort_of local.now ≡ of_simplex
-        → IfErr result (λ f. f ≡ Fault.Panic NoRoom → resume.now ≡ Resume.Whole) }
+    ensures simplex { sort_of local.now ≡ of_simplex → IfErr result (λ f. f ≡ Fault.Panic NoRoom
+        → (resume.now ≡ Resume.Whole) × HasUnitToMove (vector_graph_of local.now)) }
     ensures untouched { IfErr result (λ f. f ≡ Fault.Panic NoRoom → out.new ≡ out.old) }
 {
     if let Local::Board(board) = local {
@@ -96,7 +96,8 @@ impl<'l, W: Sink> Visitor<W> for ListAnswer<'l> {
         × (IsPast (names_of (graph_described (described_by g))) v.resume.now
         → IfErr result (λ f. f ≢ fault.Panic NoRoom))
         × (sort ≡ of_subsets → IfErr result (λ f. f ≢ fault.Panic NoRoom))
-        × (sort ≡ of_simplex → IfErr result (λ f. f ≡ fault.Panic NoRoom → v.resume.now ≡ Whole))
+        × (sort ≡ of_simplex → IfErr result (λ f. f ≡ fault.Panic NoRoom
+        → (v.resume.now ≡ Whole) × HasUnitToMove g))
         × (sort ≢ of_board → IfErr result (λ f. f ≡ fault.Panic NoRoom → new ≡ old)) };
 }
 

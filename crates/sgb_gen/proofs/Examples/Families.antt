@@ -1,6 +1,6 @@
 -- Graphs whose vertices are vectors, and which generator they are of, evaluated.
-use Rattle.std.specs.Prelude.{◌≡◌, zero, suc, pos, false, [], ◌∷◌, refl}
-use Rattle.std.proofs.Common.{arith}
+use Rattle.std.specs.Prelude.{◌≡◌, ℕ, zero, suc, pos, false, List, [], ◌∷◌, length, sum, refl}
+use Rattle.std.proofs.Common.{ap, arith}
 use Rattle.sgb_vec.specs.Boxes.{box}
 use Rattle.sgb_vec.specs.Sums.{bounded_sums}
 use Rattle.sgb_graph.specs.Events.{list_from}
@@ -12,7 +12,7 @@ use Rattle.sgb_gen.specs.Shorthands.{complete, petersen}
 use Rattle.sgb_gen.specs.Simplexes.{SimplexData}
 use Rattle.sgb_gen.specs.Sorts.{of_board, of_simplex, of_subsets}
 use Rattle.sgb_gen.specs.Subsets.{SubsetsData}
-use Rattle.sgb_gen.specs.VectorGraphs.{HasEnds, Move, VectorGraph, fields_of_vector}
+use Rattle.sgb_gen.specs.VectorGraphs.{HasEnds, HasUnitToMove, Move, VectorGraph, fields_of_vector}
 use Rattle.sgb_gen.specs.declared.locals.Local.TheVariants as local
 use Rattle.sgb_gen.specs.declared.params.Generator.TheVariants as generator
 
@@ -34,6 +34,23 @@ no_start ((suc k, below, at), there) = absurd (omega (arith, below))
 pub no_end : HasEnds ((0 ∷ []) ∷ []) step → ⊥
 no_end (here, (zero, below, at)) = absurd cc
 no_end (here, (suc k, below, at)) = absurd (omega (arith, below))
+
+-- a graph of these vectors, without moves
+abbrev of_vectors : List (List ℕ) → VectorGraph
+of_vectors vectors = record { id = []; directed = false; vectors = vectors; moves = [] }
+
+-- the second vector has a unit, and another entry
+pub unit_of_second : HasUnitToMove (of_vectors ((0 ∷ 0 ∷ []) ∷ (0 ∷ 1 ∷ []) ∷ []))
+unit_of_second = (0 ∷ 1 ∷ [], (1, omega arith, refl), omega arith, omega arith)
+
+-- one entry has no other, and zeros have no unit
+pub one_entry_stays : HasUnitToMove (of_vectors ((2 ∷ []) ∷ [])) → ⊥
+one_entry_stays (v, (zero, below, at), pair, unit) = absurd (omega (arith, pair, ap length at))
+one_entry_stays (v, (suc k, below, at), pair, unit) = absurd (omega (arith, below))
+
+pub zeros_stay : HasUnitToMove (of_vectors ((0 ∷ 0 ∷ []) ∷ [])) → ⊥
+zeros_stay (v, (zero, below, at), pair, unit) = absurd (omega (arith, unit, ap sum at))
+zeros_stay (v, (suc k, below, at), pair, unit) = absurd (omega (arith, below))
 
 -- a path of three vertices: the later edge comes first in the list of its middle
 abbrev path : VectorGraph

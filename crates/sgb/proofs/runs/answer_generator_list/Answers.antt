@@ -9,7 +9,7 @@ pub returns-clause-certain : goal.returns-clause-certain
 returns-clause-certain g c = λ needs.
     let listed = c.write_local_list.ensures in
     listing_begun c.args.generator.now c.args.resume.now c.in_ok-local.local _ c.in_ok-local.ensures.value c.in_ok-local.ensures.sort c.in_ok-local.ensures.refused listed.past listed.subsets
-    listed.simplex needs
+    listed.simplex c.in_ok-local.ensures.simplex needs
 
 pub returns-in_err-local-clause-untouched : goal.returns-in_err-local-clause-untouched
 returns-in_err-local-clause-untouched g c = exit_untouched _ _

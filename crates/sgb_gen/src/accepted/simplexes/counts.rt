@@ -10,7 +10,7 @@ ghost use Rattle.std.specs.Prelude.{◌≡◌, ◌≤◌, ◌<◌, ◌*◌, ◌+
 ghost use Rattle.sgb_graph.specs.Made.{graph_described};
 ghost use Rattle.sgb_vec.specs.Limits.{most_dimensions, most_vertices};
 ghost use Rattle.sgb_vec.specs.Sums.{BoundedSum};
-ghost use Rattle.sgb_gen.specs.Simplexes.{simplex_vector_graph, moves_of_simplex};
+ghost use Rattle.sgb_gen.specs.Simplexes.{simplex_vector_graph, simplex_vectors, moves_of_simplex};
 ghost use Rattle.sgb_gen.specs.inner.Simplexes.{pairs_from};
 ghost use Rattle.sgb_gen.specs.VectorGraphs.{described_by};
 ghost use Rattle.sgb_gen.specs.inner.SimplexCounts.{lowered, shifts_count, shifts_by, AreKnown, IsKnown};
@@ -26,8 +26,8 @@ impl Simplex {
     /// pairs of places, with no arc made and no vector walked: where a unit can go from one place to another, the
     /// vectors are as many as those of a sum and of bounds that are one less.
     ///
-    /// `NoRoom` when out of memory, and nothing else: never because the number is too great, and never for a sum of 0 or
-    /// vectors of one entry, for which none is taken. The memory is from where that of the links comes; for each pair of
+    /// `NoRoom` when out of memory, and nothing else: never because the number is too great, and never for a sum of 0, vectors
+    /// of one entry, or no vectors, for which none is taken. The memory is from where that of the links comes; for each pair of
     /// bounds, of which there are at most sixteen, it is that of `sgb_vec::SumFamily::new`, as is the time.
     pub fn arcs_count(&self, links: &Links) -> Result<u128, Panic>
         ensures count { IfOk result (λ m.
@@ -35,6 +35,7 @@ impl Simplex {
         ensures memory { IsOkUnless result Panic.NoRoom }
         ensures some { IfErr result (λ p. 0 < self.now.sum.total) }
         ensures pair { IfErr result (λ p. 1 < length self.now.sum.bounds) }
+        ensures vertex { IfErr result (λ p. 0 < length (simplex_vectors self.now)) }
     {
         let moves = self.moves_count(links.alloc())?;
         if self.directed {
@@ -49,7 +50,11 @@ impl Simplex {
         ensures memory { IsOkUnless result Panic.NoRoom }
         ensures some { IfErr result (λ p. 0 < self.now.sum.total) }
         ensures pair { IfErr result (λ p. 1 < length self.now.sum.bounds) }
+        ensures vertex { IfErr result (λ p. 0 < length (simplex_vectors self.now)) }
     {
+        if self.family.size() == 0 {
+            return Ok(0);
+        }
         let mut known = KnownCounts::new();
         let mut counted: u64 = 0;
         for lower in 0..self.sizes().len() {

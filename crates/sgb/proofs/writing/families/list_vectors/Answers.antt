@@ -32,7 +32,7 @@ returns-in_err-push_head_if-clause-subsets g c = λ same. absurd (true≢false (
 
 pub returns-in_err-push_head_if-clause-simplex : goal.returns-in_err-push_head_if-clause-simplex
 returns-in_err-push_head_if-clause-simplex g c = λ same.
-    all_err _ c.from_residual.result (λ f other. head_asked c.args.head (λ plain. absurd (true≢false (sym (c.in_err-push_head_if.ensures.none plain)))))
+    all_err _ c.from_residual.result (λ f other. (head_asked c.args.head (λ plain. absurd (true≢false (sym (c.in_err-push_head_if.ensures.none plain)))), c.in_err-push_head_if.ensures.simplex same))
 
 pub returns-in_err-put_page-clause-subsets : goal.returns-in_err-put_page-clause-subsets
 returns-in_err-put_page-clause-subsets g c = λ same. exit_write _ _ c.from_residual-in_err-put_page.ensures.1 c.in_err-put_page.ensures.fault

@@ -39,6 +39,6 @@ returns g c =
           let (resumed, none) = none_left vectors c.args.self.resume.now begins.0 (option_map (λ vector. vector.items) c.in_ok-start.start) (option_map (λ x. x.now) c.slice_of.result) from begins.2 c.slice_of.ensures past in
           c.list_vectors.ensures.end (c.has_head.ensures.resumed resumed) (rw c.prepare.ensures.same none),
       λ same. write_certain _ (c.list_vectors.ensures.subsets (c.prepare.ensures.sort ∙ same)),
-      λ same. whole_asked c.args.self.resume.now _ _ c.has_head.ensures.resumed (c.list_vectors.ensures.simplex (c.prepare.ensures.sort ∙ same)),
+      λ same. whole_asked _ c.args.self.resume.now _ _ c.has_head.ensures.resumed (rw c.prepare.ensures.same at c.list_vectors.ensures.simplex (c.prepare.ensures.sort ∙ same)),
       λ other. room_alone _ _ (c.list_vectors.ensures.untouched (λ board. other (sym c.prepare.ensures.sort ∙ board))),
     )
