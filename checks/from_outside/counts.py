@@ -27,8 +27,8 @@ COMMON = "intersection(board(30,30,0,0,1,0,0),board(30,30,0,0,1,0,0),0,0)"
 ROWS = [
     Row("arcs of a file, each of its line; chains that lead back", ("names", "stdin"), "complete(80)", False, 5_900_000, 60, 1),
     Row("vertices of a file, each of its line", ("names", "stdin"), "board(40,40,0,0,7,0,0)", False, 1_750_000, 60, 1),
-    Row("lists that are had run by run", ("list", "board(30,30,0,0,1,0,0)"), None, False, 1_720_000, 15, 4),
-    Row("displacements in a table", ("list", "board(30,30,0,0,1,3,0)"), None, False, 1_900_000, 20, 4),
+    Row("lists that are had run by run", ("list", "board(30,30,0,0,1,0,0)"), None, False, 1_720_000, 15, 5),
+    Row("displacements in a table", ("list", "board(30,30,0,0,1,3,0)"), None, False, 1_900_000, 20, 5),
     Row("moves around a side, with no sort", ("list", "board(16,16,0,0,-1,3,0)"), None, False, 8_600_000, 30, 14),
     Row("starts that are sorted together", ("list", "board(101,0,0,0,-4,1,0)"), None, False, 18_900_000, 30, 20),
     Row("beginnings that no wanted subset has", ("list", "disjoint_subsets(13,6)"), None, False, 29_000_000, 10, 22),

@@ -1,5 +1,5 @@
 -- What needs no memory is never out of memory.
-use Rattle.std.proofs.Common.{arith, rules, ◌≡◌, ◌≢◌, ◌⊎◌, ◌&&◌, ◌<◌, ◌∙◌, ℕ, ℤ, pos, negsuc, List, [], length, Bool, true, false, true≢false, Option, Result, Ok, Err, IfErr, IfOk, inl, inr, refl, sym, subst, ap}
+use Rattle.std.proofs.Common.{arith, rules, ◌≡◌, ◌≢◌, ◌⊎◌, ◌&&◌, ◌<◌, ◌≤◌, ◌^◌, ◌∙◌, ℕ, ℤ, pos, negsuc, List, [], length, Bool, true, false, true≢false, Option, Result, Ok, Err, IfErr, IfOk, inl, inr, refl, sym, subst, ap}
 use Rattle.std.specs.Result.{IsErrAnd}
 use Rattle.std.proofs.lemmas.Result.{err_from_is_err_and}
 use Rattle.sgb_vec.specs.Bounds.{simplex_of}
@@ -25,7 +25,7 @@ use Rattle.sgb_requests.specs.declared.requests.Request.{Request}
 use Rattle.sgb_requests.specs.declared.requests.Resume.{Resume}
 use Rattle.sgb_requests.specs.declared.requests.Resume.TheVariants as resumes
 use Rattle.sgb_gen.specs.Generators.{IsAcceptedAtOnce, IsGeneratorRefused, sort_made, sort_of}
-use Rattle.sgb_gen.specs.Sorts.{of_board, of_simplex, of_subsets}
+use Rattle.sgb_gen.specs.Sorts.{Sort, of_board, of_ordered_board, of_simplex, of_subsets}
 use Rattle.sgb_values.specs.FirstRefusals.{IsRefusedFirst}
 use Rattle.sgb.specs.Certain.{IsCertain, IsListedAtOnce, IsPast, IsRefusedAtOnce, NeedsNoMemory}
 use Rattle.sgb.specs.Outcomes.{answer_of, left_out, outcome_of, reads_input}
@@ -166,6 +166,20 @@ whole_asked P resume head (Ok x) resumed left = tt
 whole_asked P resumes.Whole head (Err f) resumed left = λ none. (refl, (left (λ write. absurd cc)).1)
 whole_asked P (resumes.Skip k) head (Err f) resumed left = λ none. absurd (true≢false (sym (left (λ write. absurd cc)).0 ∙ resumed (λ whole. absurd cc)))
 whole_asked P (resumes.After name) head (Err f) resumed left = λ none. absurd (true≢false (sym (left (λ write. absurd cc)).0 ∙ resumed (λ whole. absurd cc)))
+
+-- a count that is known to be told is refused of no graph
+pub never_refused : (P : Type 0) (s : Sort) (m : ℕ) → ((s ≡ of_board) ⊎ (s ≡ of_ordered_board) → 2 ^ 128 ≤ m) → ((s ≡ of_board) ⊎ (s ≡ of_ordered_board) → m < 2 ^ 128)
+    → (s ≡ of_simplex → true ≡ false) → (s ≡ of_subsets → false ≡ true) → P
+never_refused P of_board m great small simplex subsets = absurd (omega (arith, great (inl refl), small (inl refl)))
+never_refused P of_ordered_board m great small simplex subsets = absurd (omega (arith, great (inr refl), small (inr refl)))
+never_refused P of_simplex m great small simplex subsets = absurd (true≢false (simplex refl))
+never_refused P of_subsets m great small simplex subsets = absurd (true≢false (sym (subsets refl)))
+
+-- so where a count is refused it was not known to be told
+pub told_or_unput : {P : Type 0} (told : Bool) (s : Sort) (m : ℕ) → ((s ≡ of_board) ⊎ (s ≡ of_ordered_board) → 2 ^ 128 ≤ m) → (told ≡ true → (s ≡ of_board) ⊎ (s ≡ of_ordered_board) → m < 2 ^ 128)
+    → (s ≡ of_simplex → told ≡ false) → (s ≡ of_subsets → false ≡ true) → (told ≡ false → P) → P
+told_or_unput {P} true s m great small simplex subsets later = never_refused P s m great (small refl) simplex subsets
+told_or_unput false s m great small simplex subsets later = later refl
 
 -- and what was left as it was is
 pub exit_untouched : {T S : Type 0} (s : S) (r : Result T Fault) → IfErr r (λ f. f ≡ fault.Panic NoRoom → s ≡ s)

@@ -46,3 +46,7 @@ exit_unwritten text a failed r p exit memory sound = grind (arith, err_from_is_e
 -- the exit of a `?` with the fault of a write
 pub exit_write : {T : Type 0} (r : Result T Fault) (f : Fault) → IsErrAnd r (λ g. g ≡ f) → f ≡ fault.Write → IfErr r (λ g. g ≡ fault.Write)
 exit_write r f exit is = grind (arith, err_from_is_err_and)
+
+-- the exit of a `?` with a fault of which something holds
+pub exit_kept : {T : Type 0} (P : Fault → Type 0) (r : Result T Fault) (f : Fault) → IsErrAnd r (λ g. g ≡ f) → P f → IfErr r P
+exit_kept P r f exit h = let p = err_from_is_err_and r exit in rw (p.1, p.2) h

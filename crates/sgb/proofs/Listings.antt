@@ -1,5 +1,5 @@
 -- Parts of a listing, one after the other.
-use Rattle.std.proofs.Common.{◌≡◌, ◌+◌, ◌<◌, ◌≤◌, ℕ, min, List, [], ◌++◌, length, Some, add-one, drop-cons, ap, append_assoc, arith, codes}
+use Rattle.std.proofs.Common.{◌≡◌, ◌+◌, ◌<◌, ◌≤◌, ℕ, min, List, [], ◌++◌, length, Some, add-one, drop-cons, ap, append_assoc, arith, codes, decimal}
 use Rattle.std.specs.Fmt.{signed_decimal}
 use Rattle.std.specs.List.{flat_map, slice_get, slice_index_or}
 use Rattle.std.proofs.lemmas.List.{drop_all, length-map}
@@ -8,7 +8,13 @@ use Rattle.sgb_vec.proofs.Lists.{range-first, range-none}
 use Rattle.sgb_graph.specs.declared.fields.Link.{Link}
 use Rattle.sgb_graph.specs.Graphs.{GraphData, chain_of}
 use Rattle.sgb_graph.specs.Vertices.{names_of}
-use Rattle.sgb.specs.Texts.{name_line, name_lines, arc_line, block, blocks}
+use Rattle.sgb.specs.Texts.{name_line, name_lines, arc_line, block, blocks, head_text}
+use Rattle.sgb.specs.inner.Texts.{count_text, title_text}
+
+-- a head is what stands before the number of arcs, and the rest
+pub head-parts : (id : List ℕ) (n m : ℕ) → head_text id n m ≡ title_text id n ++ count_text m
+unfolding head_text title_text count_text
+head-parts id n m = simp append_assoc
 
 -- the block of a vertex stands before those after it
 pub blocks-first : (g : GraphData) (v : ℕ) → v < length (names_of g) → blocks g v ≡ block g v ++ blocks g (v + 1)

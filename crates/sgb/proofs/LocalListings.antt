@@ -21,13 +21,14 @@ use Rattle.sgb_graph.specs.Vertices.{names_of}
 use Rattle.sgb.specs.inner.Locals.{local_block, local_line}
 use Rattle.sgb.specs.inner.Remaining.{IsRest}
 use Rattle.sgb.specs.Texts.{arc_line, block, blocks, head, head_text, name_line}
+use Rattle.sgb.specs.inner.Texts.{count_text, title_text}
 use Rattle.sgb.specs.Outcomes.{answer_from, names_answer}
 use Rattle.sgb_gen.specs.Generators.{described, made, vector_graph_of, vectors_of}
 use Rattle.sgb.specs.Writing.{Effect, IsEnded}
 use Rattle.sgb_requests.specs.declared.faults.Fault.{Fault}
 use Rattle.sgb_requests.specs.declared.requests.Resume.{Resume}
 use Rattle.sgb_gen.specs.declared.locals.Local.{Local}
-use Rattle.sgb.proofs.Listings.{block-parts, blocks-first, blocks-none}
+use Rattle.sgb.proofs.Listings.{block-parts, blocks-first, blocks-none, head-parts}
 
 -- the name at a place, or the empty one, is that of the vector there, or of the empty one
 name_there : (vectors : List (List ℕ)) (t : ℕ) → slice_index_or (map name_of_vector vectors) t [] ≡ name_of_vector (get_or vectors t [])
@@ -86,6 +87,11 @@ named_local v l members resume out r e vectors p = rw (e, named_by_members (vect
 pub head_of_graph : (g : VectorGraph) (n m : ℕ) → n ≡ length g.vectors → m ≡ (graph_described (described_by g)).m → head (graph_described (described_by g)) ≡ head_text g.id n m
 unfolding family_graph
 head_of_graph g n m size arcs = grind (arith, names_count)
+
+-- its two parts
+pub head_in_parts : (g : VectorGraph) (id : List ℕ) (n : ℕ) → id ≡ g.id → n ≡ length g.vectors → head (graph_described (described_by g)) ≡ title_text id n ++ count_text (graph_described (described_by g)).m
+head_in_parts g id n named size =
+    head_of_graph g n (graph_described (described_by g)).m size refl ∙ ap (λ i. head_text i n (graph_described (described_by g)).m) (sym named) ∙ head-parts id n (graph_described (described_by g)).m
 
 module _ (g : VectorGraph) (rise : IsRising g.vectors) (ends : All (HasEnds g.vectors) g.moves) where
   -- the block of a vertex is that of its vector

@@ -14,7 +14,7 @@ use Rattle.sgb_file.proofs.WrittenPrefixes.{prefix_none}
 use Rattle.sgb_vec.specs.declared.panics.Panic.{Panic}
 use Rattle.sgb_vec.specs.declared.panics.Panic.TheVariants.{NoRoom}
 use Rattle.sgb.specs.Writing.{IsCutOff, IsWritten}
-use Rattle.sgb.specs.inner.Pages.{IsPaged}
+use Rattle.sgb.specs.inner.Pages.{IsHeld, IsPaged}
 use Rattle.sgb.proofs.CutOff.{cut_more, exit_cut, so_far-cut, written_after}
 use Rattle.sgb_requests.specs.declared.faults.Fault.{Fault}
 use Rattle.sgb_requests.specs.declared.faults.Fault.TheVariants as fault
@@ -67,6 +67,25 @@ pub written_held : {T : Type 0} (all holds : List ℕ) (a b c : Option (List ℕ
     → IsWritten holds (record { before = b; after = c; failed = failed }) r → IsWritten all (record { before = a; after = c; failed = failed }) r
 written_held all holds a b c failed r (put, is, appended) q = rw (← is) (written_after a b c failed put holds r appended q)
 
+-- an empty page took a text that was put at once
+pub paged_put : {T : Type 0} (text holds : List ℕ) (out : Change) (r : Result T Fault) → holds ≡ [] → IsWritten text out r → IsPaged [] text holds out r
+paged_put text holds out (Ok x) none p = record { output = (text, ap (λ l. text ++ l) none ∙ append-nil text, p.output); sound = p.sound }
+paged_put text holds out (Err f) none p = p
+
+-- or that it holds
+pub paged_kept : (text holds : List ℕ) (a : Option (List ℕ)) (failed : Bool) → holds ≡ text → failed ≡ false → IsHeld text holds (record { before = a; after = a; failed = failed })
+paged_kept text holds a failed is sound = record { output = ([], is, Appends-nil a); sound = sound }
+
+-- a page took a text after others
+held_then : (all now part after : List ℕ) (a b c : Option (List ℕ)) → SoFar all now a b → SoFar (now ++ part) after b c → SoFar (all ++ part) after a c
+held_then all now part after a b c p q = grind (arith, append_assoc, Appends-trans)
+
+-- a page took a part after a text, and all is put in the end
+pub written_parts : {T : Type 0} (all text part now after : List ℕ) (a b c : Option (List ℕ)) (failed : Bool) (r : Result T Fault) → all ≡ text ++ part → SoFar text now a b → after ≡ now ++ part
+    → IsWritten after (record { before = b; after = c; failed = failed }) r → IsWritten all (record { before = a; after = c; failed = failed }) r
+written_parts all text part now after a b c failed r is p e q =
+    rw is (written_held (text ++ part) after a b c failed r (held_then text now part after a b b p ([], e, Appends-nil b)) q)
+
 -- a page that is empty takes a text from the start
 pub paged_begun : (all left page : List ℕ) (a : Option (List ℕ)) → all ≡ left → page ≡ [] → PagedSoFar all left [] page a a
 paged_begun all left page a e none = ([], sym e, ([], none, Appends-nil a))
@@ -91,10 +110,6 @@ held_two held now first second x y a b p put after = grind (arith, append_assoc)
 pub held_three : (held now first second third x y z text : List ℕ) (a b : Option (List ℕ)) → SoFar (held ++ []) now a b → first ≡ now ++ x → second ≡ first ++ y
     → third ≡ second ++ z → text ≡ x ++ (y ++ z) → SoFar (held ++ text) third a b
 held_three held now first second third x y z text a b p put then last is = grind (arith, append_assoc)
-
--- a page took a text after others
-held_then : (all now part after : List ℕ) (a b c : Option (List ℕ)) → SoFar all now a b → SoFar (now ++ part) after b c → SoFar (all ++ part) after a c
-held_then all now part after a b c p q = grind (arith, append_assoc, Appends-trans)
 
 -- a page took two texts
 pub held_both : (held x y now after : List ℕ) (a b c : Option (List ℕ)) → SoFar (held ++ x) now a b → SoFar (now ++ y) after b c → SoFar (held ++ (x ++ y)) after a c

@@ -16,15 +16,29 @@ fn main(rt: HostRuntime) -> ExitCode {
     let words = words(&rt);
     let mut source = FromRead::new(rt.stdin());
     let mut errors = ToWrite::new(rt.stderr());
-    let status = match Buffered::new(alloc, rt.stdout()) {
-        Ok(mut out) => run_program(alloc, words, &mut source, &mut out, &mut errors),
-        // No memory for the buffer is none for the words.
-        Err(error) => {
-            let mut out = ToWrite::new(rt.stdout());
-            run_program(alloc, Err(error), &mut source, &mut out, &mut errors)
+    let status = if saves(&words) {
+        match Buffered::new(alloc, rt.stdout()) {
+            Ok(mut out) => run_program(alloc, words, &mut source, &mut out, &mut errors),
+            // No memory for the buffer is none for the words.
+            Err(error) => {
+                let mut out = ToWrite::new(rt.stdout());
+                run_program(alloc, Err(error), &mut source, &mut out, &mut errors)
+            }
         }
+    } else {
+        let mut out = ToWrite::new(rt.stdout());
+        run_program(alloc, words, &mut source, &mut out, &mut errors)
     };
     ExitCode::from(status)
+}
+
+// Whether the command is `save`. The lines of a file are put one by one, into a buffer. All else is put page by page, and nothing is
+// to hold back the beginning of a head, which is put before the arcs are counted.
+fn saves(words: &io::Result<Vec<String>>) -> bool {
+    match words {
+        Ok(words) => words.len() > 1 && words[1].as_str() == "save",
+        Err(_) => false,
+    }
 }
 
 // The words of the command line.

@@ -172,3 +172,7 @@ arcs-of-undirected b e = grind (arith, arcs-undirected, length-map)
 
 pub great-moves : (b : BoardData) → 2 ^ 128 ≤ length (moves_of_board b) → 2 ^ 128 ≤ (graph_described (described_by (board_vector_graph b))).m
 great-moves b h = grind (arith, cases_Bool, arcs-of-directed, arcs-of-undirected)
+
+-- there are two for a move at most
+pub arcs-few : (b : BoardData) → (graph_described (described_by (board_vector_graph b))).m ≤ length (moves_of_board b) * 2
+arcs-few b = grind (arith, cases_Bool, arcs-of-directed, arcs-of-undirected)

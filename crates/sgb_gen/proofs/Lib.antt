@@ -48,6 +48,7 @@ mod FlatBoards
 pub mod GivenArcs
 -- how many lengths a piece moves at most
 pub mod MostLengths
+pub mod MostMoves
 -- how many arcs the edges of a displacement make
 mod BoardListCounts
 -- the moves by a displacement, row by row

@@ -1,10 +1,10 @@
 //! What a listing asks of a generator's graph, with no graph.
 //!
 //! Proofs of listings speak of a graph of vectors (`VectorGraph`), and of no generator. That of a board is listed by
-//! `BoardLists`, which makes a table only in `prepare`: names, sizes and where a listing begins take no memory; or by an
-//! `OrderedBoard`, which has room for a start, so that nothing after it wants memory. That moves have their ends among the
+//! `BoardLists`, or by an `OrderedBoard`, which has room for a start, so that nothing after it wants memory. Both make a table only
+//! in `prepare`: names, sizes, where a listing begins and the number of arcs take none. That moves have their ends among the
 //! vectors is a clause of `family` and no law: its proof would have to stand with the definitions.
-ghost use Rattle.std.specs.Prelude.{◌≡◌, ◌⊎◌, ◌≤◌, ◌^◌, length, map, pos, slice_get, true, All, Contains, IfErr, IfNone, IfOk, IfSome, IsOk, OnOk, IsOkUnless, Some};
+ghost use Rattle.std.specs.Prelude.{◌≡◌, ◌⊎◌, ◌≤◌, ◌<◌, ◌^◌, length, map, pos, slice_get, true, false, All, Contains, IfErr, IfNone, IfOk, IfSome, IsOk, OnOk, IsOkUnless, Some};
 ghost use Rattle.sgb_graph.specs.Graphs.{chain_of};
 ghost use Rattle.sgb_graph.specs.Made.{graph_described};
 ghost use Rattle.sgb_gen.specs.ArcSinks.{AreGiven};
@@ -61,6 +61,13 @@ pub trait Listed<'a> {
             → IfErr result (λ e. 2 ^ 128 ≤ (graph_described (described_by (graph self.now))).m) }
         ensures simplex { sort self.now ≡ of_simplex → IfErr result (λ e. HasUnitToMove (graph self.now)) }
         ensures subsets { sort self.now ≡ of_subsets → IsOk result };
+
+    /// Whether `arcs_count` is known to tell the number, so that something may be written before it is asked: of subsets, and of
+    /// a board where 128 bits are soon seen to hold the number; never of a simplex, which wants memory to count.
+    fn has_countable_arcs(&self) -> bool
+        ensures board { result ≡ true → (sort self.now ≡ of_board) ⊎ (sort self.now ≡ of_ordered_board)
+            → (graph_described (described_by (graph self.now))).m < 2 ^ 128 }
+        ensures simplex { sort self.now ≡ of_simplex → result ≡ false };
 
     /// Makes what all lists have in common, where there is memory for it: they are then made faster. A listing calls it once,
     /// before its first list. The memory is from where that of the links comes.
@@ -169,6 +176,10 @@ impl<'a> Listed<'a> for BoardLists<'a> {
         self.board.arcs_count(links.alloc())
     }
 
+    fn has_countable_arcs(&self) -> bool {
+        self.board.has_countable_arcs()
+    }
+
     fn prepare(&mut self, links: &Links) {
         BoardLists::prepare(self, links)
     }
@@ -232,7 +243,13 @@ impl<'a> Listed<'a> for OrderedBoard<'a> {
         self.lists.board.arcs_count(links.alloc())
     }
 
-    fn prepare(&mut self, _links: &Links) {}
+    fn has_countable_arcs(&self) -> bool {
+        self.lists.board.has_countable_arcs()
+    }
+
+    fn prepare(&mut self, links: &Links) {
+        self.lists.prepare(links)
+    }
 
     fn arcs_at(&mut self, x: &[u32], links: &mut Links) -> Result<(), Panic> {
         self.lists.arcs_at(x, links)
@@ -291,6 +308,10 @@ impl<'a> Listed<'a> for &'a Simplex {
 
     fn arcs_count(&self, links: &Links) -> Result<u128, Panic> {
         (**self).arcs_count(links)
+    }
+
+    fn has_countable_arcs(&self) -> bool {
+        false
     }
 
     fn prepare(&mut self, _links: &Links) {}
@@ -352,6 +373,10 @@ impl<'a> Listed<'a> for &'a Subsets {
 
     fn arcs_count(&self, links: &Links) -> Result<u128, Panic> {
         Ok((**self).arcs_count(links.alloc()))
+    }
+
+    fn has_countable_arcs(&self) -> bool {
+        true
     }
 
     fn prepare(&mut self, _links: &Links) {}

@@ -1,10 +1,10 @@
 //! The listing of a generator's graph, written from its vectors: one list of arcs after another, and no graph is built.
 //! The arcs are handed to the page one by one (`ArcLines`), so no list is kept. What a board wants of memory is taken before
-//! something is written (`OrderedBoard`).
+//! something is written (`OrderedBoard`); what makes its lists faster is made after the head (`prepare`).
 //!
-//! The head is put before the first list, which takes time in a great graph; the program's `Buffered` holds it until the first
-//! page comes.
-ghost use Rattle.std.specs.Prelude.{◌≡◌, ◌≢◌, ◌≤◌, ◌+◌, [], ◌++◌, false, true, drop, length, option_map, Contains, IfErr, IfSome, IsOk, IsOkUnless, OnOk};
+//! The head is put before the first list, which takes time in a great graph, and its beginning before the arcs are counted, which
+//! may take time, too. Only where the count might be refused nothing is put before it.
+ghost use Rattle.std.specs.Prelude.{◌≡◌, ◌≢◌, ◌≤◌, ◌+◌, [], false, true, drop, length, option_map, Contains, IfErr, IfSome, IsOk, OnOk};
 ghost use Rattle.std.specs.List.{flat_map};
 ghost use Rattle.sgb_file.specs.Devices.{change};
 ghost use Rattle.sgb_vec.specs.Boxes.{box};
@@ -19,7 +19,7 @@ ghost use Rattle.sgb.specs.Locals.{family_text, head_if, left_out_after};
 ghost use Rattle.sgb.specs.inner.Locals.{local_block};
 ghost use Rattle.sgb.specs.inner.Pages.{IsPaged, page_bytes};
 ghost use Rattle.sgb.specs.inner.Remaining.{IsRest};
-ghost use Rattle.sgb.specs.inner.Texts.{most_line_bytes};
+ghost use Rattle.sgb.specs.inner.Texts.{most_count_bytes, title_text};
 ghost use Rattle.sgb.specs.Texts.{head};
 ghost use Rattle.sgb_vec.specs.declared.panics.Panic.TheVariants.{NoRoom};
 ghost use Rattle.sgb.specs.Writing.{IsWritten};
@@ -28,12 +28,13 @@ ghost use Rattle.std.specs.Prelude.{IfOk};
 
 use super::kept_names::KeptName;
 use super::line_sink::ArcLines;
-use super::listing::push_head_of;
+use super::listing::{push_arcs_count, push_title};
 use super::pages::{Page, put_page};
 use super::resumed::vectors_after;
 use super::run_lines::push_block_of_runs;
 use sgb_file::Sink;
 use sgb_gen::{Board, Links, Listed, Local, Visit, Visitor};
+use sgb_graph::Id;
 use sgb_requests::Fault;
 use sgb_vec::{Family, Panic, Vectors};
 
@@ -116,7 +117,6 @@ impl<'l, W: Sink> Visitor<W> for FamilyListing<'l> {
 
 impl<'a, 'l, L: Listed<'a>, W: Sink> Visit<'a, L, W> for FamilyListing<'l> {
     fn visit(self, listed: &mut L, out: &mut W) -> Result<(), Fault> {
-        listed.prepare(self.links);
         list_vectors(listed, self.head, self.after, self.links, out)
     }
 }
@@ -147,44 +147,75 @@ pub(super) fn list_vectors<'a, L: Listed<'a>, W: Sink>(
 {
     let vectors = vectors_after(listed.family(), after);
     let mut page = Page::new();
-    push_head_if(head, listed, links, &mut page)?;
-    // The head is put before the first list, which in a great graph takes time. Of an empty page nothing is put.
-    put_page(&mut page, out)?;
+    put_head_if(head, listed, links, &mut page, out)?;
+    listed.prepare(links);
     write_blocks(listed, vectors, links, &mut page, out)
 }
 
-// Appends the head to a page where it is asked for.
-fn push_head_if<'a, L: Listed<'a>>(
+// Puts the head where it is asked for.
+fn put_head_if<'a, L: Listed<'a>, W: Sink>(
     asked: bool,
     listed: &L,
     links: &Links,
     page: &mut Page,
-) -> Result<(), Panic>
-    requires { length page.old + most_line_bytes ≤ page_bytes }
-    ensures text { OnOk result (page.new ≡ page.old
-        ++ head_if asked (graph_described (described_by (L.graph listed.now)))) }
-    ensures memory { IsOkUnless result Panic.NoRoom }
+    out: &mut W,
+) -> Result<(), Fault>
+    requires empty { page.old ≡ [] }
+    requires sound { W.has_failed out.old ≡ false }
+    ensures written { IsWritten (head_if asked (graph_described (described_by (L.graph listed.now))))
+        (change W.written W.has_failed out.old out.new) result }
+    ensures empty { OnOk result (page.new ≡ []) }
     ensures none { asked ≡ false → IsOk result }
-    ensures simplex { L.sort listed.now ≡ of_simplex → IfErr result (λ e. HasUnitToMove (L.graph listed.now)) }
-    ensures subsets { L.sort listed.now ≡ of_subsets → IsOk result }
+    ensures subsets { L.sort listed.now ≡ of_subsets → IfErr result (λ f. f ≡ Fault.Write) }
+    ensures simplex { L.sort listed.now ≡ of_simplex → IfErr result (λ f. f ≢ Fault.Write
+        → HasUnitToMove (L.graph listed.now)) }
+    ensures untouched { IfErr result (λ f. f ≢ Fault.Write → out.new ≡ out.old) }
 {
     if !asked {
         return Ok(());
     }
-    push_head(listed, links, page)
+    put_head(listed, links, page, out)
 }
 
-// Appends the head to a page. The arcs are counted first.
-fn push_head<'a, L: Listed<'a>>(listed: &L, links: &Links, page: &mut Page) -> Result<(), Panic>
-    requires { length page.old + most_line_bytes ≤ page_bytes }
-    ensures text { OnOk result (page.new ≡ page.old
-        ++ head (graph_described (described_by (L.graph listed.now)))) }
-    ensures memory { IsOkUnless result Panic.NoRoom }
-    ensures simplex { L.sort listed.now ≡ of_simplex → IfErr result (λ e. HasUnitToMove (L.graph listed.now)) }
-    ensures subsets { L.sort listed.now ≡ of_subsets → IsOk result }
+// Puts the head. It leaves before the first list, which in a great graph takes time, and what stands in it before the number of
+// arcs leaves before these are counted, where they are known to be told.
+fn put_head<'a, L: Listed<'a>, W: Sink>(
+    listed: &L,
+    links: &Links,
+    page: &mut Page,
+    out: &mut W,
+) -> Result<(), Fault>
+    requires empty { page.old ≡ [] }
+    requires sound { W.has_failed out.old ≡ false }
+    ensures written { IsWritten (head (graph_described (described_by (L.graph listed.now))))
+        (change W.written W.has_failed out.old out.new) result }
+    ensures empty { OnOk result (page.new ≡ []) }
+    ensures subsets { L.sort listed.now ≡ of_subsets → IfErr result (λ f. f ≡ Fault.Write) }
+    ensures simplex { L.sort listed.now ≡ of_simplex → IfErr result (λ f. f ≢ Fault.Write
+        → HasUnitToMove (L.graph listed.now)) }
+    ensures untouched { IfErr result (λ f. f ≢ Fault.Write → out.new ≡ out.old) }
 {
+    let is_told = listed.has_countable_arcs();
+    put_title(&listed.id(), listed.family().size(), is_told, page, out)?;
     let m = listed.arcs_count(links)?;
-    push_head_of(&listed.id(), listed.family().size(), m, page);
+    push_arcs_count(m, page);
+    put_page(page, out)
+}
+
+// Puts what stands in a head before the number of arcs; or leaves it on the page, where `now` does not ask for it.
+fn put_title<W: Sink>(id: &Id, n: u32, now: bool, page: &mut Page, out: &mut W) -> Result<(), Fault>
+    requires empty { page.old ≡ [] }
+    requires sound { W.has_failed out.old ≡ false }
+    ensures paged { IsPaged [] (title_text id.now n) page.new
+        (change W.written W.has_failed out.old out.new) result }
+    ensures room { OnOk result (length page.new + most_count_bytes ≤ page_bytes) }
+    ensures fault { IfErr result (λ f. f ≡ Fault.Write) }
+    ensures later { now ≡ false → out.new ≡ out.old }
+{
+    push_title(id, n, page);
+    if now {
+        return put_page(page, out);
+    }
     Ok(())
 }
 

@@ -104,7 +104,6 @@ impl<'l, W: Sink> Visitor<W> for ListAnswer<'l> {
 impl<'a, 'l, L: Listed<'a>, W: Sink> Visit<'a, L, W> for ListAnswer<'l> {
     fn visit(self, listed: &mut L, out: &mut W) -> Result<(), Fault> {
         let start = start_of(listed.family(), self.resume)?;
-        listed.prepare(self.links);
         list_vectors(
             listed,
             has_head(self.resume),

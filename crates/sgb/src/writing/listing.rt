@@ -7,7 +7,7 @@ ghost use Rattle.sgb.specs.Outcomes.{head_for, left_out, list_answer};
 ghost use Rattle.sgb.specs.Texts.{arc_line, block, blocks, head, head_text};
 ghost use Rattle.sgb.specs.Writing.{IsEnded, IsWritten, effect};
 ghost use Rattle.sgb.specs.inner.Pages.{IsPaged, page_bytes};
-ghost use Rattle.sgb.specs.inner.Texts.{most_line_bytes};
+ghost use Rattle.sgb.specs.inner.Texts.{count_text, most_count_bytes, most_line_bytes, title_text};
 
 use super::arc_lines::{begin_arc, end_arc};
 use super::pages::{Page, make_room, put_page};
@@ -84,15 +84,32 @@ fn push_head(graph: &Graph, page: &mut Page)
 }
 
 /// Appends what stands before the blocks of a graph of this id with `n` vertices and `m` arcs.
-pub(super) fn push_head_of(id: &Id, n: u32, m: u128, page: &mut Page)
+fn push_head_of(id: &Id, n: u32, m: u128, page: &mut Page)
     requires { length page.old + most_line_bytes ≤ page_bytes }
     ensures { page.new ≡ page.old ++ head_text id.now n m }
+{
+    push_title(id, n, page);
+    push_arcs_count(m, page);
+}
+
+/// Appends what stands before the number of arcs: the official name, and that there are `n` vertices.
+pub(super) fn push_title(id: &Id, n: u32, page: &mut Page)
+    requires { length page.old + most_line_bytes ≤ page_bytes }
+    ensures text { page.new ≡ page.old ++ title_text id.now n }
+    ensures short { length page.new + most_count_bytes ≤ page_bytes }
 {
     page.push_text(b"  The graph whose official name is\n");
     page.push_text(id.bytes());
     page.push_text(b"\n  has ");
     page.push_number(n);
     page.push_text(b" vertices and ");
+}
+
+/// Appends the number of arcs, and what stands after it.
+pub(super) fn push_arcs_count(m: u128, page: &mut Page)
+    requires { length page.old + most_count_bytes ≤ page_bytes }
+    ensures { page.new ≡ page.old ++ count_text m }
+{
     page.push_number(m);
     page.push_text(b" arcs:\n\n");
 }

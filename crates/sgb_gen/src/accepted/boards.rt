@@ -23,6 +23,7 @@ mod home_counts;
 mod kept;
 mod list_counts;
 mod lists;
+mod most_moves;
 mod norm_counts;
 mod ordered_boards;
 mod orders;

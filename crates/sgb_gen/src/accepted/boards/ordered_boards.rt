@@ -31,7 +31,8 @@ impl<'a> Model for OrderedBoard<'a> {
 }
 
 impl Board {
-    /// The board, ready to hand out the arcs of its vertices one by one, with no list kept.
+    /// The board, ready to hand out the arcs of its vertices one by one, with no list kept. There is no table of its displacements
+    /// yet (`prepare` of `Listed`), so that it takes no time.
     ///
     /// `NoRoom` when out of memory for one start, and nothing else. The memory is from where that of the links comes.
     pub fn in_order(&self, links: &Links) -> Result<OrderedBoard<'_>, Panic>
@@ -39,7 +40,7 @@ impl Board {
         ensures memory { IsOkUnless result Panic.NoRoom }
     {
         let starts = Starts::new(Vec::new(links.alloc()))?;
-        let lists = self.lists(links);
+        let lists = BoardLists::new(self);
         Ok(OrderedBoard { lists, starts })
     }
 }

@@ -23,7 +23,7 @@ returns-in_err-start g c =
 pub list_vectors-requires : goal.list_vectors-requires
 list_vectors-requires g c =
     let member = some_member c.slice_of.result (λ x. x.now) _ _ _ c.family.ensures.members c.slice_of.ensures c.in_ok-start.ensures.0 in
-    rw c.prepare.ensures.same (λ k. ((refl, tt), (member, c.requires)))
+    λ k. ((refl, tt), (member, c.requires))
 
 pub returns : goal.returns
 returns g c =
@@ -32,13 +32,12 @@ returns g c =
     let text : ℕ → List ℕ = λ k. head_for c.args.self.resume.now (head graph) ++ blocks graph k in
     let begins = rw c.family.ensures.members at c.in_ok-start.ensures.1 in
     let from = left_out_of_graph vectors c.args.self.resume.now (Ok begins.0) begins.1 in
-    let after = blocks_after vectors begins.0 (option_map (λ vector. vector.items) c.in_ok-start.start) (option_map (λ x. x.now) c.slice_of.result) begins.2 c.slice_of.ensures in
-    let written = rw c.prepare.ensures.same at c.list_vectors.ensures.written in (
-      ended_after (left_out (names_of graph) c.args.self.resume.now) begins.0 text _ _ from (rw (after, sym (c.has_head.ensures.head graph)) written),
+    let after = blocks_after vectors begins.0 (option_map (λ vector. vector.items) c.in_ok-start.start) (option_map (λ x. x.now) c.slice_of.result) begins.2 c.slice_of.ensures in (
+      ended_after (left_out (names_of graph) c.args.self.resume.now) begins.0 text _ _ from (rw (after, sym (c.has_head.ensures.head graph)) c.list_vectors.ensures.written),
       λ past.
           let (resumed, none) = none_left vectors c.args.self.resume.now begins.0 (option_map (λ vector. vector.items) c.in_ok-start.start) (option_map (λ x. x.now) c.slice_of.result) from begins.2 c.slice_of.ensures past in
-          c.list_vectors.ensures.end (c.has_head.ensures.resumed resumed) (rw c.prepare.ensures.same none),
-      λ same. write_certain _ (c.list_vectors.ensures.subsets (c.prepare.ensures.sort ∙ same)),
-      λ same. whole_asked _ c.args.self.resume.now _ _ c.has_head.ensures.resumed (rw c.prepare.ensures.same at c.list_vectors.ensures.simplex (c.prepare.ensures.sort ∙ same)),
-      λ other. room_alone _ _ (c.list_vectors.ensures.untouched (λ board. other (sym c.prepare.ensures.sort ∙ board))),
+          c.list_vectors.ensures.end (c.has_head.ensures.resumed resumed) none,
+      λ same. write_certain _ (c.list_vectors.ensures.subsets same),
+      λ same. whole_asked _ c.args.self.resume.now _ _ c.has_head.ensures.resumed (c.list_vectors.ensures.simplex same),
+      λ other. room_alone _ _ (c.list_vectors.ensures.untouched other),
     )
