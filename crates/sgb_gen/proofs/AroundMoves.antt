@@ -50,7 +50,7 @@ chosen_some true y o some is = is
 chosen_some false y o some is = absurd (true≢false (sym some ∙ ap is_some is))
 
 -- a place that is x is no place elsewhere
-at_home : (x : List ℕ) (o : Option (List ℕ)) → o ≡ Some x → cond (is_elsewhere x o) o None ≡ None
+pub at_home : (x : List ℕ) (o : Option (List ℕ)) → o ≡ Some x → cond (is_elsewhere x o) o None ≡ None
 at_home x o is = subst (λ p. cond (is_elsewhere x p) p None ≡ None) (sym is) (ap (λ c. cond (not c) (Some x) None) (same_is x))
 
 module _ (b : BoardData) (x : List ℕ) (t : List ℤ) (below : IsBelow x b.sizes) (long : length t ≡ length b.sizes) (free : (k : ℕ) → k < length t → stops_at b.wrap t k ≡ false) where

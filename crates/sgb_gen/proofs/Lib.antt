@@ -48,6 +48,9 @@ mod FlatBoards
 pub mod GivenArcs
 -- how many lengths a piece moves at most
 pub mod MostLengths
+-- by whatever displacement
+pub mod RideLengths
+-- how many moves a board has at most
 pub mod MostMoves
 -- how many arcs the edges of a displacement make
 mod BoardListCounts

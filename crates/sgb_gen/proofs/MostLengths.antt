@@ -57,11 +57,15 @@ module _ (b : BoardData) (x : List ℕ) (t : List ℤ) where
       let n = longest_move (sides_of b.sizes b.wrap) b.piece in
       omega (arith, arcs_until, until_few x (destination (sides_of b.sizes b.wrap) b.piece x t) (range_with_len 1 n), length-range_with_len 1 n)
 
-  -- nor than lead to a place
-  pub within_place : (k : ℕ) → place (sides_of b.sizes b.wrap) x t (k + 1) ≡ None → length (arcs_from b x t) ≤ k
-  within_place k out =
+  -- nor than come before one that leads nowhere
+  pub within_nowhere : (k : ℕ) → destination (sides_of b.sizes b.wrap) b.piece x t (k + 1) ≡ None → length (arcs_from b x t) ≤ k
+  within_nowhere k none =
       let same : 1 + k ≡ k + 1 = omega arith in
-      omega (arith, arcs_until, until_out x (destination (sides_of b.sizes b.wrap) b.piece x t) 1 (longest_move (sides_of b.sizes b.wrap) b.piece) k (subst (λ l. destination (sides_of b.sizes b.wrap) b.piece x t l ≡ None) (sym same) (nowhere b.piece)))
+      omega (arith, arcs_until, until_out x (destination (sides_of b.sizes b.wrap) b.piece x t) 1 (longest_move (sides_of b.sizes b.wrap) b.piece) k (subst (λ l. destination (sides_of b.sizes b.wrap) b.piece x t l ≡ None) (sym same) none))
+
+  -- nor than come before one that leads to no place
+  pub within_place : (k : ℕ) → place (sides_of b.sizes b.wrap) x t (k + 1) ≡ None → length (arcs_from b x t) ≤ k
+  within_place k out = within_nowhere k (nowhere b.piece)
     where
       nowhere : (piece : ℤ) → destination (sides_of b.sizes b.wrap) piece x t (k + 1) ≡ None
       nowhere (pos p) = out
@@ -79,7 +83,7 @@ out_by n a u below far = grind (arith, ints, negsuc, cond-false, ltb, le-ltb)
 steps_abs : (w : Bool) (l : ℕ) (u : ℤ) → stops_on w u ≡ true → nat_abs (pos l *ℤ u) ≡ l * nat_abs u
 steps_abs w l u stop = grind (arith, true≢false, ints)
 
-out_on : (w : Bool) (n a l : ℕ) (u : ℤ) → a < n → stops_on w u ≡ true → n ≤ l * nat_abs u → coordinate_on (record { size = n; wraps = w }) (pos a +ℤ pos l *ℤ u) ≡ None
+pub out_on : (w : Bool) (n a l : ℕ) (u : ℤ) → a < n → stops_on w u ≡ true → n ≤ l * nat_abs u → coordinate_on (record { size = n; wraps = w }) (pos a +ℤ pos l *ℤ u) ≡ None
 out_on true n a l u below stop far = absurd (true≢false (sym stop))
 out_on false n a l u below stop far = out_by n a (pos l *ℤ u) below (omega (arith, far, steps_abs false l u stop))
 

@@ -1,26 +1,31 @@
 -- How many moves a board has at most, told with none of them made: by places, lengths and displacements.
-use Rattle.std.proofs.Common.{◌≡◌, ◌⊎◌, ℕ, zero, suc, ◌+◌, ◌-◌, ◌*◌, ◌^◌, ◌<◌, ◌≤◌, ℤ, pos, negsuc, nat_abs, Bool, true, false, cond, leb, eqb, List, [], ◌∷◌, length, map, get_or, replicate, refl, sym, ap, subst, ◌∙◌, inl, inr, arith, length-append}
-use Rattle.std.proofs.Math.Nat.{pow-suc, pow-zero}
+use Rattle.std.proofs.Common.{◌≡◌, ◌⊎◌, ℕ, zero, suc, ◌+◌, ◌-◌, ◌*◌, ◌^◌, ◌<◌, ◌≤◌, ℤ, pos, negsuc, nat_abs, Bool, true, false, cond, leb, eqb, List, [], ◌∷◌, length, map, get_or, min, drop, drop-cons, sym, ap, subst, ◌∙◌, inl, inr, arith, length-append}
+use Rattle.std.proofs.Math.Nat.{pow-zero}
 use Rattle.std.specs.List.{All, filter, flat_map, range_with_len}
 use Rattle.std.proofs.lemmas.Bool.{cases_Bool, cases_lt}
 use Rattle.std.proofs.lemmas.Bool.Decides.{nat_tests}
-use Rattle.std.proofs.lemmas.List.{length-map, length-replicate}
+use Rattle.std.proofs.lemmas.List.{drop_all, length-drop, length-map}
+use Rattle.std.proofs.lemmas.List.Elements.{Contains-get_or}
 use Rattle.std.proofs.lemmas.List.Concat.{length-flat_map}
 use Rattle.std.proofs.lemmas.List.FromFn.{length-range_with_len}
 use Rattle.std.proofs.lemmas.List.Sums.{sum_by-le}
-use Rattle.std.proofs.lemmas.Nat.{mul-le, mul-pow}
-use Rattle.sgb_vec.specs.Boxes.{box, product_of}
+use Rattle.std.proofs.lemmas.Nat.{mul-le}
+use Rattle.sgb_vec.specs.Boxes.{box}
+use Rattle.sgb_vec.specs.Lexicographic.{IsBelow}
+use Rattle.sgb_vec.proofs.BoxPlaces.{IsBelow-from_Contains}
 use Rattle.sgb_gen.specs.Boards.{BoardData, moves_of_board}
-use Rattle.sgb_gen.specs.Displacements.{displacements, signings, sum_of_squares, tail_signings, vectors_of_norm}
-use Rattle.sgb_gen.specs.Moves.{board_moves, moves_from, sides_of}
-use Rattle.sgb_gen.specs.inner.EntryBounds.{vectors_within}
+use Rattle.sgb_gen.specs.Displacements.{signings, sum_of_squares, tail_signings, vectors_of_norm}
+use Rattle.sgb_gen.specs.Moves.{moves_from, sides_of}
+use Rattle.sgb_gen.specs.inner.EntryBounds.{displacements_within, vectors_within}
+use Rattle.sgb_gen.specs.inner.LaterDisplacements.{completions}
 use Rattle.sgb_gen.specs.inner.LocalBoards.{move_arc, moves_by}
-use Rattle.sgb_gen.specs.inner.Moves.{longest_move}
-use Rattle.sgb_gen.proofs.AllVectors.{rows-cut}
-use Rattle.sgb_gen.proofs.DisplacementLengths.{vector_lengths}
-use Rattle.sgb_gen.proofs.MostLengths.{within_longest}
+use Rattle.sgb_gen.specs.inner.StraightLists.{arcs_from}
+use Rattle.sgb_gen.proofs.AllVectors.{flat_map-same, rows-cut, vectors_within-completions}
+use Rattle.sgb_gen.proofs.BoundedMoves.{bounds_of, length-entry_bounds, moves_within}
+use Rattle.sgb_gen.proofs.Completions.{row}
+use Rattle.sgb_gen.proofs.DisplacementLengths.{displacement_lengths, vector_lengths}
 use Rattle.sgb_gen.proofs.NormCounts.{next-square}
-use Rattle.sgb_gen.proofs.NormSums.{norm-rows, norm_row, norm-within}
+use Rattle.sgb_gen.proofs.NormSums.{norm-completions, norm_row}
 
 -- lists of no more than m elements each
 few_each : {X Y : Type 0} (f : X → List Y) (m : ℕ) (xs : List X) → All (λ x. length (f x) ≤ m) xs → length (flat_map f xs) ≤ length xs * m
@@ -69,12 +74,6 @@ no_vector s some = left_out (λ v. eqb (sum_of_squares v) s) [] (grind (arith, n
     left_out : (p : List ℕ → Bool) (v : List ℕ) → p v ≡ false → filter p (v ∷ []) ≡ []
     left_out p v out = grind (arith, filter, cond, out)
 
-flipped : (a b : ℕ) → a * b ≡ b * a
-flipped a b = grind (arith)
-
-power_more : (k d : ℕ) → k ^ suc d ≡ k * k ^ d
-power_more k d = pow-suc k d ∙ flipped (k ^ d) k
-
 row_few : (s d x m : ℕ) → length (vectors_of_norm (s - x * x) d) ≤ m → length (norm_row s d x) ≤ m
 row_few s d x m few = by_case (leb (x * x) s)
   where
@@ -110,66 +109,136 @@ square_once s a (suc n) =
           (λ near. rows-cut (norm_row s 0) (a + 1) 0 n (omega arith) (λ x far. past s a x near far)) (cases_lt s (a * a)) (cases_lt (a * a) s),
     )
 
--- of the entries before the last one each is below k, and they tell the last one
-vectors_few : (d s k : ℕ) → s < k * k → length (vectors_of_norm s (suc d)) ≤ k ^ d
-vectors_few zero s k small = omega (arith, pow-zero k, ap length (norm-rows s 0), square_once s 0 (s + 1))
-vectors_few (suc d) s k small =
-    let each : (x : ℕ) → length (norm_row s (suc d) x) ≤ k ^ d = λ x. row_few s (suc d) x (k ^ d) (vectors_few d (s - x * x) k (omega (arith, small))) in
-    elim (cases_lt s k) [
+-- ---- vectors within bounds
+
+-- how many entries there may be before the last one, each below k and no greater than its bound
+abbrev pub entries_below : ℕ → List ℕ → ℕ
+entries_below k [] = 1
+entries_below k (b ∷ []) = 1
+entries_below k (b ∷ c ∷ bs) = min k (b + 1) * entries_below k (c ∷ bs)
+
+within_few : (bs : List ℕ) (r m x : ℕ) → length (completions bs (r - x * x) 0) ≤ m → length (row bs r x) ≤ m
+within_few bs r m x few = by_case (leb (x * x) r)
+  where
+    by_case : (b : Bool) → length (cond b (map (λ v. x ∷ v) (completions bs (r - x * x) 0)) []) ≤ m
+    by_case true = omega (arith, few, length-map (completions bs (r - x * x) 0) (λ v. x ∷ v))
+    by_case false = omega arith
+
+none_within : (r : ℕ) → length (completions [] r 0) ≤ 1
+unfolding completions
+none_within r = by_case (eqb r 0)
+  where
+    by_case : (b : Bool) → length {A = List ℕ} (cond b ([] ∷ []) []) ≤ 1
+    by_case true = omega arith
+    by_case false = omega arith
+
+-- with one bound they are among those of one entry
+one_within : (b r : ℕ) → length (completions (b ∷ []) r 0) ≤ 1
+unfolding completions
+one_within b r =
+    let same : flat_map (row [] r) (range_with_len 0 (b + 1 - 0)) ≡ flat_map (norm_row r 0) (range_with_len 0 (b + 1 - 0)) =
+    flat_map-same (row [] r) (norm_row r 0) (λ x. ap (λ vs. cond (leb (x * x) r) (map (λ v. x ∷ v) vs) []) (sym (norm-completions (r - x * x) 0))) (range_with_len 0 (b + 1 - 0)) in
+    omega (arith, ap length same, square_once r 0 (b + 1 - 0))
+
+times_length : (a n m : ℕ) → length (range_with_len a n) * m ≡ n * m
+times_length a n m = ap (λ l. l * m) (length-range_with_len a n)
+
+rows_few : (b : ℕ) (bs : List ℕ) (r k m : ℕ) → r < k * k → ((x : ℕ) → length (completions bs (r - x * x) 0) ≤ m) → length (completions (b ∷ bs) r 0) ≤ min k (b + 1) * m
+unfolding completions
+rows_few b bs r k m small few =
+    let each : (x : ℕ) → length (row bs r x) ≤ m = λ x. within_few bs r m x (few x) in
+    let all : b + 1 - 0 ≡ b + 1 = omega arith in
+    elim (cases_lt b k) [
       | inl less ↦
-          omega (
-            arith,
-            power_more k d,
-            ap length (norm-rows s (suc d)),
-            few_all (norm_row s (suc d)) (k ^ d) (range_with_len 0 (s + 1)) each,
-            ap (λ n. n * k ^ d) (length-range_with_len 0 (s + 1)),
-            mul-le (s + 1) (k ^ d) k (k ^ d) (omega (arith, less)) (omega arith),
-          )
+          let least : min k (b + 1) ≡ b + 1 = omega (arith, less) in
+          omega (arith, ap (λ n. n * m) least, ap (λ n. n * m) all, few_all (row bs r) m (range_with_len 0 (b + 1 - 0)) each, times_length 0 (b + 1 - 0) m)
       | inr more ↦
-          let past : (x : ℕ) → 0 + k ≤ x → norm_row s (suc d) x ≡ [] = λ x far. grind (arith, small, mul-le, nat_tests) in
-          omega (arith, power_more k d, ap length (norm-rows s (suc d) ∙ rows-cut (norm_row s (suc d)) 0 k (s + 1) (omega (arith, more)) past), few_all (norm_row s (suc d)) (k ^ d) (range_with_len 0 k) each, ap (λ n. n * k ^ d) (length-range_with_len 0 k))
+          let least : min k (b + 1) ≡ k = omega (arith, more) in
+          let past : (x : ℕ) → 0 + k ≤ x → row bs r x ≡ [] = λ x far. grind (arith, small, mul-le, nat_tests) in
+          omega (arith, ap (λ n. n * m) least, ap length (rows-cut (row bs r) 0 k (b + 1 - 0) (omega (arith, more)) past), few_all (row bs r) m (range_with_len 0 k) each, times_length 0 k m)
     ]
+
+completions_few : (bs : List ℕ) (r k : ℕ) → r < k * k → length (completions bs r 0) ≤ entries_below k bs
+completions_few [] r k small = none_within r
+completions_few (b ∷ []) r k small = one_within b r
+completions_few (b ∷ c ∷ bs) r k small = rows_few b (c ∷ bs) r k (entries_below k (c ∷ bs)) small (λ x. completions_few (c ∷ bs) (r - x * x) k (omega (arith, small)))
+
+-- these, each with both signs
+abbrev pub signed_below : ℕ → List ℕ → ℕ
+signed_below k bs = entries_below k bs * 2 ^ length bs
+
+pub signed_none : (k : ℕ) → signed_below k [] ≡ 1
+signed_none k = omega (arith, pow-zero 2)
+
+regrouped : (a b c : ℕ) → a * b * (2 * c) ≡ a * 2 * (b * c)
+regrouped a b c = grind (arith)
+
+-- those on the first side, and those on the others
+signed_first : (k b : ℕ) (bs : List ℕ) → 0 < length bs → signed_below k (b ∷ bs) ≡ min k (b + 1) * 2 * signed_below k bs
+signed_first k b [] some = absurd (omega (arith, some))
+signed_first k b (c ∷ bs) some =
+    ap (λ n. min k (b + 1) * entries_below k (c ∷ bs) * n) (twice (length (c ∷ bs))) ∙ regrouped (min k (b + 1)) (entries_below k (c ∷ bs)) (2 ^ length (c ∷ bs))
+
+signed_last : (k b : ℕ) (bs : List ℕ) → length bs ≡ 0 → signed_below k (b ∷ bs) ≡ 1 * 2 * signed_below k bs
+signed_last k b [] none = omega (arith, pow-zero 2, twice 0)
+signed_last k b (c ∷ bs) none = absurd (omega (arith, none))
+
+here_and_on : (bs : List ℕ) (j : ℕ) → j < length bs → drop j bs ≡ get_or bs j 0 ∷ drop (j + 1) bs
+here_and_on bs j within = drop-cons bs j 0 within ∙ ap (λ n. get_or bs j 0 ∷ drop n bs) {x = suc j} {y = j + 1} (omega arith)
+
+-- side by side
+pub signed_step : (k j e : ℕ) (bs : List ℕ) → j < length bs → (j + 1 < length bs → e ≡ min k (get_or bs j 0 + 1)) → (j + 1 ≡ length bs → e ≡ 1)
+    → signed_below k (drop j bs) ≡ e * 2 * signed_below k (drop (j + 1) bs)
+signed_step k j e bs within more last =
+    let rest = drop (j + 1) bs in
+    ap (signed_below k) (here_and_on bs j within) ∙ elim (cases_lt (j + 1) (length bs)) [
+      | inl less ↦ signed_first k (get_or bs j 0) rest (omega (arith, length-drop (j + 1) bs, less)) ∙ ap (λ n. n * 2 * signed_below k rest) (sym (more less))
+      | inr none ↦ signed_last k (get_or bs j 0) rest (omega (arith, length-drop (j + 1) bs, none)) ∙ ap (λ n. n * 2 * signed_below k rest) (sym (last (omega (arith, within, none))))
+    ]
+
+pub taken_in : (m most k j e : ℕ) (bs : List ℕ) → m ≤ most * signed_below k (drop j bs) → signed_below k (drop j bs) ≡ e * 2 * signed_below k (drop (j + 1) bs) → m ≤ most * (e * 2) * signed_below k (drop (j + 1) bs)
+taken_in m most k j e bs few is = omega (arith, few, ap (λ n. most * n) is, grouped most (e * 2) (signed_below k (drop (j + 1) bs)))
+  where
+    grouped : (a b c : ℕ) → a * (b * c) ≡ a * b * c
+    grouped a b c = grind (arith)
+
+pub all_in : (m most k j : ℕ) (bs : List ℕ) → length bs ≤ j → m ≤ most * signed_below k (drop j bs) → m ≤ most
+all_in m most k j bs past few = omega (arith, few, ap (λ l. most * signed_below k l) (drop_all j bs past), ap (λ n. most * n) (signed_none k))
 
 -- ---- displacements
 
-turned : (a b : ℕ) → a * (2 * b) ≡ a * b * 2
-turned a b = grind (arith)
-
-displacements_few : (d p k : ℕ) → p < k * k → length (displacements p d) ≤ (k * 2) ^ (d - 1) * 2
-unfolding displacements
-displacements_few d p k small =
-    let long : All (λ v. length v ≡ d) (vectors_of_norm p d) = rw (norm-within p d) (subst (λ n. All (λ v. length v ≡ n) (vectors_within p (replicate d p))) (length-replicate d p) (vector_lengths p (replicate d p))) in
-    let each : All (λ v. length (signings v) ≤ 2 ^ d) (vectors_of_norm p d) =
-    λ i o within. subst (λ n. length (signings (get_or (vectors_of_norm p d) i o)) ≤ 2 ^ n) (long i o within) (signings_few (get_or (vectors_of_norm p d) i o)) in
-    by_case d (few_each signings (2 ^ d) (vectors_of_norm p d) each)
-  where
-    by_case : (d : ℕ) → length (flat_map signings (vectors_of_norm p d)) ≤ length (vectors_of_norm p d) * 2 ^ d → length (flat_map signings (vectors_of_norm p d)) ≤ (k * 2) ^ (d - 1) * 2
-    by_case zero few = omega (arith, few, one_vector p, pow-zero (k * 2), ap (λ n. (k * 2) ^ n) {x = 0 - 1} {y = 0} (omega arith))
-    by_case (suc d) few =
-        let less : suc d - 1 ≡ d = omega arith in
-        let most : length (vectors_of_norm p (suc d)) * 2 ^ suc d ≤ k ^ d * 2 ^ suc d = mul-le _ (2 ^ suc d) _ (2 ^ suc d) (vectors_few d p k small) (omega arith) in
-        let whole : k ^ d * 2 ^ suc d ≡ (k * 2) ^ d * 2 = ap (λ n. k ^ d * n) (twice d) ∙ turned (k ^ d) (2 ^ d) ∙ ap (λ n. n * 2) (sym (mul-pow k 2 d)) in
-        omega (arith, few, most, whole, ap (λ n. (k * 2) ^ n) less)
+displacements_few : (bs : List ℕ) (p k : ℕ) → p < k * k → length (displacements_within p bs) ≤ signed_below k bs
+unfolding displacements_within
+displacements_few bs p k small =
+    let each : All (λ v. length (signings v) ≤ 2 ^ length bs) (vectors_within p bs) =
+    λ i o within. subst (λ n. length (signings (get_or (vectors_within p bs) i o)) ≤ 2 ^ n) (vector_lengths p bs i o within) (signings_few (get_or (vectors_within p bs) i o)) in
+    let vectors : length (vectors_within p bs) ≤ entries_below k bs = omega (arith, ap length (vectors_within-completions p bs), completions_few bs p k small) in
+    omega (arith, few_each signings (2 ^ length bs) (vectors_within p bs) each, mul-le _ (2 ^ length bs) _ (2 ^ length bs) vectors (omega arith))
 
 -- ---- moves
 
-fourfold : (a b : ℕ) → a * 4 * b ≡ a * 2 * b * 2
-fourfold a b = grind (arith)
+doubled : (a b : ℕ) → a * b * 2 ≡ b * 2 * a
+doubled a b = grind (arith)
+
+-- no more than so many arcs lead from any vertex by one displacement
+abbrev pub LeadFew : BoardData → ℕ → Type 0
+LeadFew b most = (x : List ℕ) → (t : List ℤ) → IsBelow x b.sizes → length t ≡ length b.sizes → length (arcs_from b x t) ≤ most
 
 module _ (b : BoardData) where
-  moves_by_few : (t : List ℤ) → length (moves_by (sides_of b.sizes b.wrap) b.piece (box b.sizes) t) ≤ length (box b.sizes) * longest_move (sides_of b.sizes b.wrap) b.piece
-  moves_by_few t =
+  moves_by_few : (t : List ℤ) (most : ℕ) → length t ≡ length b.sizes → LeadFew b most → length (moves_by (sides_of b.sizes b.wrap) b.piece (box b.sizes) t) ≤ length (box b.sizes) * most
+  moves_by_few t most long few =
       let sides = sides_of b.sizes b.wrap in
-      few_all (λ y. moves_from sides b.piece y t) (longest_move sides b.piece) (box b.sizes) (λ y. omega (arith, within_longest b y t, length-map (moves_from sides b.piece y t) move_arc))
-
-  moves_few : (k p : ℕ) → p ≡ nat_abs b.piece → p < k * k → length (moves_of_board b) ≤ (k * 2) ^ (length b.sizes - 1) * 2 * (length (box b.sizes) * longest_move (sides_of b.sizes b.wrap) b.piece)
-  unfolding board_moves
-  moves_few k p is small =
-      let sides = sides_of b.sizes b.wrap in
-      let most = length (box b.sizes) * longest_move sides b.piece in
-      let few = few_all (moves_by sides b.piece (box b.sizes)) most (displacements (nat_abs b.piece) (length b.sizes)) moves_by_few in
-      omega (arith, few, mul-le _ most _ most (displacements_few (length b.sizes) (nat_abs b.piece) k (omega (arith, is, small))) (omega arith))
+      few_each (λ y. moves_from sides b.piece y t) most (box b.sizes)
+      (λ i o within. let y = get_or (box b.sizes) i o in
+      omega (arith, few y t (IsBelow-from_Contains b.sizes y (Contains-get_or (box b.sizes) i o within)) long, length-map (moves_from sides b.piece y t) move_arc))
 
   -- an edge counts as two arcs
-  pub twice_few : (k p : ℕ) → p ≡ nat_abs b.piece → p < k * k → length (moves_of_board b) * 2 ≤ (k * 2) ^ (length b.sizes - 1) * 4 * (length (box b.sizes) * longest_move (sides_of b.sizes b.wrap) b.piece)
-  twice_few k p is small = omega (arith, moves_few k p is small, fourfold ((k * 2) ^ (length b.sizes - 1)) (length (box b.sizes) * longest_move (sides_of b.sizes b.wrap) b.piece))
+  pub twice_few : (k p most : ℕ) → p ≡ nat_abs b.piece → p < k * k → LeadFew b most → length (moves_of_board b) * 2 ≤ length (box b.sizes) * most * 2 * signed_below k (bounds_of b)
+  twice_few k p most is small lead =
+      let sides = sides_of b.sizes b.wrap in
+      let places = length (box b.sizes) * most in
+      let ts = displacements_within (nat_abs b.piece) (bounds_of b) in
+      let long : (i : ℕ) (o : List ℤ) → i < length ts → length (get_or ts i o) ≡ length b.sizes = λ i o within. displacement_lengths (nat_abs b.piece) (bounds_of b) i o within ∙ length-entry_bounds (nat_abs b.piece) b.sizes b.wrap in
+      let few = few_each (moves_by sides b.piece (box b.sizes)) places ts (λ i o within. moves_by_few (get_or ts i o) most (long i o within) lead) in
+      let all = mul-le _ places _ places (displacements_few (bounds_of b) (nat_abs b.piece) k (omega (arith, is, small))) (omega arith) in
+      omega (arith, ap length (moves_within b), few, all, doubled (signed_below k (bounds_of b)) places)

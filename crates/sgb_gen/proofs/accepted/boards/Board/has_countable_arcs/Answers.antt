@@ -1,4 +1,4 @@
-use Rattle.std.proofs.Common.{rules, ◌≡◌, ◌<◌, ◌^◌, ℕ, Bool, true, false, Option, Some, None, arith}
+use Rattle.std.proofs.Common.{rules}
 use Rattle.sgb_gen.proofs.BoardCountsBoards.{arcs-few}
 use Rattle.sgb_gen.proofs.accepted.boards.Board.has_countable_arcs.Goals as goal
 
