@@ -46,8 +46,8 @@ def read(path):
         return file.read()
 
 
-# the one function of sgb_text is there for sgb_file
-WITHOUT_PAGE = {"sgb_text"}
+# the one function of sgb_text is there for sgb_file, and the lower parts of sgb_gen and of sgb_ops are there for these alone
+WITHOUT_PAGE = {"sgb_text", "sgb_moves", "sgb_taken"}
 
 
 def libraries():

@@ -13,12 +13,12 @@ use Rattle.sgb_graph.specs.Graphs.{GraphData, arc_record, numbers_from}
 use Rattle.sgb_graph.specs.Ids.{double_compound_id}
 use Rattle.sgb_graph.specs.Made.{graph_described}
 use Rattle.sgb_gen.specs.Boards.{board_id}
-use Rattle.sgb_gen.specs.Displacements.{displacements, vectors_of_norm}
-use Rattle.sgb_gen.specs.Moves.{board_moves}
+use Rattle.sgb_moves.specs.Displacements.{displacements, vectors_of_norm}
+use Rattle.sgb_moves.specs.Moves.{board_moves}
 use Rattle.sgb_gen.specs.Simplexes.{simplex_id, moves_of_simplex}
 use Rattle.sgb_gen.specs.VectorGraphs.{family_graph}
 use Rattle.sgb_ops.specs.Merged.{merged}
-use Rattle.sgb_ops.specs.Taken.{each_edge_once}
+use Rattle.sgb_taken.specs.Taken.{each_edge_once}
 use Rattle.sgb_file.proofs.Examples.GraphFiles.{one_cell}
 use Rattle.sgb_expr.specs.Expression.{Stdin}
 use Rattle.sgb_expr.specs.declared.expressions.Expr.{Expr}

@@ -13,9 +13,9 @@ use Rattle.sgb_graph.specs.Events.{list_from}
 use Rattle.sgb_graph.specs.Graphs.{GraphData}
 use Rattle.sgb_graph.specs.Vertices.{names_of}
 use Rattle.sgb_gen.specs.Boards.{board, board_id}
-use Rattle.sgb_gen.specs.Displacements.{displacements, vectors_of_norm}
+use Rattle.sgb_moves.specs.Displacements.{displacements, vectors_of_norm}
 use Rattle.sgb_gen.specs.Generators.{made}
-use Rattle.sgb_gen.specs.Moves.{board_moves}
+use Rattle.sgb_moves.specs.Moves.{board_moves}
 use Rattle.sgb_gen.specs.VectorGraphs.{family_graph}
 use Rattle.sgb_gen.specs.declared.params.BoardParams.{BoardParams}
 use Rattle.sgb_gen.specs.declared.params.Generator.{Generator}

@@ -14,7 +14,8 @@ use Rattle.sgb_graph.specs.Graphs.{GraphData, chain_of}
 use Rattle.sgb_graph.specs.Made.{graph_described}
 use Rattle.sgb_gen.specs.LocalLists.{LocalArc, list_at, local_arc}
 use Rattle.sgb_gen.proofs.FamilyWalks.{first_in_drop}
-use Rattle.sgb_gen.specs.VectorGraphs.{HasEnds, Move, VectorGraph, described_by, event_among, family_graph}
+use Rattle.sgb_moves.specs.VectorMoves.{Move}
+use Rattle.sgb_gen.specs.VectorGraphs.{HasEnds, VectorGraph, described_by, event_among, family_graph}
 use Rattle.sgb_gen.proofs.RisingVectors.{vertex_in_rising}
 use Rattle.sgb_gen.proofs.VectorVertices.{lists_of_graph, named_by_members, named_by_vectors, names_count}
 use Rattle.sgb_graph.specs.Vertices.{names_of}

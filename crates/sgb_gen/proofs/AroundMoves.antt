@@ -6,18 +6,18 @@ use Rattle.std.proofs.lemmas.Bool.{lt-ltb}
 use Rattle.std.proofs.lemmas.Int.{ints}
 use Rattle.sgb_vec.specs.Lexicographic.{IsBelow}
 use Rattle.sgb_gen.specs.Boards.{BoardData}
-use Rattle.sgb_gen.specs.MovedCoordinates.{parts_of, parts_put}
-use Rattle.sgb_gen.specs.Moves.{coordinate_on, in_front, is_bit_set, is_elsewhere, place, sides_from_bit, sides_of}
+use Rattle.sgb_moves.specs.MovedCoordinates.{parts_of, parts_put}
+use Rattle.sgb_moves.specs.Moves.{coordinate_on, in_front, is_bit_set, is_elsewhere, place, sides_from_bit, sides_of}
 use Rattle.sgb_gen.specs.Runs.{arc_along}
 use Rattle.sgb_gen.specs.inner.BoardCounts.{comes_home, stops_at, stops_on}
 use Rattle.sgb_gen.specs.inner.LocalBoards.{move_arc}
-use Rattle.sgb_gen.specs.inner.Moves.{destination}
+use Rattle.sgb_moves.specs.inner.Moves.{destination}
 use Rattle.sgb_gen.proofs.BoardCountsHome.{home-to}
 use Rattle.sgb_gen.proofs.BoardCountsLengths.{going}
 use Rattle.sgb_gen.proofs.BoardWalks.{longest, moves_of}
-use Rattle.sgb_gen.proofs.MovedCoordinates.{place_by_parts}
+use Rattle.sgb_moves.proofs.MovedCoordinates.{place_by_parts}
 use Rattle.sgb_gen.proofs.StraightMoves.{arcs_to, on_sides}
-use Rattle.sgb_gen.proofs.TurnedMoves.{side_itself}
+use Rattle.sgb_moves.proofs.TurnedMoves.{side_itself}
 use Rattle.sgb_gen.proofs.Vertices.{same_is}
 
 -- a coordinate that its side does not stop

@@ -15,13 +15,14 @@ use Rattle.sgb_vec.proofs.Lists.{All-reverse, AllPairs-append, AllPairs-follows,
 use Rattle.sgb_gen.specs.Boards.{BoardData}
 use Rattle.sgb_gen.specs.inner.LocalBoards.{arcs_onward, edge_arcs, move_arc, moves_by, other_starts, starts_of}
 use Rattle.sgb_gen.specs.LocalLists.{LocalArc}
-use Rattle.sgb_gen.specs.Moves.{LeadsTo, Side, moves_from, opposite, sides_of}
-use Rattle.sgb_gen.specs.inner.Moves.{destination}
-use Rattle.sgb_gen.specs.VectorGraphs.{Move, vertex_among}
+use Rattle.sgb_moves.specs.Moves.{LeadsTo, Side, moves_from, opposite, sides_of}
+use Rattle.sgb_moves.specs.inner.Moves.{destination}
+use Rattle.sgb_moves.specs.VectorMoves.{Move}
+use Rattle.sgb_gen.specs.VectorGraphs.{vertex_among}
 use Rattle.sgb_gen.proofs.MovesInOrder.{all_lead, lengths_rise, move_there}
 use Rattle.sgb_gen.proofs.TouchingMoves.{IsEarlier, below, first_less, in_order_same, leads_there, onward_by_touching, second_less, starts_touch, touching, touching_found}
 use Rattle.sgb_gen.proofs.Reaches.{move}
-use Rattle.sgb_gen.proofs.TurnedMoves.{moves_turned}
+use Rattle.sgb_moves.proofs.TurnedMoves.{moves_turned}
 use Rattle.sgb_gen.proofs.Vertices.{other_is}
 
 -- what is made of elements in the other order

@@ -17,11 +17,11 @@ use Rattle.sgb_vec.proofs.BoxPlaces.{IsBelow-from_Contains, length-box}
 use Rattle.sgb_vec.proofs.Products.{factors-pos}
 use Rattle.sgb_gen.specs.Boards.{BoardData, board_vector_graph, moves_of_board}
 use Rattle.sgb_gen.specs.VectorGraphs.{described_by, family_graph}
-use Rattle.sgb_gen.specs.Moves.{Side, is_bit_set, sides_from_bit, sides_of, place}
+use Rattle.sgb_moves.specs.Moves.{Side, is_bit_set, sides_from_bit, sides_of, place}
 use Rattle.sgb_gen.specs.inner.BoardCounts.{starts_on, is_home_on, starts_product, is_home, comes_home, starts_count}
 use Rattle.sgb_gen.specs.inner.LocalBoards.{moves_by}
-use Rattle.sgb_gen.specs.inner.Moves.{longest_move}
-use Rattle.sgb_gen.proofs.AllVectors.{flat_map-same}
+use Rattle.sgb_moves.specs.inner.Moves.{longest_move}
+use Rattle.sgb_moves.proofs.AllVectors.{flat_map-same}
 use Rattle.sgb_gen.proofs.BoardCountsLengths.{moves_left, starts-home, starts-going, left-first, left-none, onward-end}
 use Rattle.sgb_gen.proofs.BoardCountsStarts.{passing, starts-product}
 use Rattle.sgb_gen.proofs.Reaches.{sizes_of_sides, moves_until, moves_from-until, rides}

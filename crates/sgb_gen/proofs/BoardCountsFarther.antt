@@ -4,7 +4,7 @@ use Rattle.std.specs.Int.{int_rem_euclid}
 use Rattle.std.proofs.lemmas.Bool.{cases_lt, cond-true, lt-ltb, cond-false, le-ltb}
 use Rattle.std.proofs.lemmas.Int.{ints}
 use Rattle.sgb_vec.specs.Lexicographic.{IsBelow}
-use Rattle.sgb_gen.specs.Moves.{Side, within_size, coordinate_on, in_front, place}
+use Rattle.sgb_moves.specs.Moves.{Side, within_size, coordinate_on, in_front, place}
 use Rattle.sgb_gen.proofs.BoundedMoves.{in_front-none}
 
 -- what is not within a side

@@ -5,9 +5,9 @@ use Rattle.std.specs.Int.{int_rem_euclid}
 use Rattle.std.proofs.lemmas.Bool.{cond-true, lt-ltb, eqb-true, eq-eqb, and_parts, and_from, cases_lt, cond-false, le-ltb}
 use Rattle.std.proofs.lemmas.Int.{ints}
 use Rattle.sgb_vec.specs.Lexicographic.{IsBelow}
-use Rattle.sgb_gen.specs.Moves.{Side, coordinate_on, place}
+use Rattle.sgb_moves.specs.Moves.{Side, coordinate_on, place}
 use Rattle.sgb_gen.specs.inner.BoardCounts.{is_home_on, is_home}
-use Rattle.sgb_gen.proofs.TurnedMoves.{in_front-parts, rem-moved}
+use Rattle.sgb_moves.proofs.TurnedMoves.{in_front-parts, rem-moved}
 
 -- ---- one side
 

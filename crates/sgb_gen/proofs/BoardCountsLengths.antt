@@ -8,10 +8,10 @@ use Rattle.std.proofs.lemmas.Bool.{cases_Bool}
 use Rattle.std.proofs.lemmas.List.Elements.{All-head, All-tail, All-weaker}
 use Rattle.sgb_vec.specs.Lexicographic.{IsBelow}
 use Rattle.sgb_vec.proofs.Lists.{passing_first}
-use Rattle.sgb_gen.specs.Moves.{Side, place}
-use Rattle.sgb_gen.specs.VectorGraphs.{same_vector}
+use Rattle.sgb_moves.specs.Moves.{Side, place}
+use Rattle.sgb_moves.specs.VectorMoves.{same_vector}
 use Rattle.sgb_gen.specs.inner.BoardCounts.{comes_home, starts_count}
-use Rattle.sgb_gen.specs.inner.Moves.{destination}
+use Rattle.sgb_moves.specs.inner.Moves.{destination}
 use Rattle.sgb_gen.proofs.BoardCountsFarther.{farther}
 use Rattle.sgb_gen.proofs.BoardCountsHome.{home-to, home-from}
 use Rattle.sgb_gen.proofs.BoardCountsStarts.{passing}

@@ -9,9 +9,9 @@ use Rattle.std.proofs.lemmas.List.Elements.{filter-append}
 use Rattle.std.proofs.lemmas.List.FromFn.{length-range_with_len}
 use Rattle.sgb_vec.specs.Boxes.{box}
 use Rattle.sgb_vec.proofs.Lists.{passing_first}
-use Rattle.sgb_gen.specs.Moves.{Side, within_size, coordinate_on, in_front, place}
+use Rattle.sgb_moves.specs.Moves.{Side, within_size, coordinate_on, in_front, place}
 use Rattle.sgb_gen.specs.inner.BoardCounts.{starts_product}
-use Rattle.sgb_gen.proofs.BoundedMoves.{on_side}
+use Rattle.sgb_moves.proofs.BoundsSoFar.{on_side}
 
 -- how many of them pass
 abbrev pub passing : {X : Type 0} → (X → Bool) → List X → ℕ

@@ -7,10 +7,10 @@ use Rattle.sgb_graph.specs.Events.{Event}
 use Rattle.sgb_graph.specs.Graphs.{GraphData}
 use Rattle.sgb_graph.specs.Growth.{AddsEvents}
 use Rattle.sgb_gen.specs.Boards.{BoardData, moves_of_board}
-use Rattle.sgb_gen.specs.Displacements.{displacements}
+use Rattle.sgb_moves.specs.Displacements.{displacements}
 use Rattle.sgb_gen.specs.VectorGraphs.{event_among, vertex_among}
-use Rattle.sgb_gen.specs.Moves.{sides_of, moves_from, board_moves}
-use Rattle.sgb_gen.proofs.AllVectors.{flat_map-same}
+use Rattle.sgb_moves.specs.Moves.{sides_of, moves_from, board_moves}
+use Rattle.sgb_moves.proofs.AllVectors.{flat_map-same}
 use Rattle.sgb_gen.proofs.FamilyWalks.{map-flat_map}
 use Rattle.sgb_gen.proofs.Vertices.{vertex_in_box}
 use Rattle.sgb_gen.proofs.BoardWalks.{leads, longest, moves_left, left-all, left-out, left-next, led_nowhere, led_to}

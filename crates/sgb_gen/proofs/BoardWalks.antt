@@ -8,10 +8,11 @@ use Rattle.std.proofs.lemmas.List.Elements.{length_all_zip}
 use Rattle.sgb_vec.specs.Boxes.{box}
 use Rattle.sgb_vec.specs.Lexicographic.{IsBelow}
 use Rattle.sgb_gen.specs.Boards.{BoardData}
-use Rattle.sgb_gen.specs.Moves.{sides_of, moves_from}
-use Rattle.sgb_gen.specs.VectorGraphs.{Move, vertex_among}
+use Rattle.sgb_moves.specs.Moves.{sides_of, moves_from}
+use Rattle.sgb_moves.specs.VectorMoves.{Move}
+use Rattle.sgb_gen.specs.VectorGraphs.{vertex_among}
 use Rattle.sgb_gen.specs.inner.LocalBoards.{other_starts}
-use Rattle.sgb_gen.specs.inner.Moves.{destination, longest_move}
+use Rattle.sgb_moves.specs.inner.Moves.{destination, longest_move}
 use Rattle.sgb_gen.proofs.Reaches.{destination-below, move, moves_until, moves_from-until}
 
 -- where a piece moves on a board

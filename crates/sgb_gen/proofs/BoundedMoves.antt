@@ -1,65 +1,42 @@
 -- A displacement with an entry above its bound leads to no place of a board, so the moves of a board are those by the
 -- displacements within the bounds. So it is with the bounds of one vector, and what leads from there.
 use Rattle.std.proofs.lemmas.Nat.{mul-le}
-use Rattle.std.proofs.Common.{append_assoc, length-append, ◌≡◌, ℕ, zero, suc, ◌+◌, ◌-◌, ◌<◌, ◌≤◌, max, min, ℤ, pos, negsuc, ◌+ℤ◌, ◌*ℤ◌, nat_abs, Bool, true, false, true≢false, ◌&&◌, cond, eqb, ltb, List, [], ◌∷◌, ◌++◌, length, map, replicate, get_or, drop, Option, Some, None, refl, sym, ap, subst, ◌∙◌, inl, inr, arith}
+use Rattle.std.proofs.Common.{◌≡◌, ℕ, zero, suc, ◌+◌, ◌-◌, ◌<◌, ◌≤◌, max, min, ℤ, pos, negsuc, ◌+ℤ◌, ◌*ℤ◌, nat_abs, Bool, true, false, true≢false, ◌&&◌, cond, eqb, ltb, List, [], ◌∷◌, ◌++◌, length, map, replicate, get_or, Option, None, refl, sym, ap, subst, ◌∙◌, inl, inr, arith}
 use Rattle.std.specs.List.{filter, flat_map, range_with_len}
-use Rattle.std.specs.Option.{is_some, option_map_or}
-use Rattle.std.proofs.lemmas.Bool.{cases_Bool, cases_lt, cond-true, cond-false, lt-ltb, le-ltb, eqb-true}
+use Rattle.std.specs.Option.{option_map_or}
+use Rattle.std.proofs.lemmas.Bool.{cases_Bool, cases_lt, cond-false, le-ltb, eqb-true}
 use Rattle.std.proofs.lemmas.Bool.Decides.{nat_tests}
 use Rattle.std.proofs.lemmas.Grind.{flat_map-append}
 use Rattle.std.proofs.lemmas.Int.{ints}
-use Rattle.std.proofs.lemmas.List.{at_drop_more, get_or-map, get_or-replicate, length-map, length-replicate}
-use Rattle.std.proofs.lemmas.List.Elements.{length_all_zip, AllZip-get_or, Contains-get_or}
+use Rattle.std.proofs.lemmas.List.{get_or-map, get_or-replicate, length-map, length-replicate}
+use Rattle.std.proofs.lemmas.List.Elements.{AllZip-get_or, Contains-get_or}
 use Rattle.std.proofs.lemmas.List.Folds.{flat_map-map}
 use Rattle.sgb_vec.specs.Boxes.{box}
 use Rattle.sgb_vec.specs.Lexicographic.{IsBelow, IsWithin}
 use Rattle.sgb_vec.proofs.BoxPlaces.{IsBelow-from_Contains}
 use Rattle.sgb_vec.proofs.SumMembers.{IsWithin-length}
 use Rattle.sgb_gen.specs.Boards.{BoardData, moves_of_board}
-use Rattle.sgb_gen.specs.Displacements.{signings, sum_of_squares, vectors_of_norm, displacements}
-use Rattle.sgb_gen.specs.inner.EntryBounds.{entry_bound, entry_bounds, near_bound, near_bounds, vectors_within, displacements_within}
-use Rattle.sgb_gen.specs.Moves.{Side, is_bit_set, sides_from_bit, sides_of, within_size, coordinate_on, in_front, is_elsewhere, place, moves_from, board_moves}
-use Rattle.sgb_gen.specs.inner.LaterDisplacements.{is_signed}
-use Rattle.sgb_gen.specs.inner.Moves.{destination, longest_move}
+use Rattle.sgb_moves.specs.Displacements.{signings, sum_of_squares, vectors_of_norm, displacements}
+use Rattle.sgb_moves.specs.inner.EntryBounds.{entry_bound, entry_bounds, near_bound, near_bounds, vectors_within, displacements_within}
+use Rattle.sgb_moves.specs.Moves.{Side, is_bit_set, sides_from_bit, sides_of, within_size, coordinate_on, in_front, is_elsewhere, place, moves_from, board_moves}
+use Rattle.sgb_moves.specs.inner.LaterDisplacements.{is_signed}
+use Rattle.sgb_moves.specs.inner.Moves.{destination, longest_move}
 use Rattle.sgb_gen.specs.inner.LocalBoards.{moves_by}
 use Rattle.sgb_gen.specs.VectorGraphs.{event_among}
-use Rattle.sgb_gen.proofs.AllVectors.{flat_map-same, rows-cut}
+use Rattle.sgb_moves.proofs.AllVectors.{flat_map-same, rows-cut}
 use Rattle.sgb_gen.proofs.BoardEvents.{events_by, events_by-moves, events_of}
-use Rattle.sgb_gen.proofs.Completions.{squares-cons}
+use Rattle.sgb_moves.proofs.Completions.{squares-cons}
 use Rattle.sgb_gen.proofs.DisplacementLengths.{signings-signed, signings-sizes}
-use Rattle.sgb_gen.proofs.NextSignings.{sizes_of}
+use Rattle.sgb_moves.proofs.NextSignings.{sizes_of}
 use Rattle.sgb_gen.proofs.Reaches.{sizes_of_sides, move, moves_until, moves_from-until}
 use Rattle.sgb_vec.proofs.Lists.{flat_map-none}
 
 -- ---- the bounds, side by side
 
--- the bounds that are known, one for each of the first k sides, and those of the other sides are all
-pub record AreBoundsSoFar (p : ℕ) (sizes : List ℕ) (wrap : ℤ) (k : ℕ) (known : List ℕ) : Type 0 where
-  pub count : length known ≡ k
-  pub whole : known ++ entry_bounds p (sides_from_bit k (drop k sizes) wrap) ≡ entry_bounds p (sides_of sizes wrap)
-
 -- a bound for each size
 pub length-entry_bounds : (p : ℕ) (sizes : List ℕ) (wrap : ℤ) → length (entry_bounds p (sides_of sizes wrap)) ≡ length sizes
 length-entry_bounds p sizes wrap =
     cc (length-map (sides_of sizes wrap) (entry_bound p), length-map (sides_of sizes wrap) (λ s. s.size), sizes_of_sides 0 sizes wrap)
-
--- the same of one vector
-pub record AreNearSoFar (onward up : Bool) (p : ℕ) (sizes : List ℕ) (wrap : ℤ) (x : List ℕ) (k : ℕ) (known : List ℕ) : Type 0 where
-  pub count : length known ≡ k
-  pub whole : known ++ near_bounds up p (sides_from_bit k (drop k sizes) wrap) (drop k x) ≡ near_bounds onward p (sides_of sizes wrap) x
-
-pub near_more : (onward up : Bool) (p : ℕ) (sizes : List ℕ) (wrap : ℤ) (x : List ℕ) (k : ℕ) (known : List ℕ) (w : Bool) (bound : ℕ) → IsBelow x sizes → k < length sizes → w ≡ is_bit_set wrap k
-    → bound ≡ near_bound up p (record { size = get_or sizes k 0; wraps = w }) (get_or x k 0) → AreNearSoFar onward up p sizes wrap x k known → AreNearSoFar onward (up && eqb bound 0) p sizes wrap x (k + 1) (known ++ bound ∷ [])
-near_more onward up p sizes wrap x k known w bound below h bit is s =
-    let rest : ℕ → List ℕ = λ b. b ∷ near_bounds (up && eqb b 0) p (sides_from_bit (k + 1) (drop (k + 1) sizes) wrap) (drop (k + 1) x) in
-    let own = is ∙ ap (λ v. near_bound up p (record { size = get_or sizes k 0; wraps = v }) (get_or x k 0)) bit in
-    let step =
-    at_drop_more (λ s. near_bounds up p (sides_from_bit k s wrap) (drop k x)) sizes k 0 h
-    ∙ at_drop_more (near_bounds up p (sides_from_bit k (get_or sizes k 0 ∷ drop (k + 1) sizes) wrap)) x k 0 (omega (arith, h, length_all_zip (λ z n. z < n) x sizes below)) in
-    record {
-      count = omega (arith, length-append known (bound ∷ []), s.count);
-      whole = append_assoc known (bound ∷ []) (near_bounds (up && eqb bound 0) p (sides_from_bit (k + 1) (drop (k + 1) sizes) wrap) (drop (k + 1) x)) ∙ ap (λ b. known ++ rest b) own ∙ ap (λ l. known ++ l) (sym step) ∙ s.whole;
-    }
 
 -- no entry of a vector's bounds is above that of all
 near_within : (up : Bool) (p k : ℕ) (sizes : List ℕ) (wrap : ℤ) (x : List ℕ) → IsBelow x sizes → IsWithin (near_bounds up p (sides_from_bit k sizes wrap) x) (entry_bounds p (sides_from_bit k sizes wrap))
@@ -72,10 +49,6 @@ pub length-near_bounds : (up : Bool) (p : ℕ) (sizes : List ℕ) (wrap : ℤ) (
 length-near_bounds up p sizes wrap x below = IsWithin-length _ _ (near_within up p 0 sizes wrap x below) ∙ length-entry_bounds p sizes wrap
 
 -- ---- off the board
-
--- a coordinate that is below the size, and one that is not
-pub on_side : (n y : ℕ) → y < n → is_some (within_size n (pos y)) ≡ true
-on_side n y h = ap is_some (cond-true (ltb y n) (Some y) None (lt-ltb y n h))
 
 -- a step longer than the room on both sides leads off it
 off_side : (n z : ℕ) (u : ℤ) → z < n → max z (n - 1 - z) < nat_abs u → within_size n (pos z +ℤ pos 1 *ℤ u) ≡ None

@@ -4,7 +4,7 @@ use Rattle.std.specs.Int.{int_rem_euclid}
 use Rattle.std.proofs.lemmas.Bool.{cases_lt, cond-true, cond-false, lt-ltb, le-ltb}
 use Rattle.std.proofs.lemmas.Nat.{mod_below}
 use Rattle.sgb_vec.specs.Lexicographic.{IsBelow}
-use Rattle.sgb_gen.specs.Moves.{Side, within_size, coordinate_on, in_front, place}
+use Rattle.sgb_moves.specs.Moves.{Side, within_size, coordinate_on, in_front, place}
 
 -- a coordinate on a side is below its size
 chosen_below : (wraps : Bool) (n : ℕ) (y : ℤ) (c : ℕ) → 0 < n → cond wraps (Some (nat_abs (int_rem_euclid y (pos n)))) (within_size n y) ≡ Some c → c < n

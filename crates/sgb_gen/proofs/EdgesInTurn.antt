@@ -7,7 +7,7 @@ use Rattle.std.proofs.lemmas.Grind.{flat_map-append}
 use Rattle.std.proofs.lemmas.Option.{get_or_from_slice_get, slice_get_within}
 use Rattle.std.proofs.lemmas.Bool.{cases_Bool}
 use Rattle.sgb_gen.specs.LocalLists.{LocalArc}
-use Rattle.sgb_gen.specs.VectorGraphs.{same_vector}
+use Rattle.sgb_moves.specs.VectorMoves.{same_vector}
 use Rattle.sgb_gen.specs.inner.LocalBoards.{edge_arcs}
 
 -- the arcs by one edge: both of them are the same where it leads to x itself

@@ -16,10 +16,11 @@ use Rattle.sgb_vec.proofs.BoxPlaces.{IsBelow-from_Contains}
 use Rattle.sgb_vec.proofs.FamilyLaws.{box_vectors_rise}
 use Rattle.sgb_gen.specs.Boards.{BoardData}
 use Rattle.sgb_gen.specs.LocalLists.{LocalArc}
-use Rattle.sgb_gen.specs.MovedCoordinates.{parts_from, parts_of}
-use Rattle.sgb_gen.specs.Moves.{Side, coordinate_on, is_bit_set, opposite, place, sides_from_bit, sides_of}
+use Rattle.sgb_moves.specs.MovedCoordinates.{parts_from, parts_of}
+use Rattle.sgb_moves.specs.Moves.{Side, coordinate_on, is_bit_set, opposite, place, sides_from_bit, sides_of}
 use Rattle.sgb_gen.specs.Runs.{arc_along, arcs_along}
-use Rattle.sgb_gen.specs.VectorGraphs.{Move, vertex_among}
+use Rattle.sgb_moves.specs.VectorMoves.{Move}
+use Rattle.sgb_gen.specs.VectorGraphs.{vertex_among}
 use Rattle.sgb_gen.specs.inner.LocalBoards.{arcs_onward, move_arc, moves_by}
 use Rattle.sgb_gen.specs.inner.StraightLists.{GoesAroundOnce, arcs_from}
 use Rattle.sgb_gen.proofs.AroundStarts.{Falls, Leads, ahead, around_in_order, behind}
@@ -28,7 +29,7 @@ use Rattle.sgb_gen.proofs.OnwardMoves.{some_length}
 use Rattle.sgb_gen.proofs.OrderedLists.{before_at}
 use Rattle.sgb_gen.proofs.StrideTips.{within_is}
 use Rattle.sgb_gen.proofs.TouchingMoves.{below, vector_there}
-use Rattle.sgb_gen.proofs.TurnedMoves.{in_front-parts, side_itself}
+use Rattle.sgb_moves.proofs.TurnedMoves.{in_front-parts, side_itself}
 
 -- ---- a place by its coordinates
 

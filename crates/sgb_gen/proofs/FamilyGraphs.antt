@@ -17,7 +17,8 @@ use Rattle.sgb_graph.proofs.Lists.{map-map}
 use Rattle.sgb_graph.specs.Growth.{AddsEvents}
 use Rattle.sgb_gen.specs.inner.VectorGraphs.{HasCoordinates}
 use Rattle.sgb_graph.specs.Graphs.{HasNoFields}
-use Rattle.sgb_gen.specs.VectorGraphs.{Move, event_among, family_graph}
+use Rattle.sgb_moves.specs.VectorMoves.{Move}
+use Rattle.sgb_gen.specs.VectorGraphs.{event_among, family_graph}
 
 -- no fields are used where only arcs were added
 pub fields_unused : (vectors : List (List ℕ)) (directed : Bool) (old new : GraphData) (events : List Event) → old ≡ new_graph (map name_of_vector vectors) → AddsEvents directed old new events → map (λ v. v.util) new.vertices ≡ map (λ v. no_fields) vectors

@@ -15,11 +15,12 @@ use Rattle.sgb_graph.specs.Graphs.{chain_of}
 use Rattle.sgb_graph.specs.Made.{graph_described}
 use Rattle.sgb_graph.specs.declared.fields.Link.{Link}
 use Rattle.sgb_gen.specs.Boards.{BoardData, board_vector_graph, moves_of_board}
-use Rattle.sgb_gen.specs.Moves.{moves_from, sides_of}
-use Rattle.sgb_gen.specs.VectorGraphs.{HasEnds, Move, described_by, event_among, vertex_among}
-use Rattle.sgb_gen.specs.inner.EntryBounds.{displacements_within}
+use Rattle.sgb_moves.specs.Moves.{moves_from, sides_of}
+use Rattle.sgb_moves.specs.VectorMoves.{Move}
+use Rattle.sgb_gen.specs.VectorGraphs.{HasEnds, described_by, event_among, vertex_among}
+use Rattle.sgb_moves.specs.inner.EntryBounds.{displacements_within}
 use Rattle.sgb_gen.specs.inner.LocalBoards.{moves_by}
-use Rattle.sgb_gen.specs.inner.Moves.{leads_onward}
+use Rattle.sgb_moves.specs.inner.Moves.{leads_onward}
 use Rattle.sgb_gen.specs.inner.StraightLists.{AreOnward}
 use Rattle.sgb_gen.proofs.BoundedMoves.{bounds_of, moves_within}
 use Rattle.sgb_gen.proofs.ListedGraphs.{of_board}

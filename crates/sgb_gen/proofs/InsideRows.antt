@@ -14,19 +14,20 @@ use Rattle.sgb_graph.specs.Made.{graph_described}
 use Rattle.sgb_graph.specs.declared.fields.Link.{Link}
 use Rattle.sgb_gen.specs.Boards.{BoardData, board_vector_graph}
 use Rattle.sgb_gen.specs.LocalLists.{LocalArc}
-use Rattle.sgb_gen.specs.MovedCoordinates.{parts_of}
-use Rattle.sgb_gen.specs.Moves.{opposite, place, moves_from, sides_of}
+use Rattle.sgb_moves.specs.MovedCoordinates.{parts_of}
+use Rattle.sgb_moves.specs.Moves.{opposite, place, moves_from, sides_of}
 use Rattle.sgb_gen.specs.Runs.{arcs_along}
 use Rattle.sgb_gen.specs.Strides.{IsInsideVertex, tips_inside, tips_of_stride}
 use Rattle.sgb_gen.specs.VectorGraphs.{described_by}
 use Rattle.sgb_gen.specs.inner.LocalBoards.{move_arc}
-use Rattle.sgb_gen.specs.inner.MovedCoordinates.{IsInside, parts_stay}
-use Rattle.sgb_gen.specs.inner.Moves.{leads_onward, longest_move}
+use Rattle.sgb_moves.specs.inner.MovedCoordinates.{IsInside, parts_stay}
+use Rattle.sgb_moves.specs.inner.Moves.{leads_onward, longest_move}
 use Rattle.sgb_gen.specs.inner.StraightLists.{AreOnward, IsRun, arcs_back, arcs_by_all, arcs_from}
 use Rattle.sgb_gen.specs.inner.Strides.{IsStrided, stride_of}
 use Rattle.sgb_gen.proofs.InsideRuns.{all_runs, inside_run}
-use Rattle.sgb_gen.proofs.InsideVertices.{stay_inside, stay_near}
-use Rattle.sgb_gen.proofs.MovedCoordinates.{parts_within}
+use Rattle.sgb_moves.proofs.NearPlaces.{stay_near}
+use Rattle.sgb_gen.proofs.InsideVertices.{stay_inside}
+use Rattle.sgb_moves.proofs.MovedCoordinates.{parts_within}
 use Rattle.sgb_gen.proofs.RunsOfLists.{at_has, next_run_first, widths_in_table}
 use Rattle.sgb_gen.proofs.StraightMoves.{leaps_there, straight_arcs}
 use Rattle.sgb_gen.proofs.StrideTips.{IsNextStride, StayUpTo, flat_board, next_stride, said_by_table, stride_at, vertex_to}

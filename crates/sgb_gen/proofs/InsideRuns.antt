@@ -11,24 +11,25 @@ use Rattle.sgb_vec.specs.Lexicographic.{IsBefore, IsBelow}
 use Rattle.sgb_vec.proofs.BoxPlaces.{Contains-from_IsBelow}
 use Rattle.sgb_vec.proofs.FamilyLaws.{box_vectors_rise}
 use Rattle.sgb_gen.specs.Boards.{BoardData}
-use Rattle.sgb_gen.specs.MovedCoordinates.{parts_of, parts_put}
-use Rattle.sgb_gen.specs.Moves.{coordinate_on, in_front, is_bit_set, opposite, place, sides_from_bit, sides_of}
+use Rattle.sgb_moves.specs.MovedCoordinates.{parts_of, parts_put}
+use Rattle.sgb_moves.specs.Moves.{coordinate_on, in_front, is_bit_set, opposite, place, sides_from_bit, sides_of}
 use Rattle.sgb_gen.specs.VectorGraphs.{vertex_among}
 use Rattle.sgb_gen.specs.inner.LocalBoards.{arcs_onward, edge_arcs, moves_by}
-use Rattle.sgb_gen.specs.inner.MovedCoordinates.{IsInside, parts_stay}
-use Rattle.sgb_gen.specs.inner.Moves.{leads_onward, longest_move}
+use Rattle.sgb_moves.specs.inner.MovedCoordinates.{IsInside, parts_stay}
+use Rattle.sgb_moves.specs.inner.Moves.{leads_onward, longest_move}
 use Rattle.sgb_gen.specs.inner.StraightLists.{AreOnward, IsLeaper, IsRun, arcs_back, arcs_from}
 use Rattle.sgb_gen.proofs.BoardWalks.{leads, longest}
 use Rattle.sgb_gen.proofs.Destinations.{place-below}
-use Rattle.sgb_gen.proofs.InsideVertices.{opposite_within, stay_inside, stay_near}
+use Rattle.sgb_moves.proofs.NearPlaces.{stay_near}
+use Rattle.sgb_gen.proofs.InsideVertices.{opposite_within, stay_inside}
 use Rattle.sgb_gen.proofs.Leaps.{comes_from, leaps_earlier, own_vertex}
-use Rattle.sgb_gen.proofs.MovedCoordinates.{parts_within}
+use Rattle.sgb_moves.proofs.MovedCoordinates.{parts_within}
 use Rattle.sgb_gen.proofs.MovesInOrder.{vertices_in_order}
 use Rattle.sgb_gen.proofs.OnwardMoves.{back_earlier, onward_elsewhere}
 use Rattle.sgb_gen.proofs.Reaches.{sizes_of_sides}
 use Rattle.sgb_gen.proofs.RunsOfLists.{directed_run, edges_run, onward_run}
 use Rattle.sgb_gen.proofs.StraightMoves.{back_away, leads_on, leaps_there, onward_away, straight_arcs}
-use Rattle.sgb_gen.proofs.TurnedMoves.{side_itself}
+use Rattle.sgb_moves.proofs.TurnedMoves.{side_itself}
 use Rattle.sgb_gen.proofs.Vertices.{other_is}
 
 -- ---- one step on a side

@@ -4,14 +4,12 @@ use Rattle.std.specs.List.{All}
 use Rattle.std.specs.Option.{is_some}
 use Rattle.std.proofs.lemmas.Int.{ints}
 use Rattle.std.proofs.lemmas.List.{length-map}
-use Rattle.std.proofs.lemmas.List.Elements.{All-map, AllZip-get_or, length_all_zip}
-use Rattle.sgb_vec.specs.Lexicographic.{IsBelow}
-use Rattle.sgb_gen.specs.MovedCoordinates.{parts_from}
-use Rattle.sgb_gen.specs.Moves.{coordinate_on, is_bit_set, opposite}
-use Rattle.sgb_gen.specs.inner.MovedCoordinates.{IsInside, StayAtOne, parts_stay}
-use Rattle.sgb_gen.proofs.BoundedMoves.{on_side}
-use Rattle.sgb_gen.proofs.NextSignings.{size-neg}
-use Rattle.sgb_gen.proofs.TurnedMoves.{side_start}
+use Rattle.std.proofs.lemmas.List.Elements.{All-map}
+use Rattle.sgb_moves.specs.MovedCoordinates.{parts_from}
+use Rattle.sgb_moves.specs.Moves.{coordinate_on, is_bit_set, opposite}
+use Rattle.sgb_moves.specs.inner.MovedCoordinates.{IsInside, StayAtOne, parts_stay}
+use Rattle.sgb_moves.proofs.BoundsSoFar.{on_side}
+use Rattle.sgb_moves.proofs.NextSignings.{size-neg}
 
 -- a coordinate that is far enough from both ends of its side
 side_inside : (w : Bool) (n x d : ℕ) (a : ℤ) → nat_abs a ≤ d → d ≤ x → x + d < n → is_some (coordinate_on (record { size = n; wraps = w }) (pos x +ℤ pos 1 *ℤ a)) ≡ true
@@ -43,17 +41,3 @@ module _ (sizes : List ℕ) (wrap : ℤ) (x : List ℕ) (d : ℕ) (inside : IsIn
   -- so a displacement of such entries and its opposite lead to places
   pub stay_inside : (t : List ℤ) → length t ≡ length sizes → AreWithin d t → StayAtOne sizes wrap x t
   stay_inside t long small = grind (arith, parts_inside, length-map, opposite_within)
-
--- ---- lengths of at most 1
-
-module _ (sizes : List ℕ) (wrap : ℤ) (x : List ℕ) (below : IsBelow x sizes) where
-  -- at length 0 each coordinate is where it was
-  stay_home : (parts : List (ℕ × ℤ)) → All (λ p. p.0 < length sizes) parts → parts_stay sizes wrap x 0 parts ≡ true
-  stay_home [] within = refl
-  stay_home (p ∷ parts) within =
-      let here : p.0 < length sizes = within 0 p (omega arith) in
-      grind (arith, AllZip-get_or, length_all_zip, side_start, here, stay_home parts (λ j e h. within (suc j) e (omega (arith, h))))
-
-  pub stay_near : (parts : List (ℕ × ℤ)) (l : ℕ) → All (λ p. p.0 < length sizes) parts → parts_stay sizes wrap x 1 parts ≡ true → l ≤ 1 → parts_stay sizes wrap x l parts ≡ true
-  stay_near parts zero within near few = stay_home parts within
-  stay_near parts l within near few = grind (arith)

@@ -14,8 +14,9 @@ use Rattle.sgb_vec.specs.Boxes.{box}
 use Rattle.sgb_vec.proofs.Lists.{AllPairs-none}
 use Rattle.sgb_gen.specs.Boards.{BoardData}
 use Rattle.sgb_gen.specs.LocalLists.{LocalArc}
-use Rattle.sgb_gen.specs.Moves.{opposite, sides_of}
-use Rattle.sgb_gen.specs.VectorGraphs.{Move, vertex_among}
+use Rattle.sgb_moves.specs.Moves.{opposite, sides_of}
+use Rattle.sgb_moves.specs.VectorMoves.{Move}
+use Rattle.sgb_gen.specs.VectorGraphs.{vertex_among}
 use Rattle.sgb_gen.specs.inner.LocalBoards.{arcs_of_starts, arcs_onward, edge_arcs, moves_by, other_starts, own_starts}
 use Rattle.sgb_gen.proofs.BoardWalks.{leads, led_to, left-all, left-next, left-none, left-out, longest, moves_of, one_that}
 use Rattle.sgb_gen.proofs.Reaches.{move}

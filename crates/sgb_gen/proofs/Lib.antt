@@ -2,24 +2,8 @@
 
 -- the squares of a displacement's entries
 pub mod Norms
--- numbers that are no sum of two or three squares
-pub mod SumsOfSquares
--- a list's first element written apart from the others
-pub mod Parts
--- the vectors of a norm: the first and the next
-pub mod Completions
--- that they are all vectors of that norm within bounds
-pub mod AllVectors
--- the next vector of a norm, as it is written
-pub mod NextVectors
--- the next signing of a vector's entries
-pub mod NextSignings
--- signings where the first entry other than 0 stays
-pub mod FirstEntries
 -- a displacement has an entry for each dimension
 pub mod DisplacementLengths
--- a walk over displacements, one after another
-pub mod DisplacementWalk
 pub mod DisplacementsBefore
 -- those before one that begin like it
 pub mod AlikeDisplacements
@@ -28,12 +12,6 @@ pub mod AlikeVectors
 pub mod EarlierSignings
 pub mod EdgesInTurn
 pub mod EarlierVectors
--- the bits of `wrap`
-pub mod WrapBits
--- a place, coordinate by coordinate
-pub mod Places
--- a place, by the coordinates that a displacement moves
-pub mod MovedCoordinates
 -- vertices from which no side is near
 mod InsideVertices
 -- their lists, by leaps
@@ -56,18 +34,12 @@ pub mod MostMoves
 mod BoardListCounts
 -- the moves by a displacement, row by row
 mod RowMoves
--- how far the coordinates stay that a displacement moves
-pub mod PartReaches
 -- where a move leads
 pub mod Destinations
 -- how far a piece moves
 pub mod Reaches
--- a rider stops
-pub mod Riders
 -- lists by displacements where no move is longer than 1
 mod Leaps
--- moves turned back
-pub mod TurnedMoves
 -- displacements above the bounds lead nowhere
 pub mod BoundedMoves
 -- the arcs of one vector, by displacements that may lead from it
@@ -121,8 +93,6 @@ pub mod SortedStarts
 pub mod StartRanges
 -- moves by a displacement that leads to later vectors
 pub mod OnwardMoves
--- whether displacements lead onward, by the coordinates that they move
-mod OnwardParts
 -- where those start that touch a vector, with no sorting: where those behind it fall but for one rise, and where they fall
 mod AroundStarts
 -- where they go around a side once at most
@@ -153,7 +123,6 @@ pub mod ListsOfBoards
 -- the list of a vector of a simplex
 pub mod SimplexLists
 -- its arcs, pair of places by pair
-pub mod PairCompletions
 pub mod PairWalks
 -- the list of a vector of subsets
 pub mod SubsetsLists
@@ -228,9 +197,3 @@ pub mod KeptCounts
 pub mod PlainBoards
 -- vectors in order, one found from that before or after it
 pub mod SteppedVectors
--- so many steps of 32 bits together, in 64 bits
-mod SignedSteps
--- what is left of a number by the size of a side
-mod SideRests
--- the coordinates of a place, below the sizes of the sides
-pub mod SideEntries

@@ -14,19 +14,20 @@ use Rattle.sgb_vec.specs.Lexicographic.{IsBefore, IsBelow, IsRising}
 use Rattle.sgb_vec.proofs.FamilyLaws.{box_vectors_rise}
 use Rattle.sgb_vec.proofs.BoxPlaces.{Contains-from_IsBelow, IsBelow-from_Contains}
 use Rattle.sgb_gen.specs.Boards.{BoardData, moves_of_board}
-use Rattle.sgb_gen.specs.Displacements.{signings, sum_of_squares}
-use Rattle.sgb_gen.specs.inner.EntryBounds.{displacements_within, vectors_within}
+use Rattle.sgb_moves.specs.Displacements.{signings, sum_of_squares}
+use Rattle.sgb_moves.specs.inner.EntryBounds.{displacements_within, vectors_within}
 use Rattle.sgb_gen.specs.inner.LocalArcs.{arcs_by, arcs_of_moves}
 use Rattle.sgb_gen.specs.inner.LocalBoards.{arcs_onward, move_arc, moves_by}
 use Rattle.sgb_gen.specs.LocalLists.{LocalArc, list_at}
-use Rattle.sgb_gen.specs.Moves.{Side, board_moves, moves_from, sides_of}
-use Rattle.sgb_gen.specs.inner.Moves.{destination, longest_move}
-use Rattle.sgb_gen.specs.VectorGraphs.{HasEnds, Move, same_vector}
+use Rattle.sgb_moves.specs.Moves.{Side, board_moves, moves_from, sides_of}
+use Rattle.sgb_moves.specs.inner.Moves.{destination, longest_move}
+use Rattle.sgb_moves.specs.VectorMoves.{Move, same_vector}
+use Rattle.sgb_gen.specs.VectorGraphs.{HasEnds}
 use Rattle.sgb_gen.proofs.DisplacementLengths.{signings-sizes}
-use Rattle.sgb_gen.proofs.DisplacementWalk.{entries-small}
+use Rattle.sgb_moves.proofs.DisplacementWalk.{entries-small}
 use Rattle.sgb_gen.proofs.MoveLists.{list_at-moves}
 use Rattle.sgb_gen.proofs.MovesInOrder.{all_lead, all_start}
-use Rattle.sgb_gen.proofs.NextSignings.{sizes_of}
+use Rattle.sgb_moves.proofs.NextSignings.{sizes_of}
 use Rattle.sgb_vec.proofs.Lists.{All-flat_map, AllPairs-first, AllPairs-others, Contains-cases, Contains-none, filter-all, filter-none}
 use Rattle.sgb_gen.proofs.OrderedLists.{before_none}
 use Rattle.sgb_gen.proofs.Reaches.{destination-below, move, moves_from-until, moves_until}

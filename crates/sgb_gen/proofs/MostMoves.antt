@@ -14,15 +14,15 @@ use Rattle.sgb_vec.specs.Boxes.{box}
 use Rattle.sgb_vec.specs.Lexicographic.{IsBelow}
 use Rattle.sgb_vec.proofs.BoxPlaces.{IsBelow-from_Contains}
 use Rattle.sgb_gen.specs.Boards.{BoardData, moves_of_board}
-use Rattle.sgb_gen.specs.Displacements.{signings, sum_of_squares, tail_signings, vectors_of_norm}
-use Rattle.sgb_gen.specs.Moves.{moves_from, sides_of}
-use Rattle.sgb_gen.specs.inner.EntryBounds.{displacements_within, vectors_within}
-use Rattle.sgb_gen.specs.inner.LaterDisplacements.{completions}
+use Rattle.sgb_moves.specs.Displacements.{signings, sum_of_squares, tail_signings, vectors_of_norm}
+use Rattle.sgb_moves.specs.Moves.{moves_from, sides_of}
+use Rattle.sgb_moves.specs.inner.EntryBounds.{displacements_within, vectors_within}
+use Rattle.sgb_moves.specs.inner.LaterDisplacements.{completions}
 use Rattle.sgb_gen.specs.inner.LocalBoards.{move_arc, moves_by}
 use Rattle.sgb_gen.specs.inner.StraightLists.{arcs_from}
-use Rattle.sgb_gen.proofs.AllVectors.{flat_map-same, rows-cut, vectors_within-completions}
+use Rattle.sgb_moves.proofs.AllVectors.{flat_map-same, rows-cut, vectors_within-completions}
 use Rattle.sgb_gen.proofs.BoundedMoves.{bounds_of, length-entry_bounds, moves_within}
-use Rattle.sgb_gen.proofs.Completions.{row}
+use Rattle.sgb_moves.proofs.Completions.{row}
 use Rattle.sgb_gen.proofs.DisplacementLengths.{displacement_lengths, vector_lengths}
 use Rattle.sgb_gen.proofs.NormCounts.{next-square}
 use Rattle.sgb_gen.proofs.NormSums.{norm-completions, norm_row}

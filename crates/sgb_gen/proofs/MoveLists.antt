@@ -12,7 +12,8 @@ use Rattle.sgb_vec.specs.Lexicographic.{IsRising}
 use Rattle.sgb_graph.specs.Events.{links_at, list_from, records_of}
 use Rattle.sgb_graph.specs.declared.fields.Link.{Link}
 use Rattle.sgb_graph.proofs.EventLemmas.{list_none, list_first}
-use Rattle.sgb_gen.specs.VectorGraphs.{HasEnds, Move, event_among, same_vector, vertex_among}
+use Rattle.sgb_moves.specs.VectorMoves.{Move, same_vector}
+use Rattle.sgb_gen.specs.VectorGraphs.{HasEnds, event_among, vertex_among}
 use Rattle.sgb_gen.specs.inner.LocalArcs.{arc_if, arcs_by, arcs_of_moves}
 use Rattle.sgb_gen.specs.LocalLists.{LocalArc, local_arc, list_at}
 use Rattle.sgb_gen.proofs.RisingVectors.{at_vertex}

@@ -7,8 +7,9 @@ use Rattle.std.proofs.lemmas.List.Elements.{All-cons, All-contains, All-contains
 use Rattle.std.proofs.lemmas.List.Kept.{AllPairs-cons}
 use Rattle.std.proofs.lemmas.Option.{slice_get_read}
 use Rattle.sgb_vec.specs.Lexicographic.{IsBefore, IsRising}
-use Rattle.sgb_gen.specs.Moves.{LeadsTo, Side, moves_from, place, reach}
-use Rattle.sgb_gen.specs.VectorGraphs.{Move, vertex_among}
+use Rattle.sgb_moves.specs.Moves.{LeadsTo, Side, moves_from, place, reach}
+use Rattle.sgb_moves.specs.VectorMoves.{Move}
+use Rattle.sgb_gen.specs.VectorGraphs.{vertex_among}
 use Rattle.sgb_vec.proofs.Lists.{All-flat_map, AllPairs-append, AllPairs-first, AllPairs-follows, AllPairs-none, AllPairs-others, Contains-cases, Contains-first, Contains-other, range-rises}
 use Rattle.sgb_gen.proofs.OrderedLists.{before_none, before_trans}
 use Rattle.sgb_gen.proofs.Reaches.{move, moves_from-until, moves_until}

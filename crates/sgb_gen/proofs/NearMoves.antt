@@ -9,19 +9,19 @@ use Rattle.sgb_vec.specs.Lexicographic.{IsBelow, IsWithin}
 use Rattle.sgb_vec.proofs.BoxPlaces.{Contains-from_IsBelow, IsBelow-from_Contains}
 use Rattle.sgb_vec.proofs.Lists.{All-flat_map, Contains-flat_map, Contains-none, Contains-passing}
 use Rattle.sgb_gen.specs.Boards.{BoardData, moves_of_board}
-use Rattle.sgb_gen.specs.Displacements.{displacements, signings, sum_of_squares}
+use Rattle.sgb_moves.specs.Displacements.{displacements, signings, sum_of_squares}
 use Rattle.sgb_gen.specs.LocalLists.{list_at}
-use Rattle.sgb_gen.specs.MovedCoordinates.{part_at}
-use Rattle.sgb_gen.specs.Moves.{board_moves, coordinate_on, is_bit_set, moves_from, opposite, place, sides_from_bit, sides_of}
+use Rattle.sgb_moves.specs.MovedCoordinates.{part_at}
+use Rattle.sgb_moves.specs.Moves.{board_moves, coordinate_on, is_bit_set, moves_from, opposite, place, sides_from_bit, sides_of}
 use Rattle.sgb_gen.specs.VectorGraphs.{vertex_among}
-use Rattle.sgb_gen.specs.inner.EntryBounds.{displacements_within, vectors_within}
+use Rattle.sgb_moves.specs.inner.EntryBounds.{displacements_within, vectors_within}
 use Rattle.sgb_gen.specs.inner.LocalArcs.{arcs_by}
 use Rattle.sgb_gen.specs.inner.LocalBoards.{arcs_of_starts, arcs_onward, move_arc, moves_by, other_starts, own_starts, starts_of}
 use Rattle.sgb_gen.specs.inner.StraightLists.{LeadNowhere, arcs_by_all}
 use Rattle.sgb_gen.proofs.BoundedMoves.{IsOff, bounds_of, flat_map-flat_map, length-near_bounds, moves-none, near-off, near_of, near_fits, within_bounds}
 use Rattle.sgb_gen.proofs.ListsOfBoards.{directed_onward, list_of_board}
 use Rattle.sgb_gen.proofs.MostLengths.{first_out, front_out}
-use Rattle.sgb_gen.proofs.NextSignings.{size-neg}
+use Rattle.sgb_moves.proofs.NextSignings.{size-neg}
 use Rattle.sgb_gen.proofs.TouchingMoves.{onward_by_touching, touching, touching_found}
 
 -- ---- where neither a displacement nor its opposite makes a move from x, it makes no arc of x

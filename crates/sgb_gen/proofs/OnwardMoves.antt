@@ -5,11 +5,11 @@ use Rattle.std.proofs.lemmas.Int.{ints}
 use Rattle.std.proofs.lemmas.Nat.{mul-le}
 use Rattle.sgb_vec.specs.Lexicographic.{IsBefore, IsBelow}
 use Rattle.sgb_vec.proofs.SumSuccessors.{IsBefore-less, IsBefore-same}
-use Rattle.sgb_gen.specs.Moves.{LeadsTo, Side, opposite, place, sides_from_bit}
-use Rattle.sgb_gen.specs.inner.Moves.{leads_onward}
+use Rattle.sgb_moves.specs.Moves.{LeadsTo, Side, opposite, place, sides_from_bit}
+use Rattle.sgb_moves.specs.inner.Moves.{leads_onward}
 use Rattle.sgb_gen.proofs.OrderedLists.{before_none}
-use Rattle.sgb_gen.proofs.Riders.{Contains-rider_reach}
-use Rattle.sgb_gen.proofs.TurnedMoves.{in_front-parts, place_home, place_start}
+use Rattle.sgb_moves.proofs.Riders.{Contains-rider_reach}
+use Rattle.sgb_moves.proofs.TurnedMoves.{in_front-parts, place_home, place_start}
 
 -- the farther back, the less
 lower : (c e l m a b : ℕ) → l < m → pos c +ℤ pos l *ℤ negsuc e ≡ pos a → pos c +ℤ pos m *ℤ negsuc e ≡ pos b → b < a

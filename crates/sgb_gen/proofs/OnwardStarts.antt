@@ -9,9 +9,10 @@ use Rattle.sgb_vec.proofs.FamilyLaws.{box_vectors_rise}
 use Rattle.sgb_vec.proofs.Lists.{AllPairs-follows, AllPairs-none}
 use Rattle.sgb_gen.specs.Boards.{BoardData}
 use Rattle.sgb_gen.specs.inner.LocalBoards.{arcs_onward, move_arc, moves_by}
-use Rattle.sgb_gen.specs.Moves.{Side, opposite, sides_of}
-use Rattle.sgb_gen.specs.inner.Moves.{leads_onward}
-use Rattle.sgb_gen.specs.VectorGraphs.{Move, vertex_among}
+use Rattle.sgb_moves.specs.Moves.{Side, opposite, sides_of}
+use Rattle.sgb_moves.specs.inner.Moves.{leads_onward}
+use Rattle.sgb_moves.specs.VectorMoves.{Move}
+use Rattle.sgb_gen.specs.VectorGraphs.{vertex_among}
 use Rattle.sgb_gen.proofs.AroundStarts.{Falls, Leads, ahead, around_in_order, behind}
 use Rattle.sgb_gen.proofs.MovesInOrder.{all_lead, lengths_rise, vertices_in_order}
 use Rattle.sgb_gen.proofs.OnwardMoves.{back_earlier, farther_earlier, some_length}

@@ -4,11 +4,11 @@ use Rattle.std.specs.List.{filter, range_with_len}
 use Rattle.std.proofs.lemmas.Bool.{cases_Bool, cases_lt}
 use Rattle.sgb_gen.specs.Boards.{BoardData}
 use Rattle.sgb_gen.specs.LocalLists.{LocalArc}
-use Rattle.sgb_gen.specs.MovedCoordinates.{parts_of}
+use Rattle.sgb_moves.specs.MovedCoordinates.{parts_of}
 use Rattle.sgb_gen.specs.Runs.{arc_along, arcs_along}
-use Rattle.sgb_gen.specs.declared.start_ranges.StartRange.{StartRange}
+use Rattle.sgb_moves.specs.declared.start_ranges.StartRange.{StartRange}
 use Rattle.sgb_gen.specs.inner.LocalBoards.{move_arc, own_starts}
-use Rattle.sgb_gen.specs.inner.Starts.{is_within}
+use Rattle.sgb_moves.specs.inner.Starts.{is_within}
 use Rattle.sgb_gen.specs.inner.StraightLists.{arcs_from}
 use Rattle.sgb_gen.proofs.BoardWalks.{moves_of, not_one, one_passing}
 use Rattle.sgb_gen.proofs.Coordinates.{map-each}

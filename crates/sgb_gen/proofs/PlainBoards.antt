@@ -7,13 +7,13 @@ use Rattle.std.proofs.lemmas.List.Elements.{All-map, All-weaker, filter_passes}
 use Rattle.sgb_vec.specs.Boxes.{box}
 use Rattle.sgb_vec.proofs.Lists.{All-flat_map}
 use Rattle.sgb_gen.specs.Boards.{BoardData}
-use Rattle.sgb_gen.specs.Displacements.{signings, sum_of_squares, tail_signings}
-use Rattle.sgb_gen.specs.Moves.{is_bit_set}
-use Rattle.sgb_gen.specs.inner.EntryBounds.{displacements_within, vectors_within}
-use Rattle.sgb_gen.specs.inner.Moves.{leads_onward}
+use Rattle.sgb_moves.specs.Displacements.{signings, sum_of_squares, tail_signings}
+use Rattle.sgb_moves.specs.Moves.{is_bit_set}
+use Rattle.sgb_moves.specs.inner.EntryBounds.{displacements_within, vectors_within}
+use Rattle.sgb_moves.specs.inner.Moves.{leads_onward}
 use Rattle.sgb_gen.specs.inner.StraightLists.{NeedsNoSort}
 use Rattle.sgb_gen.proofs.BoundedMoves.{bounds_of}
-use Rattle.sgb_gen.proofs.Completions.{squares-cons}
+use Rattle.sgb_moves.proofs.Completions.{squares-cons}
 
 -- ---- order
 

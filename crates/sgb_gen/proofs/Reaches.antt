@@ -8,10 +8,10 @@ use Rattle.std.proofs.lemmas.Int.{to_z-of_z}
 use Rattle.sgb_vec.specs.Boxes.{box}
 use Rattle.sgb_vec.specs.Lexicographic.{IsBelow}
 use Rattle.sgb_vec.proofs.BoxPlaces.{length-box}
-use Rattle.sgb_gen.specs.inner.Moves.{destination, longest_move}
-use Rattle.sgb_gen.specs.VectorGraphs.{Move}
+use Rattle.sgb_moves.specs.inner.Moves.{destination, longest_move}
+use Rattle.sgb_moves.specs.VectorMoves.{Move}
 use Rattle.sgb_gen.proofs.Destinations.{place-below}
-use Rattle.sgb_gen.specs.Moves.{Side, sides_from_bit, sides_of, place, is_elsewhere, places_count, moves_from}
+use Rattle.sgb_moves.specs.Moves.{Side, sides_from_bit, sides_of, place, is_elsewhere, places_count, moves_from}
 
 -- the sides have the sizes
 pub sizes_of_sides : (k : ℕ) (sizes : List ℕ) (wrap : ℤ) → map (λ s. s.size) (sides_from_bit k sizes wrap) ≡ sizes

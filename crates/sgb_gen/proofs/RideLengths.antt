@@ -8,10 +8,10 @@ use Rattle.std.proofs.lemmas.Nat.{mul-le}
 use Rattle.sgb_vec.specs.Boxes.{product_of}
 use Rattle.sgb_vec.specs.Lexicographic.{IsBelow}
 use Rattle.sgb_gen.specs.Boards.{BoardData}
-use Rattle.sgb_gen.specs.Moves.{Side, is_bit_set, place, sides_from_bit, sides_of}
+use Rattle.sgb_moves.specs.Moves.{Side, is_bit_set, place, sides_from_bit, sides_of}
 use Rattle.sgb_gen.specs.inner.BoardCounts.{is_home, is_home_on, stops_on}
 use Rattle.sgb_gen.specs.inner.StraightLists.{arcs_from}
-use Rattle.sgb_gen.specs.inner.Moves.{destination, longest_move}
+use Rattle.sgb_moves.specs.inner.Moves.{destination, longest_move}
 use Rattle.sgb_gen.proofs.AroundMoves.{at_home}
 use Rattle.sgb_gen.proofs.BoardCountsHome.{home-to}
 use Rattle.sgb_gen.proofs.MostLengths.{first_out, front_out, out_on, within_nowhere, within_place}

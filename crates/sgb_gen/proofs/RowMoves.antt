@@ -10,19 +10,19 @@ use Rattle.sgb_vec.specs.Boxes.{box, product_of}
 use Rattle.sgb_vec.specs.Lexicographic.{IsBelow}
 use Rattle.sgb_vec.proofs.BoxPlaces.{IsBelow-at, IsBelow-length, StandsAt-from_slice_get, place_of, slice_get-place_of}
 use Rattle.sgb_gen.specs.Boards.{BoardData}
-use Rattle.sgb_gen.specs.MovedCoordinates.{part_at, parts_from, parts_of, parts_put}
-use Rattle.sgb_gen.specs.Moves.{coordinate_on, is_bit_set}
+use Rattle.sgb_moves.specs.MovedCoordinates.{part_at, parts_from, parts_of, parts_put}
+use Rattle.sgb_moves.specs.Moves.{coordinate_on, is_bit_set}
 use Rattle.sgb_gen.specs.VectorGraphs.{event_among, vertex_among}
-use Rattle.sgb_gen.specs.inner.MovedCoordinates.{parts_stay}
+use Rattle.sgb_moves.specs.inner.MovedCoordinates.{parts_stay}
 use Rattle.sgb_gen.specs.inner.Rows.{IsFarthest, IsRowAt, LeadsOn, event_of_stride, events_of_stride, last_side, vector_at}
 use Rattle.sgb_gen.specs.inner.StraightLists.{NeverHome}
 use Rattle.sgb_gen.proofs.BoardEvents.{events_from, events_left, events_left-all, events_left-next}
 use Rattle.sgb_gen.proofs.BoardWalks.{leads, longest}
 use Rattle.sgb_gen.proofs.InsideRows.{below_inside, inside_later, later, length-later, place_later}
-use Rattle.sgb_gen.proofs.MovedCoordinates.{parts_within}
+use Rattle.sgb_moves.proofs.MovedCoordinates.{parts_within}
 use Rattle.sgb_gen.proofs.StraightMoves.{leads_on, leads_out, left-past, onward_away}
 use Rattle.sgb_gen.proofs.StrideTips.{ahead_at, ahead_within, flat_board, no_bit}
-use Rattle.sgb_gen.proofs.TurnedMoves.{side_itself}
+use Rattle.sgb_moves.proofs.TurnedMoves.{side_itself}
 use Rattle.sgb_gen.proofs.Vertices.{below_in_box}
 
 -- ---- the moved coordinates, that of the last side apart

@@ -9,11 +9,11 @@ use Rattle.sgb_vec.specs.Boxes.{box}
 use Rattle.sgb_vec.specs.Lexicographic.{IsBelow}
 use Rattle.sgb_vec.proofs.BoxPlaces.{Contains-from_IsBelow}
 use Rattle.sgb_gen.specs.Boards.{BoardData}
-use Rattle.sgb_gen.specs.Moves.{opposite, sides_of}
+use Rattle.sgb_moves.specs.Moves.{opposite, sides_of}
 use Rattle.sgb_gen.specs.inner.LocalBoards.{arcs_onward, moves_by}
-use Rattle.sgb_gen.specs.inner.Moves.{leads_onward}
+use Rattle.sgb_moves.specs.inner.Moves.{leads_onward}
 use Rattle.sgb_gen.specs.inner.StraightLists.{IsRun, arcs_back, arcs_by_all, arcs_from}
-use Rattle.sgb_gen.specs.inner.EntryBounds.{displacements_within}
+use Rattle.sgb_moves.specs.inner.EntryBounds.{displacements_within}
 use Rattle.sgb_gen.proofs.BoundedMoves.{bounds_of, length-entry_bounds}
 use Rattle.sgb_gen.proofs.DisplacementLengths.{displacement_lengths}
 use Rattle.sgb_gen.proofs.ListsOfBoards.{directed_onward}

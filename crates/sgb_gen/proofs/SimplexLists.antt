@@ -11,7 +11,8 @@ use Rattle.sgb_vec.specs.Lexicographic.{IsBefore, IsRising, IsWithin}
 use Rattle.sgb_vec.specs.Sums.{bounded_sums}
 use Rattle.sgb_vec.proofs.SumMembers.{Contains-bounded_sums, bounded_sums-rise}
 use Rattle.sgb_graph.proofs.Lists.{map-map}
-use Rattle.sgb_gen.specs.VectorGraphs.{HasEnds, Move, same_vector}
+use Rattle.sgb_moves.specs.VectorMoves.{Move, same_vector}
+use Rattle.sgb_gen.specs.VectorGraphs.{HasEnds}
 use Rattle.sgb_gen.specs.Simplexes.{SimplexData, simplex_vectors, moves_of_simplex, Places, pairs_of_places, moves_to}
 use Rattle.sgb_gen.specs.inner.Simplexes.{can_shift, shifted, pairs_from, moves_by}
 use Rattle.sgb_gen.specs.inner.LocalArcs.{arc_if, arcs_by, arcs_of_moves}

@@ -13,13 +13,14 @@ use Rattle.sgb_vec.specs.Lexicographic.{IsBelow}
 use Rattle.sgb_vec.proofs.BoxPlaces.{IsBelow-at, IsBelow-length, StandsAt-from_slice_get, place_of, place_of-below, slice_get-place_of}
 use Rattle.sgb_gen.specs.Boards.{BoardData}
 use Rattle.sgb_gen.specs.LocalLists.{LocalArc}
-use Rattle.sgb_gen.specs.MovedCoordinates.{part_at, parts_of, parts_put}
-use Rattle.sgb_gen.specs.Moves.{coordinate_on, is_bit_set, place, sides_of}
+use Rattle.sgb_moves.specs.MovedCoordinates.{part_at, parts_of, parts_put}
+use Rattle.sgb_moves.specs.Moves.{coordinate_on, is_bit_set, place, sides_of}
 use Rattle.sgb_gen.specs.Runs.{arc_along, arcs_along}
-use Rattle.sgb_gen.specs.VectorGraphs.{Move, vertex_among}
-use Rattle.sgb_gen.specs.declared.start_ranges.StartRange.{StartRange}
+use Rattle.sgb_moves.specs.VectorMoves.{Move}
+use Rattle.sgb_gen.specs.VectorGraphs.{vertex_among}
+use Rattle.sgb_moves.specs.declared.start_ranges.StartRange.{StartRange}
 use Rattle.sgb_gen.specs.inner.LocalBoards.{move_arc, other_starts}
-use Rattle.sgb_gen.specs.inner.Starts.{is_within}
+use Rattle.sgb_moves.specs.inner.Starts.{is_within}
 use Rattle.sgb_gen.specs.inner.StraightLists.{arcs_from}
 use Rattle.sgb_gen.specs.inner.VertexBounds.{AreBounds, IsBetween, Misses}
 use Rattle.sgb_gen.proofs.BoardWalks.{leads, left-all, left-first, left-next, left-none, longest, moves_left, not_one, one_that}
@@ -27,7 +28,7 @@ use Rattle.sgb_gen.proofs.FallingPlaces.{coordinate_there}
 use Rattle.sgb_gen.proofs.Reaches.{destination-below, destination-place, move}
 use Rattle.sgb_gen.proofs.StartRanges.{within_is as range_is}
 use Rattle.sgb_gen.proofs.StrideTips.{within_is}
-use Rattle.sgb_gen.proofs.TurnedMoves.{rem-moved, rem-times}
+use Rattle.sgb_moves.proofs.TurnedMoves.{rem-moved, rem-times}
 use Rattle.sgb_gen.proofs.Vertices.{vertex_in_box}
 
 -- ---- coordinates between those of two vectors

@@ -13,9 +13,10 @@ use Rattle.std.proofs.lemmas.Map.Keys.{IsDistinct-IsPermutation}
 use Rattle.sgb_vec.specs.Boxes.{box}
 use Rattle.sgb_gen.specs.Boards.{BoardData}
 use Rattle.sgb_gen.specs.inner.LocalBoards.{other_starts, own_starts, starts_of}
-use Rattle.sgb_gen.specs.inner.Starts.{pair_cmp}
-use Rattle.sgb_gen.specs.Moves.{moves_from, opposite, sides_of}
-use Rattle.sgb_gen.specs.VectorGraphs.{Move, vertex_among}
+use Rattle.sgb_moves.specs.inner.Starts.{pair_cmp}
+use Rattle.sgb_moves.specs.Moves.{moves_from, opposite, sides_of}
+use Rattle.sgb_moves.specs.VectorMoves.{Move}
+use Rattle.sgb_gen.specs.VectorGraphs.{vertex_among}
 use Rattle.sgb_gen.proofs.MovesInOrder.{lengths_rise}
 use Rattle.sgb_vec.proofs.Lists.{AllPairs-append, AllPairs-first, AllPairs-follows, AllPairs-map, AllPairs-none, AllPairs-others, Contains-passing, eqb-turned}
 use Rattle.sgb_gen.proofs.OrderedLists.{before_trans}

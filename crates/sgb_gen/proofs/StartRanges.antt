@@ -13,12 +13,14 @@ use Rattle.sgb_vec.proofs.FamilyLaws.{box_vectors_rise}
 use Rattle.sgb_vec.proofs.Lists.{AllPairs-append, Contains-passing, filter-all, filter-none}
 use Rattle.sgb_gen.specs.Boards.{BoardData}
 use Rattle.sgb_gen.specs.LocalLists.{LocalArc}
-use Rattle.sgb_gen.specs.Moves.{LeadsTo, moves_from, opposite, sides_of}
-use Rattle.sgb_gen.specs.VectorGraphs.{Move, vertex_among}
-use Rattle.sgb_gen.specs.declared.start_ranges.StartRange.{StartRange}
+use Rattle.sgb_moves.specs.Moves.{LeadsTo, moves_from, opposite, sides_of}
+use Rattle.sgb_moves.specs.VectorMoves.{Move}
+use Rattle.sgb_gen.specs.VectorGraphs.{vertex_among}
+use Rattle.sgb_moves.specs.declared.start_ranges.StartRange.{StartRange}
 use Rattle.sgb_gen.specs.inner.LocalBoards.{arcs_of_starts, arcs_onward, edge_arcs, moves_by, other_starts, own_starts, starts_of}
-use Rattle.sgb_gen.specs.inner.Moves.{destination}
-use Rattle.sgb_gen.specs.inner.Starts.{AreHalves, IsOne, arcs_within, is_within, starts_within}
+use Rattle.sgb_moves.specs.inner.Moves.{destination}
+use Rattle.sgb_moves.specs.inner.Starts.{AreHalves, IsOne, is_within}
+use Rattle.sgb_gen.specs.inner.Starts.{arcs_within, starts_within}
 use Rattle.sgb_gen.proofs.BoardWalks.{longest}
 use Rattle.sgb_gen.proofs.MovesInOrder.{all_lead, all_until}
 use Rattle.sgb_gen.proofs.Reaches.{moves_from-until}

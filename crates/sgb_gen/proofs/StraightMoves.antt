@@ -5,17 +5,17 @@ use Rattle.std.proofs.lemmas.Bool.{cases_Bool, cases_lt}
 use Rattle.std.specs.List.{range_with_len}
 use Rattle.sgb_vec.specs.Lexicographic.{IsBelow}
 use Rattle.sgb_gen.specs.Boards.{BoardData}
-use Rattle.sgb_gen.specs.Moves.{Side, opposite, place, sides_of}
-use Rattle.sgb_gen.specs.VectorGraphs.{same_vector}
+use Rattle.sgb_moves.specs.Moves.{Side, opposite, place, sides_of}
+use Rattle.sgb_moves.specs.VectorMoves.{same_vector}
 use Rattle.sgb_gen.specs.LocalLists.{LocalArc}
 use Rattle.sgb_gen.specs.inner.LocalBoards.{move_arc}
-use Rattle.sgb_gen.specs.inner.Moves.{destination, leads_onward}
-use Rattle.sgb_gen.specs.MovedCoordinates.{parts_of, parts_put}
+use Rattle.sgb_moves.specs.inner.Moves.{destination, leads_onward}
+use Rattle.sgb_moves.specs.MovedCoordinates.{parts_of, parts_put}
 use Rattle.sgb_gen.specs.Runs.{arc_along}
-use Rattle.sgb_gen.specs.inner.MovedCoordinates.{parts_stay}
+use Rattle.sgb_moves.specs.inner.MovedCoordinates.{parts_stay}
 use Rattle.sgb_gen.specs.inner.StraightLists.{IsLeaper, NeverHome}
 use Rattle.sgb_gen.proofs.BoardWalks.{leads, left-all, left-next, left-none, left-out, longest, moves_left, moves_of}
-use Rattle.sgb_gen.proofs.MovedCoordinates.{place_by_parts}
+use Rattle.sgb_moves.proofs.MovedCoordinates.{place_by_parts}
 use Rattle.sgb_gen.proofs.OnwardMoves.{back_earlier, onward_elsewhere}
 use Rattle.sgb_gen.proofs.OrderedLists.{before_none}
 use Rattle.sgb_gen.proofs.Reaches.{sizes_of_sides}

@@ -16,15 +16,15 @@ use Rattle.sgb_graph.specs.Graphs.{chain_of}
 use Rattle.sgb_graph.specs.Made.{graph_described}
 use Rattle.sgb_gen.specs.Boards.{BoardData, board_vector_graph}
 use Rattle.sgb_gen.specs.LocalLists.{LocalArc, list_in}
-use Rattle.sgb_gen.specs.MovedCoordinates.{parts_of, parts_put}
-use Rattle.sgb_gen.specs.Moves.{coordinate_on, in_front, is_bit_set, opposite, place, sides_from_bit, sides_of, within_size}
+use Rattle.sgb_moves.specs.MovedCoordinates.{parts_of, parts_put}
+use Rattle.sgb_moves.specs.Moves.{coordinate_on, in_front, is_bit_set, opposite, place, sides_from_bit, sides_of, within_size}
 use Rattle.sgb_gen.specs.Runs.{arc_along, arcs_along}
 use Rattle.sgb_gen.specs.Strides.{lengths_of_stride, lengths_to, tips_ahead, tips_back, tips_of_stride}
 use Rattle.sgb_gen.specs.VectorGraphs.{described_by, vertex_among}
-use Rattle.sgb_gen.specs.inner.EntryBounds.{displacements_within}
+use Rattle.sgb_moves.specs.inner.EntryBounds.{displacements_within}
 use Rattle.sgb_gen.specs.inner.LocalBoards.{arcs_onward, moves_by}
-use Rattle.sgb_gen.specs.inner.MovedCoordinates.{IsInside, parts_stay}
-use Rattle.sgb_gen.specs.inner.Moves.{longest_move}
+use Rattle.sgb_moves.specs.inner.MovedCoordinates.{IsInside, parts_stay}
+use Rattle.sgb_moves.specs.inner.Moves.{longest_move}
 use Rattle.sgb_gen.specs.inner.StraightLists.{IsLeaper, IsRun, arcs_back, arcs_by_all, arcs_from}
 use Rattle.sgb_gen.specs.inner.Strides.{IsFlatFrom, LeadsByStride, stride_of}
 use Rattle.sgb_gen.proofs.BoundedMoves.{bounds_of, moves_within}
@@ -34,10 +34,10 @@ use Rattle.sgb_gen.proofs.InsideVertices.{opposite_within}
 use Rattle.sgb_gen.proofs.ListedGraphs.{of_board}
 use Rattle.sgb_gen.proofs.ListsOfBoards.{list_of_board}
 use Rattle.sgb_gen.proofs.LocalChains.{SayList, chain_said}
-use Rattle.sgb_gen.proofs.MovedCoordinates.{place_by_parts}
+use Rattle.sgb_moves.proofs.MovedCoordinates.{place_by_parts}
 use Rattle.sgb_gen.proofs.Reaches.{sizes_of_sides}
 use Rattle.sgb_gen.proofs.RunsOfLists.{next_run_first}
-use Rattle.sgb_gen.proofs.TurnedMoves.{in_front-parts}
+use Rattle.sgb_moves.proofs.TurnedMoves.{in_front-parts}
 use Rattle.sgb_gen.proofs.Vertices.{vertex_in_box}
 
 -- ---- places on sides that do not wrap around

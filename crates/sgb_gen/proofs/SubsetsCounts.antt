@@ -18,7 +18,8 @@ use Rattle.sgb_vec.proofs.SumSuccessors.{sum-cons}
 use Rattle.sgb_gen.specs.ArcSinks.{AreGiven}
 use Rattle.sgb_gen.specs.LocalLists.{LocalArc}
 use Rattle.sgb_gen.specs.Subsets.{SubsetsData, common_size, is_wanted_size, moves_of_subsets, moves_to_place, subsets_vector_graph, subsets_vectors}
-use Rattle.sgb_gen.specs.VectorGraphs.{Move, described_by, family_graph, vertex_among}
+use Rattle.sgb_moves.specs.VectorMoves.{Move}
+use Rattle.sgb_gen.specs.VectorGraphs.{described_by, family_graph, vertex_among}
 use Rattle.sgb_gen.specs.inner.Descents.{IsBegun, arcs_under, down_from, row, rows}
 use Rattle.sgb_gen.specs.inner.SubsetsCounts.{HasNoneAbove, moves_among, wanted_among}
 use Rattle.sgb_gen.proofs.BoardCountsBoards.{arcs-directed, arcs-undirected}

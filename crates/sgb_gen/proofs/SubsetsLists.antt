@@ -8,7 +8,8 @@ use Rattle.std.proofs.lemmas.List.Elements.{All-append, All-cons, All-contains_i
 use Rattle.std.proofs.lemmas.Option.{get_or_from_slice_get, slice_get_read, slice_get_within}
 use Rattle.sgb_vec.specs.Lexicographic.{IsBefore, IsRising}
 use Rattle.sgb_vec.proofs.SumMembers.{bounded_sums-rise}
-use Rattle.sgb_gen.specs.VectorGraphs.{HasEnds, Move, same_vector, vertex_among}
+use Rattle.sgb_moves.specs.VectorMoves.{Move, same_vector}
+use Rattle.sgb_gen.specs.VectorGraphs.{HasEnds, vertex_among}
 use Rattle.sgb_gen.specs.Subsets.{SubsetsData, common_size, is_wanted_size, moves_to_place, subsets_vectors, moves_of_subsets}
 use Rattle.sgb_gen.specs.inner.LocalArcs.{arc_if, arcs_by, arcs_of_moves}
 use Rattle.sgb_gen.specs.LocalLists.{LocalArc, list_at}

@@ -16,17 +16,18 @@ use Rattle.sgb_gen.specs.Boards.{BoardData}
 use Rattle.sgb_gen.specs.inner.LocalArcs.{arc_if, arcs_by}
 use Rattle.sgb_gen.specs.inner.LocalBoards.{arcs_of_starts, arcs_onward, edge_arcs, moves_by, other_starts, own_starts, starts_of}
 use Rattle.sgb_gen.specs.LocalLists.{LocalArc}
-use Rattle.sgb_gen.specs.Moves.{LeadsTo, Side, moves_from, opposite, place, sides_of}
-use Rattle.sgb_gen.specs.inner.Moves.{destination}
-use Rattle.sgb_gen.specs.VectorGraphs.{Move, same_vector, vertex_among}
+use Rattle.sgb_moves.specs.Moves.{LeadsTo, Side, moves_from, opposite, place, sides_of}
+use Rattle.sgb_moves.specs.inner.Moves.{destination}
+use Rattle.sgb_moves.specs.VectorMoves.{Move, same_vector}
+use Rattle.sgb_gen.specs.VectorGraphs.{vertex_among}
 use Rattle.sgb_gen.proofs.Destinations.{place-below}
 use Rattle.sgb_gen.proofs.MoveLists.{same_vertex}
 use Rattle.sgb_gen.proofs.MovesInOrder.{ComesBefore, all_lead, all_start, move_there, moves_in_order, vertices_in_order}
 use Rattle.sgb_vec.proofs.Lists.{All-flat_map, AllPairs-follows, AllPairs-map, Contains-flat_map, Contains-image, Contains-passing, made-append}
 use Rattle.sgb_gen.proofs.OrderedLists.{before_at, rising_same}
 use Rattle.sgb_gen.proofs.Reaches.{move, sizes_of_sides}
-use Rattle.sgb_gen.proofs.Riders.{Contains-rider_reach}
-use Rattle.sgb_gen.proofs.TurnedMoves.{moves_turned}
+use Rattle.sgb_moves.proofs.Riders.{Contains-rider_reach}
+use Rattle.sgb_moves.proofs.TurnedMoves.{moves_turned}
 use Rattle.sgb_gen.proofs.Vertices.{same_is}
 
 -- a vertex and a length as a vector of two entries

@@ -7,7 +7,8 @@ use Rattle.std.proofs.lemmas.Option.{slice_get_within}
 use Rattle.sgb_vec.specs.Boxes.{box}
 use Rattle.sgb_vec.specs.Lexicographic.{IsBelow}
 use Rattle.sgb_vec.proofs.BoxPlaces.{StandsAt-from_slice_get}
-use Rattle.sgb_gen.specs.VectorGraphs.{same_vector, vertex_among}
+use Rattle.sgb_moves.specs.VectorMoves.{same_vector}
+use Rattle.sgb_gen.specs.VectorGraphs.{vertex_among}
 
 -- a vector that is there
 pub same_is : (v : List ℕ) → same_vector v v ≡ true

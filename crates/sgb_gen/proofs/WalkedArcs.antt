@@ -8,8 +8,8 @@ use Rattle.std.proofs.lemmas.List.Elements.{All-cons, All-drop, All-head, All-ni
 use Rattle.sgb_vec.specs.Boxes.{box}
 use Rattle.sgb_vec.proofs.Lists.{flat_map-none}
 use Rattle.sgb_gen.specs.Boards.{BoardData}
-use Rattle.sgb_gen.specs.Moves.{sides_of}
-use Rattle.sgb_gen.specs.inner.LaterDisplacements.{LeavesOut}
+use Rattle.sgb_moves.specs.Moves.{sides_of}
+use Rattle.sgb_moves.specs.inner.LaterDisplacements.{LeavesOut}
 use Rattle.sgb_gen.specs.inner.LocalArcs.{arcs_by}
 use Rattle.sgb_gen.specs.inner.LocalBoards.{arcs_onward, moves_by}
 use Rattle.sgb_gen.specs.inner.StraightLists.{LeadNowhere, arcs_by_all}

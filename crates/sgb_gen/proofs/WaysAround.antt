@@ -4,10 +4,10 @@ use Rattle.std.proofs.Common.{◌≡◌, ℕ, zero, suc, ◌+◌, ◌-◌, ◌*�
 use Rattle.std.specs.Option.{IfNone, IfSome}
 use Rattle.std.proofs.lemmas.Bool.{lt-ltb}
 use Rattle.std.proofs.lemmas.Int.{ints}
-use Rattle.sgb_gen.specs.Moves.{coordinate_on}
+use Rattle.sgb_moves.specs.Moves.{coordinate_on}
 use Rattle.sgb_gen.specs.inner.VertexBounds.{Misses}
 use Rattle.sgb_gen.proofs.FallingPlaces.{around_at, back_by}
-use Rattle.sgb_gen.proofs.TurnedMoves.{side_itself}
+use Rattle.sgb_moves.proofs.TurnedMoves.{side_itself}
 
 module _ (w : Bool) (n y a z : ℕ) (below : y < n) where
   down_on : (m c : ℕ) → m ≤ y → coordinate_on (record { size = n; wraps = w }) (pos y +ℤ neg_ℤ (pos m)) ≡ Some c → c + m ≡ y

@@ -9,9 +9,10 @@ use Rattle.sgb_vec.specs.declared.panics.Panic.TheVariants.{VeryBad}
 use Rattle.sgb_graph.specs.Descriptions.{Description}
 use Rattle.sgb_graph.specs.IdTexts.{flag_text}
 use Rattle.sgb_gen.specs.declared.params.BoardParams.{BoardParams}
-use Rattle.sgb_gen.specs.Limits.{most_piece}
-use Rattle.sgb_gen.specs.VectorGraphs.{Move, VectorGraph, call_text, described_by}
-use Rattle.sgb_gen.specs.Moves.{sides_of, board_moves}
+use Rattle.sgb_moves.specs.Limits.{most_piece}
+use Rattle.sgb_moves.specs.VectorMoves.{Move}
+use Rattle.sgb_gen.specs.VectorGraphs.{VectorGraph, call_text, described_by}
+use Rattle.sgb_moves.specs.Moves.{sides_of, board_moves}
 
 -- an accepted board: n1 to n4 as its official name has them, their sizes, the piece, which is not 0, wrap and the flag
 pub record BoardData : Type 0 where

@@ -1,13 +1,7 @@
 -- What the contracts of sgb_gen speak of.
 
--- the limits of pieces and of size bits
-pub mod Limits
 -- the graph of a family of vectors
 pub mod VectorGraphs
--- the displacements of a piece
-pub mod Displacements
--- the moves of a piece on a board
-pub mod Moves
 -- boards: parameters, ids, graphs
 pub mod Boards
 -- simplexes: parameters, ids, graphs
@@ -22,8 +16,6 @@ pub mod Generators
 pub mod LocalLists
 -- arcs that are handed out one by one
 pub mod ArcSinks
--- displacements by the coordinates that they move
-pub mod MovedCoordinates
 -- the list of a board's vertex, run by run
 pub mod Runs
 -- the same, by the vertices where the arcs lead

@@ -2,7 +2,8 @@
 use Rattle.std.specs.Prelude.{ℕ, ℤ, Bool, List, [], map, get_or}
 use Rattle.sgb_graph.specs.Events.{list_of}
 use Rattle.sgb_graph.specs.declared.fields.Link.{Link}
-use Rattle.sgb_gen.specs.VectorGraphs.{Move, VectorGraph, event_among, vertex_among}
+use Rattle.sgb_moves.specs.VectorMoves.{Move}
+use Rattle.sgb_gen.specs.VectorGraphs.{VectorGraph, event_among, vertex_among}
 
 -- an arc: the vector where it leads, and its length
 pub record LocalArc : Type 0 where

@@ -2,7 +2,7 @@
 use Rattle.std.specs.Prelude.{◌≡◌, ℕ, ℤ, pos, List, ◌++◌, length, map, reverse}
 use Rattle.std.specs.List.{range_with_len}
 use Rattle.sgb_gen.specs.LocalLists.{LocalArc}
-use Rattle.sgb_gen.specs.MovedCoordinates.{parts_of, parts_put}
+use Rattle.sgb_moves.specs.MovedCoordinates.{parts_of, parts_put}
 
 -- what is left of a list: the sizes of the board and which of its sides wrap around, the vector, and how many runs of which arcs
 pub record RunsData : Type 0 where

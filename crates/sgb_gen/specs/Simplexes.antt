@@ -9,7 +9,8 @@ use Rattle.sgb_vec.specs.declared.panics.Panic.{Panic}
 use Rattle.sgb_graph.specs.Descriptions.{Description}
 use Rattle.sgb_graph.specs.IdTexts.{flag_text}
 use Rattle.sgb_gen.specs.declared.params.SimplexParams.{SimplexParams}
-use Rattle.sgb_gen.specs.VectorGraphs.{Move, VectorGraph, call_text, described_by}
+use Rattle.sgb_moves.specs.VectorMoves.{Move}
+use Rattle.sgb_gen.specs.VectorGraphs.{VectorGraph, call_text, described_by}
 
 -- an accepted simplex: n and n0 to n4 as its official name has them, the sum and the bounds that they stand for, and the flag
 pub record SimplexData : Type 0 where

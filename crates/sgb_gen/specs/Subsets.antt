@@ -9,7 +9,8 @@ use Rattle.sgb_vec.specs.declared.panics.Panic.{Panic}
 use Rattle.sgb_graph.specs.Descriptions.{Description}
 use Rattle.sgb_graph.specs.IdTexts.{flag_text, hexadecimal_text}
 use Rattle.sgb_gen.specs.declared.params.SubsetsParams.{SubsetsParams}
-use Rattle.sgb_gen.specs.VectorGraphs.{Move, VectorGraph, call_text, described_by}
+use Rattle.sgb_moves.specs.VectorMoves.{Move}
+use Rattle.sgb_gen.specs.VectorGraphs.{VectorGraph, call_text, described_by}
 
 -- accepted subsets: n and n0 to n4 as the official name has them, their sum and bounds, size_bits and the flag
 pub record SubsetsData : Type 0 where

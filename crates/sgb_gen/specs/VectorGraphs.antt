@@ -1,20 +1,14 @@
 -- The graph of a family of vectors: what the graphs of board, simplex and subsets have in common [GB_BASIC].
-use Rattle.std.specs.Prelude.{ℕ, ◌<◌, pos, Bool, List, [], ◌∷◌, ◌++◌, length, map, replicate, slice_index, sum, codes, nat_eq}
+use Rattle.std.specs.Prelude.{ℕ, ◌<◌, pos, Bool, List, [], ◌∷◌, ◌++◌, length, map, replicate, slice_index, sum, codes}
 use Rattle.std.specs.List.{Contains, position_or_len, join_with_byte}
-use Rattle.std.specs.Cmp.Lexicographic.{pointwise}
 use Rattle.sgb_vec.specs.Names.{name_of_vector}
+use Rattle.sgb_moves.specs.VectorMoves.{Move, same_vector}
 use Rattle.sgb_graph.specs.Events.{Event}
 use Rattle.sgb_graph.specs.Descriptions.{Description}
 use Rattle.sgb_graph.specs.declared.fields.Kind.{Kind}
 use Rattle.sgb_graph.specs.declared.fields.Kind.TheVariants.{Z, I}
 use Rattle.sgb_graph.specs.declared.fields.Util.{Util}
 use Rattle.sgb_graph.specs.declared.fields.Util.TheVariants.{Nothing, Int}
-
--- an event between two vectors
-pub record Move : Type 0 where
-  pub from : List ℕ
-  pub to : List ℕ
-  pub len : ℕ
 
 -- both ends of a move are among the vectors
 abbrev pub HasEnds : List (List ℕ) → Move → Type 0
@@ -30,10 +24,6 @@ pub record VectorGraph : Type 0 where
 -- some vector has a unit, and two entries or more, between which it might go
 abbrev pub HasUnitToMove : VectorGraph → Type 0
 HasUnitToMove g = (v : List ℕ) × Contains g.vectors v × (1 < length v) × (0 < sum v)
-
--- v and w have the same entries
-abbrev pub same_vector : List ℕ → List ℕ → Bool
-same_vector v w = pointwise nat_eq v w
 
 -- where v stands among the vectors, counted from 0
 abbrev pub vertex_among : List (List ℕ) → List ℕ → ℕ

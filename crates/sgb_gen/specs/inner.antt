@@ -4,10 +4,6 @@
 pub mod Laws
 -- what accepted boards keep
 pub mod Boards
--- the displacements within a board's bounds
-pub mod EntryBounds
--- the displacements after one of them
-pub mod LaterDisplacements
 -- arcs that are taken in turn
 pub mod ArcSinks
 -- the list of a vector, from the moves that touch it
@@ -24,14 +20,10 @@ pub mod LocalSimplexes
 pub mod LocalSubsets
 -- the list of a vector of subsets, by a descent
 pub mod Descents
--- where a piece moves at one length
-pub mod Moves
 -- what accepted simplexes and subsets keep, and the shifts of one unit
 pub mod Simplexes
 -- what the parameters of accepted subsets keep
 pub mod Subsets
--- moved coordinates that stay on the board, and vectors that differ in no others
-pub mod MovedCoordinates
 -- a list that is had run by run
 pub mod StraightLists
 -- numbers of steps one after another, and those that lead to one of some coordinates

@@ -4,11 +4,10 @@
 //! megabytes.
 ghost use Rattle.std.specs.Prelude.{◌≡◌, ◌<◌, ◌≤◌, ◌/◌, length, take, drop, nat_abs, slice_get, Some, All, IfSome};
 ghost use Rattle.sgb_vec.specs.Limits.{most_dimensions};
-ghost use Rattle.sgb_gen.specs.Limits.{most_piece};
-ghost use Rattle.sgb_gen.specs.Moves.{opposite};
+ghost use Rattle.sgb_moves.specs.Limits.{most_piece};
+ghost use Rattle.sgb_moves.specs.Moves.{opposite};
 
-use crate::displacements::{Displacement, Displacements, put_opposite};
-use crate::steps::{Part, Parts, Step, put_parts_of};
+use sgb_moves::{Displacement, Displacements, Part, Parts, Step, put_opposite, put_parts_of};
 use std::alloc::Global;
 use std::marker::Model;
 
@@ -25,8 +24,8 @@ pub(crate) struct KeptPair {
 
 impl Model for KeptPair {
     ghost use Rattle.std.specs.Prelude.{◌≡◌, ◌/◌, List, ℤ, length, take, drop};
-    ghost use Rattle.sgb_gen.specs.Moves.{opposite};
-    ghost use Rattle.sgb_gen.specs.MovedCoordinates.{parts_of};
+    ghost use Rattle.sgb_moves.specs.Moves.{opposite};
+    ghost use Rattle.sgb_moves.specs.MovedCoordinates.{parts_of};
 
     ghost Value = { List ℤ };
 

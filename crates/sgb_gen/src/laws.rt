@@ -1,7 +1,7 @@
 ghost use Rattle.std.specs.Prelude.{◌≡◌, ◌↔◌, ◌<◌, ◌≤◌, ◌*◌, ℕ, ℤ, List, Some, All, Contains, length, map, nat_abs, sum, sum_by, true, false};
 ghost use Rattle.sgb_vec.specs.Lexicographic.{IsBelow, IsWithin};
-ghost use Rattle.sgb_gen.specs.Displacements.{displacements};
-ghost use Rattle.sgb_gen.specs.Moves.{LeadsTo, Side, is_elsewhere, opposite, place, places_count, rider_reach};
+ghost use Rattle.sgb_moves.specs.Displacements.{displacements};
+ghost use Rattle.sgb_moves.specs.Moves.{LeadsTo, Side, is_elsewhere, opposite, place, places_count, rider_reach};
 ghost use Rattle.sgb_gen.specs.Simplexes.{Places, can_move_unit, unit_moved};
 
 /// The squares of each displacement of a piece add to the piece (GB_BASIC, board).

@@ -7,9 +7,7 @@ mod accepted;
 mod arc_sinks;
 // Displacements that are kept.
 mod displacement_tables;
-// A walk over the displacements of a piece.
-mod displacements;
-// The same from the last of them on.
+// A walk over the displacements of a piece from the last of them on.
 mod falling_displacements;
 // The generators.
 mod generators;
@@ -27,20 +25,12 @@ mod listed;
 mod local_lists;
 // Accepted parameters of any generator.
 mod locals;
-// Where a piece moves on a board.
-mod moves;
 // The generators' parameters.
 mod params;
-// Ranges of the starts of moves.
-mod start_ranges;
-// Starts of moves in a range, and their order.
-mod starts;
 // A unit of a vector that goes to a higher place.
 mod shifts;
 // The short names of some boards and subsets.
 mod shorthands;
-// Displacements with the coordinates that they move.
-mod steps;
 // The names and the coordinates of a family's graph.
 mod vector_graphs;
 // Vectors, each of which is found at once.

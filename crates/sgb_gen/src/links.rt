@@ -6,7 +6,7 @@
 ghost use Rattle.std.specs.Prelude.{◌≡◌, ◌<◌, pos, [], ◌∷◌, ◌++◌, ◌+◌, ◌*◌, ◌≤◌, length, vec_capacity, vec_len, take, drop, slice_get, Some, OnOk, OnErr, IsOkUnless};
 ghost use Rattle.sgb_gen.specs.LocalLists.{LinksData, LocalArc};
 
-use crate::starts::Starts;
+use sgb_moves::Starts;
 use sgb_vec::Panic;
 use std::alloc::Global;
 use std::marker::Model;

@@ -4,7 +4,7 @@ use Rattle.std.proofs.lemmas.List.Quantifiers.{all_pairs_push}
 use Rattle.std.proofs.lemmas.Nat.Bits.{bit_at_set_same, bit_at_set_other}
 use Rattle.sgb_vec.proofs.Lists.{filter-none}
 use Rattle.sgb_graph.specs.Events.{Event}
-use Rattle.sgb_ops.specs.inner.Ends.{bit_place}
+use Rattle.sgb_taken.specs.inner.Ends.{bit_place}
 use Rattle.sgb_ops.specs.Merged.{merged, merged_unless}
 use Rattle.sgb_ops.specs.inner.Merged.{HaveDifferentEnds}
 use Rattle.sgb_ops.proofs.Merging.{apart}

@@ -6,12 +6,13 @@ use Rattle.sgb_graph.specs.Graphs.{GraphData}
 use Rattle.sgb_graph.specs.declared.fields.Link.{Link}
 use Rattle.sgb_ops.specs.Intersection.{common_count, common_events, common_length, count_to, least_to}
 use Rattle.sgb_ops.specs.Lengths.{least_of}
-use Rattle.sgb_ops.specs.Taken.{taken}
+use Rattle.sgb_taken.specs.Taken.{taken}
 use Rattle.sgb_ops.specs.inner.Ends.{event_of}
 use Rattle.sgb_ops.specs.inner.Intersection.{common_event}
-use Rattle.sgb_ops.specs.inner.Sources.{HasTips, bare, link_of}
+use Rattle.sgb_taken.specs.inner.Ends.{link_of}
+use Rattle.sgb_ops.specs.inner.Sources.{HasTips, bare}
 use Rattle.sgb_ops.proofs.CommonEvents.{commons_after, commons_at_places}
-use Rattle.sgb_ops.proofs.EventsWithin.{TipBelow}
+use Rattle.sgb_taken.proofs.TakenTips.{TipBelow}
 use Rattle.sgb_ops.proofs.ListedEvents.{listed_tips}
 
 -- no more is taken from them

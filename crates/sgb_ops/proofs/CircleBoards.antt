@@ -19,9 +19,10 @@ use Rattle.sgb_vec.specs.declared.panics.Panic.TheVariants.{NoRoom}
 use Rattle.sgb_graph.specs.Vertices.{names_of, order_of}
 use Rattle.sgb_gen.specs.Boards.{board, board_vector_graph, moves_of_board}
 use Rattle.sgb_gen.specs.Generators.{made}
-use Rattle.sgb_gen.specs.Displacements.{displacements, vectors_of_norm}
-use Rattle.sgb_gen.specs.Moves.{board_moves, moves_from, sides_of}
-use Rattle.sgb_gen.specs.VectorGraphs.{Move, described_by, event_among, family_graph, vertex_among}
+use Rattle.sgb_moves.specs.Displacements.{displacements, vectors_of_norm}
+use Rattle.sgb_moves.specs.Moves.{board_moves, moves_from, sides_of}
+use Rattle.sgb_moves.specs.VectorMoves.{Move}
+use Rattle.sgb_gen.specs.VectorGraphs.{described_by, event_among, family_graph, vertex_among}
 use Rattle.sgb_gen.proofs.ListedGraphs.{of_board}
 use Rattle.sgb_gen.proofs.LocalChains.{tips_within}
 use Rattle.sgb_gen.proofs.RisingVectors.{vertex_in_rising}

@@ -7,12 +7,13 @@ use Rattle.sgb_ops.specs.inner.Ends.{AllWithin}
 use Rattle.sgb_ops.specs.Intersection.{count_to, least_to, common_count, common_length, common_events, intersection_events}
 use Rattle.sgb_ops.specs.Lengths.{least_of}
 use Rattle.sgb_graph.specs.Vertices.{order_of}
-use Rattle.sgb_ops.specs.Taken.{taken}
+use Rattle.sgb_taken.specs.Taken.{taken}
 use Rattle.sgb_ops.specs.inner.Tallies.{tally_left, tally_of, tally_to, without_one, second_length, event_left}
 use Rattle.sgb_ops.specs.declared.tallies.Tally.{Tally}
 use Rattle.sgb_ops.specs.inner.Intersection.{common_event}
 use Rattle.sgb_ops.specs.inner.Sources.{HasTips}
-use Rattle.sgb_ops.proofs.EventsWithin.{TipBelow, events_after_within}
+use Rattle.sgb_taken.proofs.TakenTips.{TipBelow}
+use Rattle.sgb_ops.proofs.EventsWithin.{events_after_within}
 use Rattle.sgb_ops.proofs.ListedEvents.{listed_tips}
 use Rattle.sgb_ops.proofs.PlainLists.{places_from}
 use Rattle.sgb_ops.proofs.TallyLemmas.{arcs_to, count_more, count_at, tip_counted}

@@ -11,7 +11,7 @@ use Rattle.sgb_ops.specs.inner.Ends.{AllWithin}
 use Rattle.sgb_ops.specs.Entries.{copies_of, events_within, first_copy, inner_events, is_unnumbered, names_by_entries, names_of_copies, size_of_entry}
 use Rattle.sgb_ops.specs.Induced.{events_between}
 use Rattle.sgb_graph.specs.Vertices.{order_of, places_of}
-use Rattle.sgb_ops.specs.Taken.{taken}
+use Rattle.sgb_taken.specs.Taken.{taken}
 use Rattle.sgb_ops.specs.inner.Entries.{inner_event, inner_events_from, own_names, own_total, total_of}
 use Rattle.sgb_ops.specs.inner.Induced.{events_of_arc, events_of_copies, events_of_copy}
 use Rattle.sgb_ops.proofs.EntryTotals.{copies_within, copies-range, total_more}

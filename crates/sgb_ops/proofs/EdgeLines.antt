@@ -12,11 +12,11 @@ use Rattle.sgb_graph.specs.declared.fields.Ref.{Ref}
 use Rattle.sgb_graph.specs.declared.fields.Ref.TheVariants.{At}
 use Rattle.sgb_ops.specs.Lines.{has_way_back, is_of_edges, line_graph_of, lines_of_graph}
 use Rattle.sgb_graph.specs.Vertices.{order_of, places_of}
-use Rattle.sgb_ops.specs.Taken.{edges_up_from, lower_record, taken}
+use Rattle.sgb_taken.specs.Taken.{edges_up_from, lower_record, taken}
 use Rattle.sgb_ops.specs.declared.line_graphs.line.Line.{Line}
 use Rattle.sgb_ops.specs.inner.Lines.{points_to}
 use Rattle.sgb_ops.proofs.LineEvents.{lines_at, lines_below, lines_below-more}
-use Rattle.sgb_ops.proofs.Taking.{taken_of_edges}
+use Rattle.sgb_taken.proofs.Taking.{taken_of_edges}
 
 -- the edges whose smaller end is below k
 abbrev edges_below : ℕ → List Event → List Event

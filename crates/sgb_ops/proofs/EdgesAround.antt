@@ -2,7 +2,7 @@
 use Rattle.sgb_vec.proofs.Common.{◌≡◌, ◌∙◌, ◌<◌, ◌≤◌, ◌+◌, ◌-◌, ◌==◌, ℕ, zero, suc, min, max, Bool, false, List, [], ◌∷◌, ◌++◌, map, filter, reverse, refl, sym, ap, ap₂, arith, range_with_len, enumerate_from, flat_map, filter-append, reverse-append, map-range_with_len_more, map-append, cases_eq, cases_lt, eq-eqb, ne_eqb, lt-ltb, le-ltb}
 use Rattle.sgb_graph.specs.Events.{Event}
 use Rattle.sgb_graph.specs.Graphs.{GraphData}
-use Rattle.sgb_ops.specs.Taken.{edges_up_from, lower_record}
+use Rattle.sgb_taken.specs.Taken.{edges_up_from, lower_record}
 use Rattle.sgb_ops.specs.declared.induced_graphs.entries.Entry.TheVariants as entry
 use Rattle.sgb_ops.specs.Entries.{inner_events}
 use Rattle.sgb_ops.specs.Merged.{merged_unless}
@@ -13,7 +13,7 @@ use Rattle.sgb_ops.specs.inner.Merged.{HaveDifferentEnds}
 use Rattle.sgb_ops.proofs.Apart.{merged_unless_same}
 use Rattle.sgb_ops.proofs.InducedParts.{graph_left, graph_part}
 use Rattle.sgb_ops.proofs.CircleBoards.{around, has_edges_around, order_around}
-use Rattle.sgb_ops.proofs.Taking.{taken_of_edges}
+use Rattle.sgb_taken.proofs.Taking.{taken_of_edges}
 
 -- the edge has the smaller end w
 abbrev is_up_from : ℕ → Event → Bool

@@ -2,7 +2,7 @@
 use Rattle.sgb_vec.proofs.Common.{◌≡◌, ◌⊎◌, ◌==◌, ◌&&◌, ℕ, Bool, true, false, arith, and_parts, or_cases, eqb-true, nat_tests}
 use Rattle.std.proofs.Math.Bool.{or-false}
 use Rattle.sgb_graph.specs.Events.{Event}
-use Rattle.sgb_ops.specs.inner.Ends.{ends_key}
+use Rattle.sgb_taken.specs.inner.Ends.{ends_key}
 use Rattle.sgb_ops.specs.Merged.{has_ends_of}
 
 -- two pairs of numbers are the same

@@ -7,17 +7,12 @@ use Rattle.sgb_graph.specs.Growth.{IsKept}
 use Rattle.sgb_graph.specs.declared.fields.Link.{Link}
 use Rattle.sgb_graph.proofs.Growing.{parts_of}
 use Rattle.sgb_graph.proofs.Tips.{tips_below}
+use Rattle.sgb_taken.proofs.TakenTips.{TipBelow}
 use Rattle.sgb_ops.specs.inner.Ends.{AllWithin, event_of}
-use Rattle.sgb_ops.specs.inner.TakenArcs.{taken_of}
 use Rattle.sgb_ops.specs.Merged.{merged_unless}
 use Rattle.sgb_ops.proofs.Merging.{merged_keeps}
-use Rattle.sgb_ops.proofs.Taking.{all_once}
 
--- the arc leads to a vertex below n
-abbrev pub TipBelow : ℕ → Link → Type 0
-TipBelow n l = l.tip < n
-
--- and below all that is not less
+-- arcs that lead to vertices below n lead below all that is not less
 pub tips_below_more : (n m : ℕ) (links : List Link) → n ≤ m → All (TipBelow n) links → All (TipBelow m) links
 tips_below_more n m links most all = λ k d within. omega (arith, all k d within, most)
 
@@ -29,11 +24,6 @@ merged_unless_within n false directed events all = merged_keeps (HasEndsBelow n)
 -- the arcs of a graph lead to its vertices
 pub chain_tips : (g : GraphData) (v : ℕ) → IsKept g → v < length g.vertices → All (TipBelow (length g.vertices)) (chain_of g v)
 chain_tips g v kept below = grind (arith, All-nil, tips_below, parts_of)
-
--- what is true of all arcs is true of those that are taken
-pub all_taken : (P : Link → Type 0) (directed : Bool) (v : ℕ) (links : List Link) → All P links → All P (taken_of directed v links)
-all_taken P true v links all = all
-all_taken P false v links all = all_once P v links (λ k d h up. all k d h)
 
 -- the events of arcs on the list of a vertex
 pub events_of_within : (n v : ℕ) (links : List Link) → v < n → All (TipBelow n) links → AllWithin n (map (event_of v) links)

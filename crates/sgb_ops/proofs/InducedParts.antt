@@ -13,7 +13,7 @@ use Rattle.sgb_ops.specs.Entries.{copies_of, events_within, first_copy, inner_ev
 use Rattle.sgb_ops.specs.Induced.{events_between, induced_events}
 use Rattle.sgb_ops.specs.Merged.{has_ends_of, merged, merged_unless}
 use Rattle.sgb_graph.specs.Vertices.{order_of, places_of}
-use Rattle.sgb_ops.specs.Taken.{taken}
+use Rattle.sgb_taken.specs.Taken.{taken}
 use Rattle.sgb_ops.specs.inner.Copies.{IsKeptEntry, copies_start, count_by}
 use Rattle.sgb_ops.specs.inner.Ends.{AllWithin}
 use Rattle.sgb_ops.specs.inner.Parts.{has_loop_inside, has_loops_inside}
@@ -28,7 +28,7 @@ use Rattle.sgb_ops.proofs.EntryTotals.{copies-range, next_copy, number_below}
 use Rattle.sgb_ops.proofs.ListedEvents.{listed_tips}
 use Rattle.sgb_ops.proofs.MergedParts.{AreApart, merged_both}
 use Rattle.sgb_ops.proofs.RisingParts.{Rises, merged_rising, rises_wider}
-use Rattle.sgb_ops.proofs.Taking.{taken_up}
+use Rattle.sgb_taken.proofs.Taking.{taken_up}
 
 -- the ends of the event are vertices of a to b
 abbrev pub Inside : ℕ → ℕ → Event → Type 0

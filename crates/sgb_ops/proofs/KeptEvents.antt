@@ -14,13 +14,13 @@ use Rattle.sgb_gen.proofs.ListedGraphs.{IsOfFamily}
 use Rattle.sgb_gen.proofs.LocalChains.{chain_said}
 use Rattle.sgb_gen.proofs.MoveLists.{tips_of_list}
 use Rattle.sgb_gen.proofs.VectorVertices.{lists_of_graph}
-use Rattle.sgb_ops.specs.Taken.{each_edge_once, taken}
+use Rattle.sgb_taken.specs.Taken.{each_edge_once, taken}
 use Rattle.sgb_ops.specs.inner.Ends.{event_of}
 use Rattle.sgb_ops.specs.inner.Sources.{bare, event_to}
-use Rattle.sgb_ops.specs.inner.TakenArcs.{taken_of}
+use Rattle.sgb_taken.specs.inner.TakenArcs.{taken_of}
 use Rattle.sgb_ops.specs.inner.TakenEvents.{TakesArcs, after_append, are_once, events_kept, is_wanted, link_among, second_after, seconds_append, without_seconds}
 use Rattle.sgb_ops.proofs.ListedEvents.{taken_is}
-use Rattle.sgb_ops.proofs.Taking.{numbers_at, numbers_from_first, one_edge, taken_apart}
+use Rattle.sgb_taken.proofs.Taking.{numbers_at, numbers_from_first, one_edge, taken_apart}
 
 -- ---- the arcs taken of a list, by its second loops
 

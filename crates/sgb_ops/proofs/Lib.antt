@@ -1,8 +1,6 @@
 -- Lemmas on the definitions, and worked examples.
 -- numbers in a row, a list that grows, a filter that keeps all
 pub mod PlainLists
--- the arcs taken of a list
-pub mod Taking
 -- when events have the same ends
 pub mod Ends
 -- merged events: each is kept, the first ones, the shortest

@@ -6,7 +6,7 @@ use Rattle.sgb_graph.specs.declared.fields.Link.{Link}
 use Rattle.sgb_ops.specs.Lines.{lines_of_graph}
 use Rattle.sgb_ops.specs.inner.Lines.{LineWithin, events_to, line_of, lines_for}
 use Rattle.sgb_graph.specs.Vertices.{order_of}
-use Rattle.sgb_ops.specs.Taken.{taken}
+use Rattle.sgb_taken.specs.Taken.{taken}
 use Rattle.sgb_ops.specs.declared.line_graphs.line.Line.{Line}
 use Rattle.sgb_ops.specs.inner.Sources.{HasTips, bare}
 use Rattle.sgb_ops.proofs.ListedEvents.{listed_tips}

@@ -7,13 +7,13 @@ use Rattle.sgb_graph.specs.Graphs.{GraphData, chain_of}
 use Rattle.sgb_graph.specs.declared.fields.Link.{Link}
 use Rattle.sgb_ops.specs.Lines.{lines_of_graph}
 use Rattle.sgb_graph.specs.Vertices.{order_of}
-use Rattle.sgb_ops.specs.Taken.{taken}
+use Rattle.sgb_taken.specs.Taken.{taken}
 use Rattle.sgb_ops.specs.inner.Lines.{DescendFrom, LeadsUp, events_to_numbers, no_line, events_to, line_of, share_vertex}
 use Rattle.sgb_ops.specs.inner.LineLists.{counts, list_at, numbers_at, touches}
 use Rattle.sgb_ops.specs.declared.line_graphs.line.Line.{Line}
 use Rattle.sgb_ops.proofs.LineEvents.{lines_at, lines_below, lines_below-more, numbers_below}
 use Rattle.sgb_ops.proofs.LineRuns.{events_of_places}
-use Rattle.sgb_ops.proofs.Taking.{each_edge_once_leads_up}
+use Rattle.sgb_taken.proofs.Taking.{each_edge_once_leads_up}
 
 -- the lines before a place fall to where the line there begins
 abbrev pub FallTo : ℕ → List Line → ℕ → Type 0

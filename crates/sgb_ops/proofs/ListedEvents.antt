@@ -7,12 +7,13 @@ use Rattle.sgb_graph.specs.Graphs.{GraphData, chain_of}
 use Rattle.sgb_graph.specs.Growth.{IsKept}
 use Rattle.sgb_graph.specs.declared.fields.Link.{Link}
 use Rattle.sgb_gen.specs.Strides.{lengths_of_stride, lengths_to, tips_ahead, tips_back, tips_of_stride}
-use Rattle.sgb_ops.specs.Taken.{each_edge_once, taken}
+use Rattle.sgb_taken.specs.Taken.{each_edge_once, taken}
 use Rattle.sgb_ops.specs.inner.Ends.{event_of}
 use Rattle.sgb_ops.specs.inner.Sources.{HasTips, event_to, events_to}
-use Rattle.sgb_ops.specs.inner.TakenArcs.{taken_of, without_other}
-use Rattle.sgb_ops.proofs.EventsWithin.{TipBelow, chain_tips}
-use Rattle.sgb_ops.proofs.Taking.{all_once, one_taken}
+use Rattle.sgb_taken.specs.inner.TakenArcs.{taken_of, without_other}
+use Rattle.sgb_taken.proofs.TakenTips.{TipBelow}
+use Rattle.sgb_ops.proofs.EventsWithin.{chain_tips}
+use Rattle.sgb_taken.proofs.Taking.{all_once, one_taken}
 
 -- of edges none is put to earlier vertices
 none_to_earlier : (v n : ℕ) (tips : List ℕ) (lengths : List ℤ) → All (λ t. t < v) tips → events_to false v n tips lengths ≡ []

@@ -1,7 +1,8 @@
 -- Events that are merged one by one.
 use Rattle.sgb_vec.proofs.Common.{rules, ◌≡◌, ℕ, suc, Bool, true, false, not, List, [], ◌∷◌, ◌++◌, map, set, get_or, append-nil, refl, sym, ◌∙◌, inl, inr, arith, filter, list_any, position_or_len, cases_Bool, or_parts, map_push, filter-append, fold-append}
 use Rattle.sgb_graph.specs.Events.{Event}
-use Rattle.sgb_ops.specs.inner.Ends.{ends_key, shortened, with_event}
+use Rattle.sgb_taken.specs.inner.Ends.{ends_key, shortened}
+use Rattle.sgb_ops.specs.inner.Ends.{with_event}
 use Rattle.sgb_ops.specs.Merged.{has_ends_of, merged}
 use Rattle.sgb_ops.specs.inner.Merged.{with_least_length}
 use Rattle.sgb_ops.proofs.Ends.{has_same_pair, key_tells, ends_joined, ends_turned}

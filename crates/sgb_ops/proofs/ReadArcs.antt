@@ -6,7 +6,7 @@ use Rattle.sgb_ops.specs.inner.Copies.{leads_to_copies}
 use Rattle.sgb_ops.specs.inner.Induced.{events_of_arc}
 use Rattle.sgb_ops.specs.inner.Ends.{event_of}
 use Rattle.sgb_ops.specs.inner.Sources.{bare}
-use Rattle.sgb_ops.proofs.EventsWithin.{TipBelow}
+use Rattle.sgb_taken.proofs.TakenTips.{TipBelow}
 use Rattle.sgb_ops.proofs.WantedEvents.{arcs_to_copies}
 
 loops_bare : (v : ℕ) (links : List Link) → list_any (λ l. l.tip == v) (map bare links) ≡ list_any (λ l. l.tip == v) links

@@ -2,12 +2,12 @@
 use Rattle.sgb_vec.proofs.Common.{◌≡◌, ℕ, zero, suc, Bool, List, [], ◌∷◌, map, take, refl, ap, arith, filter, list_any, sum_by-cons, slice_get-map}
 use Rattle.sgb_graph.specs.Graphs.{GraphData}
 use Rattle.sgb_graph.specs.declared.fields.Link.{Link}
-use Rattle.sgb_gen.proofs.AllVectors.{flat_map-same}
+use Rattle.sgb_moves.proofs.AllVectors.{flat_map-same}
 use Rattle.sgb_ops.specs.declared.induced_graphs.entries.Entry.{Entry}
 use Rattle.sgb_ops.specs.Entries.{copies_by, copies_of, first_copy, is_unnumbered, merged_count, merged_number, size_of_entry}
 use Rattle.sgb_ops.specs.Induced.{events_between}
 use Rattle.sgb_graph.specs.Vertices.{places_of}
-use Rattle.sgb_ops.specs.Taken.{taken}
+use Rattle.sgb_taken.specs.Taken.{taken}
 use Rattle.sgb_ops.specs.inner.Copies.{sized}
 use Rattle.sgb_ops.specs.inner.Entries.{own_total, total_of}
 use Rattle.sgb_ops.specs.inner.Induced.{event_between, events_of_arc, events_of_copies, events_of_copy, is_met}

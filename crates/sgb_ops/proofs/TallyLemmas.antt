@@ -4,7 +4,7 @@ use Rattle.sgb_graph.specs.declared.fields.Link.{Link}
 use Rattle.sgb_ops.specs.Intersection.{count_to}
 use Rattle.sgb_ops.specs.inner.Tallies.{tally_of, tally_to}
 use Rattle.sgb_ops.specs.declared.tallies.Tally.{Tally}
-use Rattle.sgb_ops.proofs.EventsWithin.{TipBelow}
+use Rattle.sgb_taken.proofs.TakenTips.{TipBelow}
 
 -- any arc
 abbrev pub no_arc : Link

@@ -7,14 +7,15 @@ use Rattle.sgb_graph.specs.declared.fields.Link.{Link}
 use Rattle.sgb_ops.specs.inner.Ends.{AllWithin, event_of}
 use Rattle.sgb_ops.specs.Gunion.{union_events}
 use Rattle.sgb_graph.specs.Vertices.{order_of, places_of}
-use Rattle.sgb_ops.specs.Taken.{taken}
+use Rattle.sgb_taken.specs.Taken.{taken}
 use Rattle.sgb_ops.specs.Merged.{has_ends_of, merged_unless}
 use Rattle.sgb_ops.specs.inner.Gunion.{union_arcs}
-use Rattle.sgb_ops.proofs.EventsWithin.{TipBelow, events_of_within, merged_unless_within}
+use Rattle.sgb_taken.proofs.TakenTips.{TipBelow}
+use Rattle.sgb_ops.proofs.EventsWithin.{events_of_within, merged_unless_within}
 use Rattle.sgb_ops.specs.inner.Sources.{HasTips}
 use Rattle.sgb_ops.proofs.ListedEvents.{listed_tips}
 use Rattle.sgb_ops.proofs.MergedParts.{AreApart, merged_parts}
-use Rattle.sgb_ops.proofs.Taking.{taken_up}
+use Rattle.sgb_taken.proofs.Taking.{taken_up}
 
 -- the arcs that lead to vertices below n
 abbrev pub leading_below : ℕ → List Link → List Link

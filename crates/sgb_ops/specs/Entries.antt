@@ -10,7 +10,7 @@ use Rattle.sgb_graph.specs.Events.{Event}
 use Rattle.sgb_ops.specs.declared.induced_graphs.entries.Entry.{Entry}
 use Rattle.sgb_ops.specs.declared.induced_graphs.entries.Entry.TheVariants as entry
 use Rattle.sgb_graph.specs.Vertices.{order_of, places_of, names_of}
-use Rattle.sgb_ops.specs.Taken.{taken}
+use Rattle.sgb_taken.specs.Taken.{taken}
 use Rattle.sgb_ops.specs.Compounds.{joined_name}
 
 -- how many vertices stand in the place of a vertex with this entry alone

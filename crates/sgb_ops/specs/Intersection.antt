@@ -11,7 +11,7 @@ use Rattle.sgb_graph.specs.Made.{plain}
 use Rattle.std.specs.Int.{int_max}
 use Rattle.sgb_ops.specs.Lengths.{least_of}
 use Rattle.sgb_graph.specs.Vertices.{order_of, names_of}
-use Rattle.sgb_ops.specs.Taken.{taken}
+use Rattle.sgb_taken.specs.Taken.{taken}
 use Rattle.sgb_graph.specs.IdTexts.{flag_text}
 use Rattle.sgb_ops.specs.Compounds.{closing}
 

@@ -1,8 +1,6 @@
 -- What the contracts of sgb_ops speak of.
 -- the least of some lengths
 pub mod Lengths
--- the arcs taken of a vertex, each edge once
-pub mod Taken
 -- parallel arcs and edges made one
 pub mod Merged
 -- the end of ids, and names made of two names

@@ -15,7 +15,7 @@ use Rattle.sgb_graph.specs.Descriptions.{Description}
 use Rattle.sgb_graph.specs.Made.{plain}
 use Rattle.sgb_graph.specs.Vertices.{places_of, name_at}
 use Rattle.sgb_ops.specs.declared.line_graphs.line.Line.{Line}
-use Rattle.sgb_ops.specs.Taken.{taken}
+use Rattle.sgb_taken.specs.Taken.{taken}
 use Rattle.sgb_graph.specs.IdTexts.{flag_text}
 use Rattle.sgb_ops.specs.Compounds.{closing, line_name}
 

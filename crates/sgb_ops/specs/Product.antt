@@ -10,7 +10,7 @@ use Rattle.sgb_graph.specs.Descriptions.{Description}
 use Rattle.sgb_graph.specs.Made.{plain}
 use Rattle.std.specs.Int.{int_min}
 use Rattle.sgb_graph.specs.Vertices.{order_of, places_of, names_of}
-use Rattle.sgb_ops.specs.Taken.{taken}
+use Rattle.sgb_taken.specs.Taken.{taken}
 use Rattle.sgb_graph.specs.IdTexts.{flag_text}
 use Rattle.sgb_ops.specs.Compounds.{closing, joined_name}
 use Rattle.sgb_ops.specs.declared.products.ProductType.{ProductType}

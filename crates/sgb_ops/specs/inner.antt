@@ -39,8 +39,6 @@ pub mod Slots
 pub mod Sources
 -- the steps of a product, part by part
 pub mod Steps
--- the arcs taken of a list, met one by one
-pub mod TakenArcs
 -- arcs that are handed out one by one, and the events of those taken
 pub mod TakenEvents
 -- what is noted of the arcs to each vertex

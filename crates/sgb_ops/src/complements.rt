@@ -9,9 +9,9 @@ ghost use Rattle.sgb_ops.specs.inner.Compounds.{complement_id};
 ghost use Rattle.sgb_ops.specs.inner.Sources.{HasTips};
 
 use crate::compounds::flag_byte;
-use crate::events::Event;
 use crate::sources::{ListRoom, Source};
 use sgb_graph::{Graph, Id, compound_id};
+use sgb_taken::Event;
 use sgb_vec::Panic;
 use std::alloc::Global;
 

@@ -9,10 +9,11 @@ ghost use Rattle.sgb_ops.specs.inner.Compounds.{gunion_id};
 ghost use Rattle.sgb_ops.specs.inner.Gunion.{union_arcs};
 
 use crate::compounds::flag_byte;
-use crate::events::{Event, add_events};
+use crate::events::add_events;
 use crate::merged::merged_unless;
 use crate::sources::{ListRoom, Source};
 use sgb_graph::{Graph, Id, double_compound_id};
+use sgb_taken::Event;
 use sgb_vec::Panic;
 use std::alloc::Global;
 

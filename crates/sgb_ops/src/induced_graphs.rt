@@ -31,7 +31,7 @@ mod rooms;
 mod slots;
 
 use crate::compounds::flag_byte;
-use crate::events::{Event, add_events};
+use crate::events::add_events;
 use crate::merged::merged_unless;
 use crate::sources::Source;
 use copied_names::names_by_entries;
@@ -40,6 +40,7 @@ use entries::{Copies, accept_entries};
 use events::{Flags, events_within, push_events_between};
 use parts::{add_events_between, add_events_within, are_in_parts};
 use sgb_graph::{Graph, Id, compound_id};
+use sgb_taken::Event;
 use sgb_vec::Panic;
 pub use slots::KeptEntry;
 use slots::Slots;

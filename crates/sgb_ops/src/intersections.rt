@@ -8,10 +8,11 @@ ghost use Rattle.sgb_ops.specs.inner.Intersection.{HasNoTallies};
 ghost use Rattle.sgb_ops.specs.inner.Compounds.{intersection_id};
 
 use crate::compounds::flag_byte;
-use crate::events::{Event, graph_of};
+use crate::events::graph_of;
 use crate::sources::{ListRoom, Source};
 use crate::tallies::{Tally, count_to, make_room, note, take_out, tally_to};
 use sgb_graph::{Graph, Id, Link, double_compound_id};
+use sgb_taken::Event;
 use sgb_vec::Panic;
 use std::alloc::Global;
 

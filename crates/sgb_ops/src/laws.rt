@@ -8,7 +8,7 @@ ghost use Rattle.sgb_ops.specs.Copies.{own_copies};
 ghost use Rattle.sgb_ops.specs.Entries.{copies_of, is_unnumbered, merged_count, size_of_entry};
 ghost use Rattle.sgb_ops.specs.Lines.{is_of_edges, line_graph_of, lines_of_graph};
 ghost use Rattle.sgb_ops.specs.Merged.{IsShortest, first_ones, has_ends_of, merged, named_ends};
-ghost use Rattle.sgb_ops.specs.Taken.{edges_up_from, lower_record, taken};
+ghost use Rattle.sgb_taken.specs.Taken.{edges_up_from, lower_record, taken};
 ghost use Rattle.sgb_ops.specs.declared.induced_graphs.entries.Entry.{Entry};
 ghost use Rattle.sgb_ops.specs.declared.induced_graphs.entries.Entry.TheVariants as entry;
 

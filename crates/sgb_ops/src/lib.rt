@@ -31,8 +31,6 @@ mod operands;
 mod products;
 // The graphs that an operation reads.
 mod sources;
-// The arcs taken of a vertex, each edge once.
-mod taken;
 // Arcs that are handed out, and taken as events.
 mod taken_events;
 // How many arcs lead to each vertex, and the least length.

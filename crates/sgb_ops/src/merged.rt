@@ -6,12 +6,13 @@
 //! however great.
 ghost use Rattle.std.specs.Prelude.{◌≡◌, ◌≢◌, ◌+◌, Bool, false, map, All, OnOk, IfOk, IsOkUnless};
 ghost use Rattle.std.specs.Bool.{OnFalse, OnTrue};
-ghost use Rattle.sgb_ops.specs.inner.Ends.{ends_key, with_event};
+ghost use Rattle.sgb_taken.specs.inner.Ends.{ends_key};
+ghost use Rattle.sgb_ops.specs.inner.Ends.{with_event};
 ghost use Rattle.sgb_ops.specs.Merged.{merged, merged_unless};
 ghost use Rattle.sgb_ops.specs.inner.Merged.{HaveDifferentEnds};
 
-use crate::events::Event;
 use indexmap::IndexSet;
+use sgb_taken::Event;
 use sgb_vec::Panic;
 use std::alloc::Global;
 

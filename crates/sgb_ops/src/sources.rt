@@ -10,24 +10,24 @@ ghost use Rattle.sgb_graph.specs.Vertices.{names_of};
 ghost use Rattle.sgb_gen.specs.Boards.{board_vector_graph};
 ghost use Rattle.sgb_gen.specs.Generators.{described};
 ghost use Rattle.sgb_gen.specs.VectorGraphs.{described_by};
-ghost use Rattle.sgb_ops.specs.Taken.{taken};
+ghost use Rattle.sgb_taken.specs.Taken.{taken};
 ghost use Rattle.sgb_ops.specs.inner.Ends.{event_of};
-ghost use Rattle.sgb_ops.specs.inner.Sources.{HasTips, bare, link_of, names_held};
+ghost use Rattle.sgb_taken.specs.inner.Ends.{link_of};
+ghost use Rattle.sgb_ops.specs.inner.Sources.{HasTips, bare, names_held};
 
 // The lists of a board with no side that wraps around.
 mod flat;
 // Those of any generator's graph.
 mod listed;
 
-use crate::events::Event;
 use crate::operands::{VertexNames, names_of};
-use crate::taken::taken;
 pub(crate) use flat::push_event;
 use flat::{push_flat, put_flat};
 pub(crate) use listed::ListRoom;
 use listed::{push_listed, put_listed};
 use sgb_gen::{FlatLists, LocalLists};
 use sgb_graph::{Graph, Id, Link, Names};
+use sgb_taken::{Event, taken};
 use sgb_vec::Panic;
 use std::alloc::Global;
 use std::marker::Model;

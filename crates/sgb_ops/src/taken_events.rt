@@ -3,9 +3,9 @@
 //! Each leads to a vector whose vertex is found at once.
 ghost use Rattle.std.specs.Prelude.{◌≡◌, ◌==◌, ◌&&◌, not, if◌then◌else◌};
 
-use crate::events::Event;
 use crate::sources::push_event;
 use sgb_gen::{ArcSink, VectorPlaces};
+use sgb_taken::Event;
 use sgb_vec::Panic;
 
 /// Appends the events of the arcs taken of a vertex.

@@ -12,11 +12,11 @@ use Rattle.sgb_graph.specs.Events.{list_from}
 use Rattle.sgb_graph.specs.Graphs.{GraphData, numbers_from}
 use Rattle.sgb_graph.specs.Ids.{compound_id, double_compound_id}
 use Rattle.sgb_gen.specs.Boards.{board_id}
-use Rattle.sgb_gen.specs.Displacements.{displacements, vectors_of_norm}
-use Rattle.sgb_gen.specs.Moves.{board_moves}
+use Rattle.sgb_moves.specs.Displacements.{displacements, vectors_of_norm}
+use Rattle.sgb_moves.specs.Moves.{board_moves}
 use Rattle.sgb_gen.specs.VectorGraphs.{family_graph}
 use Rattle.sgb_ops.specs.Merged.{merged}
-use Rattle.sgb_ops.specs.Taken.{each_edge_once}
+use Rattle.sgb_taken.specs.Taken.{each_edge_once}
 use Rattle.sgb_ops.specs.declared.induced_graphs.entries.Entry.TheVariants as entry
 use Rattle.sgb_file.specs.FileLines.{text_of_lines}
 use Rattle.sgb_file.specs.Refused.{HasNoOpening, IsRestoredAs}

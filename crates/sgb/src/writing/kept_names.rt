@@ -9,7 +9,7 @@ ghost use Rattle.std.specs.Bool.{OnFalse, OnTrue};
 ghost use Rattle.sgb_file.specs.Devices.{change};
 ghost use Rattle.sgb_vec.specs.Limits.{most_dimensions};
 ghost use Rattle.sgb_vec.specs.Names.{name_of_vector};
-ghost use Rattle.sgb_gen.specs.MovedCoordinates.{parts_put};
+ghost use Rattle.sgb_moves.specs.MovedCoordinates.{parts_put};
 ghost use Rattle.sgb_gen.specs.Runs.{AreMoved};
 ghost use Rattle.sgb.specs.Texts.{name_line};
 ghost use Rattle.sgb.specs.inner.Pages.{IsPaged, page_bytes};

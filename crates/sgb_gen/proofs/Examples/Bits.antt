@@ -3,7 +3,7 @@ use Rattle.std.specs.Prelude.{◌≡◌, pos, negsuc, true, false, [], ◌∷◌
 use Rattle.std.proofs.Common.{inr}
 use Rattle.sgb_vec.specs.declared.panics.Panic.TheVariants.{NoRoom, Bad}
 use Rattle.sgb_gen.specs.Generators.{IsLocalOf}
-use Rattle.sgb_gen.specs.Moves.{is_bit_set, is_elsewhere, reach, sides_of}
+use Rattle.sgb_moves.specs.Moves.{is_bit_set, is_elsewhere, reach, sides_of}
 use Rattle.sgb_gen.specs.Simplexes.{pairs_of_places}
 use Rattle.sgb_gen.specs.Subsets.{common_size}
 

@@ -11,9 +11,9 @@ use Rattle.sgb_graph.specs.Descriptions.{Description}
 use Rattle.sgb_graph.specs.declared.fields.Kind.TheVariants.{Z, I}
 use Rattle.sgb_graph.specs.declared.fields.Util.TheVariants.{Nothing, Int}
 use Rattle.sgb_gen.specs.VectorGraphs.{family_graph}
-use Rattle.sgb_gen.specs.Displacements.{displacements, vectors_of_norm, signings}
-use Rattle.sgb_gen.specs.inner.EntryBounds.{entry_bounds, near_bounds, vectors_within, displacements_within}
-use Rattle.sgb_gen.specs.Moves.{is_bit_set, sides_of, place, reach, board_moves, opposite}
+use Rattle.sgb_moves.specs.Displacements.{displacements, vectors_of_norm, signings}
+use Rattle.sgb_moves.specs.inner.EntryBounds.{entry_bounds, near_bounds, vectors_within, displacements_within}
+use Rattle.sgb_moves.specs.Moves.{is_bit_set, sides_of, place, reach, board_moves, opposite}
 use Rattle.sgb_gen.specs.declared.params.BoardParams.{BoardParams}
 use Rattle.sgb_gen.specs.Boards.{BoardData, accepted_board, board, board_id}
 use Rattle.sgb_gen.specs.Shorthands.{complete, transitive, circuit, cycle, empty}

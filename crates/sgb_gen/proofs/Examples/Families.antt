@@ -12,7 +12,8 @@ use Rattle.sgb_gen.specs.Shorthands.{complete, petersen}
 use Rattle.sgb_gen.specs.Simplexes.{SimplexData}
 use Rattle.sgb_gen.specs.Sorts.{of_board, of_simplex, of_subsets}
 use Rattle.sgb_gen.specs.Subsets.{SubsetsData}
-use Rattle.sgb_gen.specs.VectorGraphs.{HasEnds, HasUnitToMove, Move, VectorGraph, fields_of_vector}
+use Rattle.sgb_moves.specs.VectorMoves.{Move}
+use Rattle.sgb_gen.specs.VectorGraphs.{HasEnds, HasUnitToMove, VectorGraph, fields_of_vector}
 use Rattle.sgb_gen.specs.declared.locals.Local.TheVariants as local
 use Rattle.sgb_gen.specs.declared.params.Generator.TheVariants as generator
 

@@ -14,8 +14,8 @@ use Rattle.sgb_graph.specs.declared.fields.Ref.TheVariants.{At}
 use Rattle.sgb_graph.specs.declared.fields.Util.{Util}
 use Rattle.sgb_graph.specs.declared.fields.Util.TheVariants.{Nothing, Int}
 use Rattle.sgb_gen.specs.VectorGraphs.{family_graph}
-use Rattle.sgb_gen.specs.Displacements.{displacements, vectors_of_norm}
-use Rattle.sgb_gen.specs.Moves.{board_moves}
+use Rattle.sgb_moves.specs.Displacements.{displacements, vectors_of_norm}
+use Rattle.sgb_moves.specs.Moves.{board_moves}
 use Rattle.sgb_gen.specs.Boards.{board, board_id}
 use Rattle.sgb_gen.specs.Shorthands.{complete}
 

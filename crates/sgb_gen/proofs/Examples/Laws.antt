@@ -4,8 +4,8 @@ use Rattle.std.proofs.Common.{arith, subst}
 use Rattle.std.proofs.lemmas.Bool.Decides.{nat_tests}
 use Rattle.sgb_vec.specs.Boxes.{box}
 use Rattle.sgb_vec.specs.Lexicographic.{IsBelow, IsWithin}
-use Rattle.sgb_gen.specs.Displacements.{displacements, vectors_of_norm}
-use Rattle.sgb_gen.specs.Moves.{Side, is_elsewhere, place, rider_reach, sides_of}
+use Rattle.sgb_moves.specs.Displacements.{displacements, vectors_of_norm}
+use Rattle.sgb_moves.specs.Moves.{Side, is_elsewhere, place, rider_reach, sides_of}
 use Rattle.sgb_gen.specs.inner.Laws.{DisplacementsHaveTheirNorm, MovesStayOnBoard, RidersStop, ShiftsStayInSum}
 
 -- the last displacement of a piece of 5 in two dimensions, (2,-1), has the squares 4 and 1

@@ -3,7 +3,7 @@ use Rattle.std.specs.Prelude.{◌≡◌, ℕ, ℤ, pos, negsuc, true, false, Lis
 use Rattle.sgb_graph.specs.Events.{list_from}
 use Rattle.sgb_gen.specs.inner.LocalBoards.{arcs_of_starts, arcs_onward, edge_arcs, move_arc, moves_by, other_starts, own_starts, starts_of}
 use Rattle.sgb_gen.specs.LocalLists.{LocalArc, list_at}
-use Rattle.sgb_gen.specs.Moves.{Side, moves_from, opposite}
+use Rattle.sgb_moves.specs.Moves.{Side, moves_from, opposite}
 
 -- an arc to place y of a board of one dimension
 abbrev arc : ℕ → ℕ → LocalArc

@@ -1,6 +1,6 @@
 -- Lists that are had run by run, evaluated.
 use Rattle.std.specs.Prelude.{◌≡◌, ℕ, pos, negsuc, List, [], ◌∷◌, None, Some, refl}
-use Rattle.sgb_gen.specs.MovedCoordinates.{part_at, parts_of, parts_put}
+use Rattle.sgb_moves.specs.MovedCoordinates.{part_at, parts_of, parts_put}
 use Rattle.sgb_gen.specs.Runs.{RunsData, arc_along, arcs_along, arcs_of_run}
 
 -- a board of 5 by 7, no side of which wraps around, and its vertex 1.3

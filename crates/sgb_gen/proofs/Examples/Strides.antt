@@ -8,8 +8,8 @@ use Rattle.sgb_vec.specs.Names.{name_of_vector}
 use Rattle.sgb_graph.specs.Events.{list_from}
 use Rattle.sgb_graph.specs.Graphs.{numbers_from}
 use Rattle.sgb_gen.specs.Boards.{board_id}
-use Rattle.sgb_gen.specs.Displacements.{displacements, vectors_of_norm}
-use Rattle.sgb_gen.specs.Moves.{board_moves}
+use Rattle.sgb_moves.specs.Displacements.{displacements, vectors_of_norm}
+use Rattle.sgb_moves.specs.Moves.{board_moves}
 use Rattle.sgb_gen.specs.Strides.{IsInsideVertex, StridedData, lengths_of_stride, lengths_to, tips_ahead, tips_back, tips_inside, tips_of_stride}
 use Rattle.sgb_gen.specs.VectorGraphs.{family_graph}
 

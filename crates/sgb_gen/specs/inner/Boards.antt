@@ -2,7 +2,7 @@
 use Rattle.std.specs.Prelude.{◌≡◌, ℕ, ◌<◌, ◌≤◌, ℤ, nat_abs, List, length}
 use Rattle.sgb_vec.specs.Boxes.{product_of}
 use Rattle.sgb_vec.specs.Limits.{most_dimensions, most_vertices}
-use Rattle.sgb_gen.specs.Limits.{most_piece}
+use Rattle.sgb_moves.specs.Limits.{most_piece}
 
 -- four parameters, the sizes and the piece of an accepted board: not too many dimensions, vertices or steps, and
 -- a piece

@@ -1,8 +1,8 @@
 -- Laws of displacements, moves and shifts, as their clauses say them: examples follow from these alone.
 use Rattle.std.specs.Prelude.{◌≡◌, ◌↔◌, ◌<◌, ◌≤◌, ◌*◌, ℕ, ℤ, nat_abs, true, false, List, length, map, sum, sum_by, All, Some, Contains}
 use Rattle.sgb_vec.specs.Lexicographic.{IsBelow, IsWithin}
-use Rattle.sgb_gen.specs.Displacements.{displacements}
-use Rattle.sgb_gen.specs.Moves.{Side, is_elsewhere, place, places_count, rider_reach}
+use Rattle.sgb_moves.specs.Displacements.{displacements}
+use Rattle.sgb_moves.specs.Moves.{Side, is_elsewhere, place, places_count, rider_reach}
 use Rattle.sgb_gen.specs.Simplexes.{Places, can_move_unit, unit_moved}
 
 -- the squares of each displacement add to p

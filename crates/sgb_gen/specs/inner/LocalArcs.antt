@@ -1,6 +1,6 @@
 -- How the list of arcs of a vector comes from the moves that touch it; and how a list of arcs is kept.
 use Rattle.std.specs.Prelude.{ℕ, pos, Bool, true, false, List, [], ◌∷◌, ◌++◌, take, drop, if◌then◌else◌}
-use Rattle.sgb_gen.specs.VectorGraphs.{Move, same_vector}
+use Rattle.sgb_moves.specs.VectorMoves.{Move, same_vector}
 use Rattle.sgb_gen.specs.LocalLists.{LocalArc}
 
 -- the arc to this vector of a move's length, where the move touches x

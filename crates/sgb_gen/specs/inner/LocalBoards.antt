@@ -1,9 +1,10 @@
 -- The list of one vector of a board, by displacements.
 use Rattle.std.specs.Prelude.{ℕ, pos, ℤ, ◌==◌, ◌||◌, Bool, not, List, [], ◌∷◌, ◌++◌, map, filter, Option, Some, None, if◌then◌else◌}
 use Rattle.std.specs.List.{flat_map}
-use Rattle.sgb_gen.specs.Moves.{Side, moves_from, opposite}
-use Rattle.sgb_gen.specs.inner.Moves.{destination}
-use Rattle.sgb_gen.specs.VectorGraphs.{Move, same_vector, vertex_among}
+use Rattle.sgb_moves.specs.Moves.{Side, moves_from, opposite}
+use Rattle.sgb_moves.specs.inner.Moves.{destination}
+use Rattle.sgb_moves.specs.VectorMoves.{Move, same_vector}
+use Rattle.sgb_gen.specs.VectorGraphs.{vertex_among}
 use Rattle.sgb_gen.specs.inner.LocalArcs.{arcs_by}
 use Rattle.sgb_gen.specs.LocalLists.{LocalArc}
 

@@ -5,10 +5,10 @@ use Rattle.sgb_vec.specs.Boxes.{box, product_of}
 use Rattle.sgb_vec.specs.Limits.{most_vertices}
 use Rattle.sgb_graph.specs.Events.{Event}
 use Rattle.sgb_gen.specs.Boards.{BoardData}
-use Rattle.sgb_gen.specs.MovedCoordinates.{parts_of}
-use Rattle.sgb_gen.specs.Moves.{sides_of}
-use Rattle.sgb_gen.specs.inner.MovedCoordinates.{parts_stay}
-use Rattle.sgb_gen.specs.inner.Moves.{leads_onward, longest_move}
+use Rattle.sgb_moves.specs.MovedCoordinates.{parts_of}
+use Rattle.sgb_moves.specs.Moves.{sides_of}
+use Rattle.sgb_moves.specs.inner.MovedCoordinates.{parts_stay}
+use Rattle.sgb_moves.specs.inner.Moves.{leads_onward, longest_move}
 use Rattle.sgb_gen.specs.inner.Strides.{stride_of}
 
 -- the vector of vertex u

@@ -4,7 +4,7 @@ use Rattle.std.specs.List.{range_with_len}
 use Rattle.sgb_vec.specs.Limits.{most_dimensions, most_vertices}
 use Rattle.sgb_vec.specs.Sums.{BoundedSum, bounded_sums}
 use Rattle.sgb_gen.specs.Simplexes.{Places, can_move_unit, unit_moved}
-use Rattle.sgb_gen.specs.VectorGraphs.{Move}
+use Rattle.sgb_moves.specs.VectorMoves.{Move}
 
 -- six parameters and the sum of an accepted simplex, or of accepted subsets: not too many bounds or vectors
 pub record IsAcceptedSum (params : List ℤ) (s : BoundedSum) : Type 0 where

@@ -5,10 +5,10 @@ use Rattle.sgb_vec.specs.Boxes.{box}
 use Rattle.sgb_vec.specs.Lexicographic.{IsBelow}
 use Rattle.sgb_gen.specs.Boards.{BoardData}
 use Rattle.sgb_gen.specs.LocalLists.{LocalArc}
-use Rattle.sgb_gen.specs.MovedCoordinates.{parts_of}
-use Rattle.sgb_gen.specs.Moves.{moves_from, opposite, place, sides_of}
+use Rattle.sgb_moves.specs.MovedCoordinates.{parts_of}
+use Rattle.sgb_moves.specs.Moves.{moves_from, opposite, place, sides_of}
 use Rattle.sgb_gen.specs.inner.LocalBoards.{arcs_onward, move_arc, moves_by}
-use Rattle.sgb_gen.specs.inner.Moves.{destination, leads_onward}
+use Rattle.sgb_moves.specs.inner.Moves.{destination, leads_onward}
 
 -- the arcs of x by these displacements, those by later moves first
 abbrev pub arcs_by_all : BoardData → List ℕ → List (List ℤ) → List LocalArc

@@ -4,9 +4,9 @@ use Rattle.std.specs.List.{All}
 use Rattle.sgb_vec.specs.Boxes.{product_of}
 use Rattle.sgb_vec.specs.Limits.{most_vertices}
 use Rattle.sgb_gen.specs.Boards.{BoardData}
-use Rattle.sgb_gen.specs.Moves.{opposite, place, sides_of}
-use Rattle.sgb_gen.specs.inner.EntryBounds.{displacements_within, entry_bounds}
-use Rattle.sgb_gen.specs.inner.Moves.{longest_move}
+use Rattle.sgb_moves.specs.Moves.{opposite, place, sides_of}
+use Rattle.sgb_moves.specs.inner.EntryBounds.{displacements_within, entry_bounds}
+use Rattle.sgb_moves.specs.inner.Moves.{longest_move}
 use Rattle.sgb_gen.specs.inner.StraightLists.{AreOnward, IsLeaper}
 
 -- how many places a unit of length leads on by a displacement: an entry counts as often as there are vectors of the sides after it

@@ -2,7 +2,7 @@
 use Rattle.std.specs.Prelude.{◌≡◌, ◌<◌, ◌≤◌, ℕ, ℤ, List, get_or, length, Some}
 use Rattle.sgb_vec.specs.Boxes.{box}
 use Rattle.sgb_vec.specs.Lexicographic.{IsBelow}
-use Rattle.sgb_gen.specs.Moves.{Side, coordinate_on}
+use Rattle.sgb_moves.specs.Moves.{Side, coordinate_on}
 use Rattle.sgb_gen.specs.VectorGraphs.{vertex_among}
 
 -- z leads to no coordinate on a side from least to greatest

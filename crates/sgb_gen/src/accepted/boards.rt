@@ -1,6 +1,6 @@
 ghost use Rattle.std.specs.Prelude.{◌≡◌, ◌<◌, ◌≤◌, All, nat_abs, IfOk, length, map, option_map, slice_get, Some, Ok, IfSome, OnOk, IsOkUnless};
 ghost use Rattle.sgb_gen.specs.Boards.{accepted_board, board_id, piece_of, board_vector_graph, moves_of_board};
-ghost use Rattle.sgb_gen.specs.Limits.{most_piece};
+ghost use Rattle.sgb_moves.specs.Limits.{most_piece};
 ghost use Rattle.std.specs.List.{flat_map};
 ghost use Rattle.sgb_vec.specs.Boxes.{box};
 ghost use Rattle.sgb_vec.specs.Limits.{most_vertices};
@@ -10,9 +10,9 @@ ghost use Rattle.sgb_graph.specs.Descriptions.{IsAnswerOf};
 ghost use Rattle.sgb_graph.specs.Growth.{AddsEvents, HasPlainArcs};
 ghost use Rattle.sgb_graph.specs.Made.{graph_described};
 ghost use Rattle.sgb_gen.specs.VectorGraphs.{described_by, event_among, vertex_among};
-ghost use Rattle.sgb_gen.specs.Moves.{sides_of, moves_from};
-ghost use Rattle.sgb_gen.specs.inner.EntryBounds.{displacements_within, entry_bounds};
-ghost use Rattle.sgb_gen.specs.inner.Moves.{destination, longest_move};
+ghost use Rattle.sgb_moves.specs.Moves.{sides_of, moves_from};
+ghost use Rattle.sgb_moves.specs.inner.EntryBounds.{displacements_within, entry_bounds};
+ghost use Rattle.sgb_moves.specs.inner.Moves.{destination, longest_move};
 
 mod board_lists;
 mod counts;
@@ -36,16 +36,14 @@ mod strides;
 mod turns;
 mod walks;
 
-use crate::displacements::Displacements;
-use crate::moves::entry_bounds;
 use crate::params::BoardParams;
-use crate::steps::{Parts, Step, put_parts_of};
 use crate::vector_graphs::{put_coordinates, vector_names};
 pub use board_lists::BoardLists;
 pub use flat_boards::FlatLists;
 pub use ordered_boards::OrderedBoard;
 pub use runs::{Run, Runs};
 use sgb_graph::{Graph, Id, IdWriter, Names};
+use sgb_moves::{Displacements, Parts, Step, entry_bounds, put_parts_of};
 use sgb_vec::{BoxFamily, Family, Panic, Shape, Vector, Vectors, board_sizes};
 use std::alloc::Global;
 use std::marker::Model;

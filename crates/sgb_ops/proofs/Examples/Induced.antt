@@ -5,8 +5,8 @@ use Rattle.sgb_vec.specs.Boxes.{box}
 use Rattle.sgb_vec.specs.Names.{name_of_vector}
 use Rattle.sgb_vec.specs.Sizes.{repeated}
 use Rattle.sgb_gen.specs.VectorGraphs.{family_graph}
-use Rattle.sgb_gen.specs.Displacements.{displacements, vectors_of_norm}
-use Rattle.sgb_gen.specs.Moves.{board_moves}
+use Rattle.sgb_moves.specs.Displacements.{displacements, vectors_of_norm}
+use Rattle.sgb_moves.specs.Moves.{board_moves}
 use Rattle.sgb_gen.specs.Boards.{board_id}
 use Rattle.sgb_vec.specs.declared.panics.Panic.TheVariants.{Bad, VeryBad}
 use Rattle.sgb_graph.specs.Graphs.{numbers_from}
@@ -14,7 +14,7 @@ use Rattle.sgb_graph.specs.Events.{list_from}
 use Rattle.sgb_graph.specs.Ids.{compound_id}
 use Rattle.sgb_graph.specs.declared.fields.Kind.TheVariants.{Z, I}
 use Rattle.sgb_graph.specs.declared.fields.Util.TheVariants.{Nothing, Int}
-use Rattle.sgb_ops.specs.Taken.{each_edge_once}
+use Rattle.sgb_taken.specs.Taken.{each_edge_once}
 use Rattle.sgb_ops.specs.Merged.{merged}
 use Rattle.sgb_ops.specs.declared.induced_graphs.entries.Entry.TheVariants.{Copies}
 use Rattle.sgb_ops.specs.Induced.{induced_of, induced_events}

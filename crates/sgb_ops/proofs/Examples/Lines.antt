@@ -11,7 +11,7 @@ use Rattle.sgb_graph.specs.Made.{no_kinds, no_fields}
 use Rattle.sgb_graph.specs.declared.fields.Ref.{Ref}
 use Rattle.sgb_graph.specs.declared.fields.Ref.TheVariants.{At, One, Null}
 use Rattle.sgb_graph.specs.declared.fields.Util.TheVariants.{Nothing}
-use Rattle.sgb_ops.specs.Taken.{each_edge_once}
+use Rattle.sgb_taken.specs.Taken.{each_edge_once}
 use Rattle.sgb_ops.specs.declared.line_graphs.line.Line.{Line}
 use Rattle.sgb_ops.specs.Lines.{accepted_lines, line_graph_of, meets}
 use Rattle.sgb_ops.proofs.Examples.Operands.{complete_3, cycle_3, rider_3, loop_1, blocks, arcs, names, title}

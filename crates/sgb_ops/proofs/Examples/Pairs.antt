@@ -5,7 +5,7 @@ use Rattle.sgb_graph.specs.Graphs.{GraphData, numbers_from}
 use Rattle.sgb_graph.specs.Events.{list_from}
 use Rattle.sgb_graph.specs.Ids.{compound_id, double_compound_id}
 use Rattle.sgb_graph.proofs.PlainGraphs.{plain_graph}
-use Rattle.sgb_ops.specs.Taken.{each_edge_once}
+use Rattle.sgb_taken.specs.Taken.{each_edge_once}
 use Rattle.sgb_ops.specs.Merged.{merged}
 use Rattle.sgb_ops.specs.Complement.{complement_of, complement_events}
 use Rattle.sgb_ops.specs.Gunion.{gunion_of}

@@ -5,7 +5,7 @@ use Rattle.sgb_graph.specs.Graphs.{GraphData, numbers_from}
 use Rattle.sgb_graph.specs.Events.{list_from}
 use Rattle.sgb_graph.specs.Ids.{double_compound_id}
 use Rattle.sgb_graph.proofs.PlainGraphs.{plain_graph}
-use Rattle.sgb_ops.specs.Taken.{each_edge_once}
+use Rattle.sgb_taken.specs.Taken.{each_edge_once}
 use Rattle.sgb_ops.specs.Merged.{merged, merged_unless}
 use Rattle.sgb_ops.specs.Gunion.{gunion_of, union_events}
 use Rattle.sgb_ops.specs.Intersection.{intersection_of, intersection_events}

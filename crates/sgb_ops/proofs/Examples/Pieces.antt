@@ -3,7 +3,7 @@ use Rattle.std.specs.Prelude.{◌≡◌, true, false, List, [], ◌∷◌, map, 
 use Rattle.sgb_graph.specs.Graphs.{numbers_from}
 use Rattle.sgb_graph.specs.Events.{Event, list_from}
 use Rattle.sgb_graph.specs.declared.fields.Link.{Link}
-use Rattle.sgb_ops.specs.Taken.{each_edge_once, taken, edges_up_from, lower_record}
+use Rattle.sgb_taken.specs.Taken.{each_edge_once, taken, edges_up_from, lower_record}
 use Rattle.sgb_ops.specs.Merged.{merged}
 use Rattle.sgb_ops.specs.Intersection.{common_events}
 use Rattle.sgb_ops.proofs.Examples.Operands.{event, link, complete_3, loop_1}

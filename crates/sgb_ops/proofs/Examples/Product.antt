@@ -10,7 +10,7 @@ use Rattle.sgb_graph.specs.Vertices.{order_of}
 use Rattle.sgb_graph.specs.Graphs.{GraphData, numbers_from}
 use Rattle.sgb_graph.specs.Events.{list_from}
 use Rattle.sgb_graph.specs.Ids.{double_compound_id}
-use Rattle.sgb_ops.specs.Taken.{each_edge_once}
+use Rattle.sgb_taken.specs.Taken.{each_edge_once}
 use Rattle.sgb_ops.specs.declared.products.ProductType.TheVariants.{Cartesian, Direct, Strong}
 use Rattle.sgb_ops.specs.Product.{both_steps, product_type, type_number, product_events, product_graph_of}
 use Rattle.sgb_ops.specs.inner.Pairs.{has_too_many_pairs}

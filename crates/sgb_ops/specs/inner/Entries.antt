@@ -5,7 +5,7 @@ use Rattle.sgb_graph.specs.Graphs.{GraphData}
 use Rattle.sgb_graph.specs.declared.fields.Link.{Link}
 use Rattle.sgb_ops.specs.declared.induced_graphs.entries.Entry.{Entry}
 use Rattle.sgb_ops.specs.Entries.{merged_count, names_of_copies, size_of_entry}
-use Rattle.sgb_ops.specs.Taken.{taken}
+use Rattle.sgb_taken.specs.Taken.{taken}
 
 -- how many vertices stand in the place of one vertex alone
 abbrev pub own_total : List Entry → ℕ

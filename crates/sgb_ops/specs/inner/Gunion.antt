@@ -3,7 +3,7 @@ use Rattle.std.specs.Prelude.{ℕ, Bool, List, [], ◌++◌, filter, nat_lt, if�
 use Rattle.sgb_graph.specs.Graphs.{GraphData}
 use Rattle.sgb_graph.specs.Vertices.{order_of}
 use Rattle.sgb_graph.specs.declared.fields.Link.{Link}
-use Rattle.sgb_ops.specs.Taken.{taken}
+use Rattle.sgb_taken.specs.Taken.{taken}
 
 -- the arcs taken of v in g, then those taken of v in h, if it has that vertex, whose tip is a vertex of g
 abbrev pub union_arcs : GraphData → GraphData → Bool → ℕ → List Link

@@ -10,7 +10,7 @@ use Rattle.sgb_graph.specs.declared.fields.Link.{Link}
 use Rattle.sgb_ops.specs.declared.induced_graphs.entries.Entry.{Entry}
 use Rattle.sgb_ops.specs.Entries.{copies_of, names_by_entries}
 use Rattle.sgb_ops.specs.Induced.{induced_events}
-use Rattle.sgb_ops.specs.Taken.{taken}
+use Rattle.sgb_taken.specs.Taken.{taken}
 use Rattle.sgb_ops.specs.inner.Compounds.{induced_id}
 
 -- copy u of v is joined to copy t of the tip of an arc from v: always; but for a loop of an undirected graph only

@@ -5,7 +5,7 @@ use Rattle.sgb_graph.specs.Graphs.{GraphData}
 use Rattle.sgb_ops.specs.declared.induced_graphs.entries.Entry.{Entry}
 use Rattle.sgb_ops.specs.declared.induced_graphs.entries.Entry.TheVariants as entry
 use Rattle.sgb_ops.specs.Entries.{merged_count}
-use Rattle.sgb_ops.specs.Taken.{taken}
+use Rattle.sgb_taken.specs.Taken.{taken}
 
 -- vertex v, whose entry is the one given, has a graph in its place, and a loop among the arcs taken of it
 abbrev pub has_loop_inside : GraphData → Bool → ℕ → Entry → Bool

@@ -1,5 +1,5 @@
 -- The graphs that an operation reads, and the events of a list by its tips and lengths.
-use Rattle.std.specs.Prelude.{ℕ, ℤ, ◌<◌, Bool, ◌&&◌, ◌||◌, List, [], ◌∷◌, ◌++◌, length, nat_le, nat_lt, All, if◌then◌else◌}
+use Rattle.std.specs.Prelude.{if◌then◌else◌, ℕ, ℤ, ◌<◌, Bool, ◌&&◌, ◌||◌, List, [], ◌∷◌, ◌++◌, length, nat_le, nat_lt, All}
 use Rattle.sgb_graph.specs.Events.{Event}
 use Rattle.sgb_graph.specs.Graphs.{GraphData, chain_of}
 use Rattle.sgb_graph.specs.Made.{graph_described}
@@ -31,10 +31,6 @@ HasTips g = (v : ℕ) → v < length g.vertices → All (λ l. l.tip < length g.
 -- an arc as far as its tip and its length go
 abbrev pub bare : Link → Link
 bare l = record { number = 0; tip = l.tip; len = l.len }
-
--- the arc of an event, so
-abbrev pub link_of : Event → Link
-link_of e = record { number = 0; tip = e.to; len = e.len }
 
 -- the event of an arc of v, if its tip is below n and it is taken: for an undirected result none to an earlier vertex is
 abbrev pub event_to : Bool → ℕ → ℕ → ℕ → ℤ → List Event

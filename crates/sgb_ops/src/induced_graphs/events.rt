@@ -12,10 +12,10 @@ ghost use Rattle.sgb_ops.specs.inner.Induced.{event_between, events_of_arc, even
 use super::entries::Copies;
 use super::rooms::Rooms;
 use super::slots::{Inner, Slot, Slots};
-use crate::events::{Event, push_event};
+use crate::events::push_event;
 use crate::sources::Source;
-use crate::taken::taken;
 use sgb_graph::{Graph, Link};
+use sgb_taken::{Event, taken};
 use sgb_vec::Panic;
 use std::alloc::Global;
 

@@ -25,10 +25,11 @@ use super::events::{Flags, push_from_copy, push_inner_arcs};
 use super::rooms::{Rooms, are_few_apart};
 use super::slots::{Inner, Slot, Slots};
 use crate::circles::Circle;
-use crate::events::{Event, add_events};
+use crate::events::add_events;
 use crate::merged::{are_merged, merged};
 use crate::sources::Source;
 use sgb_graph::{Graph, Link};
+use sgb_taken::Event;
 use sgb_vec::Panic;
 use std::alloc::Global;
 

@@ -1,15 +1,15 @@
 //! What the arcs of a vertex are read with (GB_BASIC, induced).
 ghost use Rattle.std.specs.Prelude.{◌≡◌, ◌<◌, ◌++◌, ◌==◌, [], ◌∷◌, ℕ, length, map, filter, flat_map, All, OnOk, IfOk, IsOkUnless, if◌then◌else◌};
 ghost use Rattle.std.specs.List.{list_any};
-ghost use Rattle.sgb_ops.specs.Taken.{taken};
+ghost use Rattle.sgb_taken.specs.Taken.{taken};
 ghost use Rattle.sgb_ops.specs.inner.Copies.{leads_to_copies};
-ghost use Rattle.sgb_ops.specs.inner.Sources.{link_of};
+ghost use Rattle.sgb_taken.specs.inner.Ends.{link_of};
 ghost use Rattle.sgb_ops.specs.inner.Induced.{are_few_apart, events_of_arc, events_of_copy, lead_apart};
 
 use super::entries::Copies;
-use crate::events::Event;
 use crate::sources::{ListRoom, Source};
 use sgb_graph::Link;
+use sgb_taken::Event;
 use sgb_vec::Panic;
 use std::alloc::Global;
 

@@ -6,7 +6,7 @@ ghost use Rattle.sgb_vec.specs.Results.{IsValue};
 ghost use Rattle.sgb_graph.specs.Vertices.{places_of};
 ghost use Rattle.sgb_ops.specs.Lines.{accepted_lines, has_way_back, is_of_edges, lines_of_graph};
 ghost use Rattle.sgb_ops.specs.inner.Lines.{DescendFrom, LeadsUp, LineWithin, line_of, points_to};
-ghost use Rattle.sgb_ops.specs.Taken.{taken};
+ghost use Rattle.sgb_taken.specs.Taken.{taken};
 ghost use Rattle.sgb_ops.specs.Compounds.{line_name};
 ghost use Rattle.sgb_ops.specs.inner.Compounds.{line_sign};
 ghost use Rattle.sgb_ops.specs.inner.Sources.{names_held};
@@ -16,8 +16,8 @@ ghost use Rattle.std.specs.Prelude.{◌+◌};
 use crate::compounds::joined_name;
 use crate::operands::VertexNames;
 use crate::sources::{ListRoom, Source};
-use crate::taken::taken;
 use sgb_graph::{Graph, Link, Ref};
+use sgb_taken::taken;
 use sgb_vec::{MOST_VERTICES, Panic, Text};
 use std::alloc::Global;
 

@@ -7,14 +7,14 @@ ghost use Rattle.sgb_graph.specs.Graphs.{chain_of};
 ghost use Rattle.sgb_graph.specs.Growth.{AddsEvents};
 ghost use Rattle.sgb_graph.specs.Vertices.{order_of};
 ghost use Rattle.sgb_ops.specs.Product.{both_steps, single_steps};
-ghost use Rattle.sgb_ops.specs.Taken.{taken};
+ghost use Rattle.sgb_taken.specs.Taken.{taken};
 ghost use Rattle.sgb_ops.specs.inner.Pairs.{HasRoomForPairs};
 ghost use Rattle.sgb_ops.specs.inner.Sources.{bare};
 ghost use Rattle.sgb_ops.specs.inner.Steps.{both_step, both_steps_by, both_steps_of_row, place_along, step_along, steps_along, steps_by};
 
-use crate::events::Event;
 use crate::sources::{ListRoom, Source};
 use sgb_graph::{Graph, Link};
+use sgb_taken::Event;
 use sgb_vec::Panic;
 use std::alloc::Global;
 

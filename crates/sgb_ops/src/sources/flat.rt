@@ -5,13 +5,13 @@ ghost use Rattle.sgb_graph.specs.Made.{graph_described};
 ghost use Rattle.sgb_gen.specs.Boards.{board_vector_graph};
 ghost use Rattle.sgb_gen.specs.Strides.{lengths_to, tips_ahead, tips_back};
 ghost use Rattle.sgb_gen.specs.VectorGraphs.{described_by};
-ghost use Rattle.sgb_ops.specs.Taken.{taken};
+ghost use Rattle.sgb_taken.specs.Taken.{taken};
 ghost use Rattle.sgb_ops.specs.inner.Ends.{event_of};
 ghost use Rattle.sgb_ops.specs.inner.Sources.{HasTips, event_to, events_to};
 
 use super::ListRoom;
-use crate::events::Event;
 use sgb_gen::{FlatLists, Strides};
+use sgb_taken::Event;
 use sgb_vec::Panic;
 
 // Makes `events` those of the arcs taken of `v` on a board, all of which lead to its vertices.

@@ -2,14 +2,14 @@
 ghost use Rattle.std.specs.Prelude.{◌≡◌, ◌<◌, ◌++◌, length, map, filter, nat_lt, OnOk, IsOkUnless};
 ghost use Rattle.sgb_graph.specs.Made.{graph_described};
 ghost use Rattle.sgb_gen.specs.Generators.{described};
-ghost use Rattle.sgb_ops.specs.Taken.{taken};
+ghost use Rattle.sgb_taken.specs.Taken.{taken};
 ghost use Rattle.sgb_ops.specs.inner.Ends.{event_of};
 ghost use Rattle.sgb_ops.specs.inner.Sources.{HasTips};
 ghost use Rattle.sgb_ops.specs.inner.TakenEvents.{are_once};
 
-use crate::events::Event;
 use crate::taken_events::TakenEvents;
 use sgb_gen::{Links, LocalLists};
+use sgb_taken::Event;
 use sgb_vec::{Panic, Vector};
 use std::alloc::Global;
 

@@ -16,7 +16,7 @@ use crate::arc_sinks::ArcSink;
 use crate::displacement_tables::DisplacementTable;
 use crate::kept_arcs::KeptArcs;
 use crate::links::Links;
-use crate::starts::Starts;
+use sgb_moves::Starts;
 use sgb_vec::{Family, Panic};
 use std::marker::Model;
 
@@ -45,8 +45,8 @@ impl<'a> Model for BoardLists<'a> {
     ghost use Rattle.std.specs.Bool.{OnTrue};
     ghost use Rattle.sgb_gen.specs.inner.StraightLists.{AreOnward, IsLeaper, NeedsNoSort};
     ghost use Rattle.sgb_gen.specs.Boards.{BoardData};
-    ghost use Rattle.sgb_gen.specs.Moves.{sides_of};
-    ghost use Rattle.sgb_gen.specs.inner.EntryBounds.{displacements_within, entry_bounds};
+    ghost use Rattle.sgb_moves.specs.Moves.{sides_of};
+    ghost use Rattle.sgb_moves.specs.inner.EntryBounds.{displacements_within, entry_bounds};
     ghost use Rattle.sgb_gen.specs.inner.Strides.{stride_of};
 
     ghost Value = { BoardData };

@@ -14,14 +14,14 @@ ghost use Rattle.sgb_vec.specs.Boxes.{box, product_of};
 ghost use Rattle.sgb_vec.specs.Limits.{most_vertices};
 ghost use Rattle.sgb_gen.specs.Boards.{board_vector_graph, moves_of_board};
 ghost use Rattle.sgb_gen.specs.VectorGraphs.{described_by};
-ghost use Rattle.sgb_gen.specs.Moves.{sides_of};
+ghost use Rattle.sgb_moves.specs.Moves.{sides_of};
 ghost use Rattle.sgb_gen.specs.inner.LocalBoards.{moves_by};
 ghost use Rattle.sgb_gen.specs.inner.BoardCounts.{starts_on, is_home_on, starts_product, is_home, comes_home, stops_on, stops_at, starts_along};
-ghost use Rattle.sgb_gen.specs.inner.Moves.{longest_move};
+ghost use Rattle.sgb_moves.specs.inner.Moves.{longest_move};
 
 use super::Board;
 use super::norm_counts::FEW_SIDES;
-use crate::moves::wraps;
+use sgb_moves::wraps;
 use sgb_vec::{Family, Panic};
 use std::alloc::Global;
 

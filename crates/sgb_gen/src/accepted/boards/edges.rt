@@ -10,19 +10,18 @@ ghost use Rattle.sgb_vec.specs.Boxes.{box};
 ghost use Rattle.sgb_vec.specs.Lexicographic.{IsBelow};
 ghost use Rattle.sgb_gen.specs.ArcSinks.{AreGiven};
 ghost use Rattle.sgb_gen.specs.inner.LocalBoards.{edge_arcs, own_starts, other_starts, arcs_of_starts, arcs_onward, moves_by};
-ghost use Rattle.sgb_gen.specs.Moves.{moves_from, sides_of, opposite};
-ghost use Rattle.sgb_gen.specs.inner.Moves.{destination};
-ghost use Rattle.sgb_gen.specs.inner.Starts.{arcs_within, is_within, starts_within};
+ghost use Rattle.sgb_moves.specs.Moves.{moves_from, sides_of, opposite};
+ghost use Rattle.sgb_moves.specs.inner.Moves.{destination};
+ghost use Rattle.sgb_moves.specs.inner.Starts.{is_within};
+ghost use Rattle.sgb_gen.specs.inner.Starts.{arcs_within, starts_within};
 ghost use Rattle.sgb_gen.specs.VectorGraphs.{vertex_among};
 // For the search alone.
 ghost use Rattle.std.specs.Prelude.{◌==◌, Some};
-ghost use Rattle.sgb_gen.specs.inner.Moves.{longest_move};
+ghost use Rattle.sgb_moves.specs.inner.Moves.{longest_move};
 
 use super::Board;
 use crate::arc_sinks::ArcSink;
-use crate::start_ranges::StartRange;
-use crate::starts::Starts;
-use crate::steps::{Step, either};
+use sgb_moves::{StartRange, Starts, Step, either};
 use sgb_vec::{Family, Vector};
 
 impl Board {

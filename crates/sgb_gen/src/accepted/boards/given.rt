@@ -11,21 +11,18 @@ ghost use Rattle.sgb_vec.specs.Lexicographic.{IsBelow};
 ghost use Rattle.sgb_gen.specs.ArcSinks.{AreGiven};
 ghost use Rattle.sgb_gen.specs.Boards.{moves_of_board};
 ghost use Rattle.sgb_gen.specs.LocalLists.{list_at};
-ghost use Rattle.sgb_gen.specs.MovedCoordinates.{parts_of};
-ghost use Rattle.sgb_gen.specs.Moves.{opposite, sides_of};
+ghost use Rattle.sgb_moves.specs.MovedCoordinates.{parts_of};
+ghost use Rattle.sgb_moves.specs.Moves.{opposite, sides_of};
 ghost use Rattle.sgb_gen.specs.Runs.{arc_along, arcs_along};
-ghost use Rattle.sgb_gen.specs.inner.EntryBounds.{displacements_within, entry_bounds};
+ghost use Rattle.sgb_moves.specs.inner.EntryBounds.{displacements_within, entry_bounds};
 ghost use Rattle.sgb_gen.specs.inner.LocalBoards.{arcs_onward, moves_by};
-ghost use Rattle.sgb_gen.specs.inner.MovedCoordinates.{AgreeBut, moved_of};
+ghost use Rattle.sgb_moves.specs.inner.MovedCoordinates.{AgreeBut, moved_of};
 ghost use Rattle.sgb_gen.specs.inner.StraightLists.{IsInOrder, NeedsNoSort, arcs_back};
 
 use super::Board;
 use crate::arc_sinks::ArcSink;
 use crate::displacement_tables::DisplacementTable;
-use crate::displacements::{Displacement, put_opposite};
-use crate::moves::{put_parts, put_vector};
-use crate::starts::Starts;
-use crate::steps::{Parts, Step, put_parts_of};
+use sgb_moves::{Displacement, Parts, Starts, Step, put_opposite, put_parts, put_parts_of, put_vector};
 use sgb_vec::{Family, Vector};
 
 impl Board {

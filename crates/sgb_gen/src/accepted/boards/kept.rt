@@ -3,8 +3,8 @@
 //! Where few of them lead from a place to another one, most comparisons are in vain. A walk that leaves out beginnings that
 //! do not fit (`near_bounds`) is then up to a hundred times quicker, so none are kept. No contract says how seldom that is.
 ghost use Rattle.std.specs.Prelude.{◌≡◌, length, nat_abs, All, IfSome};
-ghost use Rattle.sgb_gen.specs.Moves.{sides_of};
-ghost use Rattle.sgb_gen.specs.inner.EntryBounds.{displacements_within, entry_bounds};
+ghost use Rattle.sgb_moves.specs.Moves.{sides_of};
+ghost use Rattle.sgb_moves.specs.inner.EntryBounds.{displacements_within, entry_bounds};
 
 use super::Board;
 use crate::displacement_tables::DisplacementTable;

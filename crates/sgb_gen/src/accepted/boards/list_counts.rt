@@ -7,15 +7,14 @@ ghost use Rattle.sgb_vec.specs.Boxes.{box};
 ghost use Rattle.sgb_vec.specs.Lexicographic.{IsBelow};
 ghost use Rattle.sgb_gen.specs.Boards.{moves_of_board};
 ghost use Rattle.sgb_gen.specs.LocalLists.{list_at};
-ghost use Rattle.sgb_gen.specs.Moves.{opposite, sides_of};
-ghost use Rattle.sgb_gen.specs.inner.EntryBounds.{displacements_within, entry_bounds};
+ghost use Rattle.sgb_moves.specs.Moves.{opposite, sides_of};
+ghost use Rattle.sgb_moves.specs.inner.EntryBounds.{displacements_within, entry_bounds};
 ghost use Rattle.sgb_gen.specs.inner.LocalBoards.{arcs_onward, moves_by};
 ghost use Rattle.sgb_gen.specs.inner.StraightLists.{NeedsNoSort};
 
 use super::Board;
 use crate::displacement_tables::DisplacementTable;
-use crate::displacements::{Displacement, put_opposite};
-use crate::steps::{Parts, Step, put_parts_of};
+use sgb_moves::{Displacement, Parts, Step, put_opposite, put_parts_of};
 
 impl Board {
     /// How many arcs are on the list of the vertex of `x`, by the displacements in a table, where those by each of them are had

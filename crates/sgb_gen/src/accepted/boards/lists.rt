@@ -9,15 +9,14 @@ ghost use Rattle.sgb_vec.specs.Boxes.{box};
 ghost use Rattle.sgb_vec.specs.Lexicographic.{IsBelow};
 ghost use Rattle.sgb_gen.specs.Boards.{moves_of_board};
 ghost use Rattle.sgb_gen.specs.LocalLists.{list_at};
-ghost use Rattle.sgb_gen.specs.Moves.{sides_of};
-ghost use Rattle.sgb_gen.specs.inner.Moves.{destination};
+ghost use Rattle.sgb_moves.specs.Moves.{sides_of};
+ghost use Rattle.sgb_moves.specs.inner.Moves.{destination};
 // For the search alone.
 ghost use Rattle.std.specs.Prelude.{◌<◌, ◌≤◌, ◌==◌};
 
 use super::{Board, BoardLists};
 use crate::links::Links;
-use crate::moves::destination;
-use crate::steps::Step;
+use sgb_moves::{Step, destination};
 use sgb_vec::{Panic, Vector};
 
 impl Board {

@@ -5,12 +5,12 @@ ghost use Rattle.sgb_graph.specs.Made.{graph_described};
 ghost use Rattle.sgb_vec.specs.Boxes.{product_of};
 ghost use Rattle.sgb_vec.specs.Lexicographic.{IsBelow};
 ghost use Rattle.sgb_gen.specs.Boards.{board_vector_graph, moves_of_board};
-ghost use Rattle.sgb_gen.specs.Moves.{is_bit_set};
+ghost use Rattle.sgb_moves.specs.Moves.{is_bit_set};
 ghost use Rattle.sgb_gen.specs.VectorGraphs.{described_by};
 ghost use Rattle.sgb_gen.specs.inner.StraightLists.{arcs_from};
 
 use super::Board;
-use crate::moves::{entry_bounds, wraps};
+use sgb_moves::{entry_bounds, wraps};
 use sgb_vec::Family;
 
 impl Board {

@@ -10,7 +10,7 @@ ghost use Rattle.sgb_gen.specs.LocalLists.{list_at};
 use super::{Board, BoardLists};
 use crate::arc_sinks::ArcSink;
 use crate::links::Links;
-use crate::starts::Starts;
+use sgb_moves::Starts;
 use sgb_vec::Panic;
 use std::marker::Model;
 

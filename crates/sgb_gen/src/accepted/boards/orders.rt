@@ -6,15 +6,15 @@
 ghost use Rattle.std.specs.Prelude.{◌≡◌, ◌<◌, ◌≤◌, ◌⊎◌, ℕ, List, length, nat_abs, pos, true, All, IfSome};
 ghost use Rattle.std.specs.Bool.{OnFalse, OnTrue};
 ghost use Rattle.sgb_vec.specs.Lexicographic.{IsBelow};
-ghost use Rattle.sgb_gen.specs.Moves.{opposite, sides_of};
+ghost use Rattle.sgb_moves.specs.Moves.{opposite, sides_of};
 ghost use Rattle.sgb_gen.specs.inner.BoardCounts.{stops_at};
-ghost use Rattle.sgb_gen.specs.inner.EntryBounds.{displacements_within, entry_bounds};
+ghost use Rattle.sgb_moves.specs.inner.EntryBounds.{displacements_within, entry_bounds};
 ghost use Rattle.sgb_gen.specs.inner.StraightLists.{NeedsNoSort, arcs_from};
 
 use super::Board;
 use super::counts::{first_stop, lengths_along};
 use crate::displacement_tables::DisplacementTable;
-use crate::steps::Step;
+use sgb_moves::Step;
 use sgb_vec::Family;
 
 impl Board {

@@ -8,8 +8,8 @@ ghost use Rattle.sgb_vec.specs.Boxes.{box};
 ghost use Rattle.sgb_vec.specs.Lexicographic.{IsBelow};
 ghost use Rattle.sgb_vec.specs.Limits.{most_dimensions, most_vertices};
 ghost use Rattle.sgb_graph.specs.Growth.{AddsEvents, HasPlainArcs};
-ghost use Rattle.sgb_gen.specs.MovedCoordinates.{parts_of};
-ghost use Rattle.sgb_gen.specs.Moves.{moves_from, sides_of};
+ghost use Rattle.sgb_moves.specs.MovedCoordinates.{parts_of};
+ghost use Rattle.sgb_moves.specs.Moves.{moves_from, sides_of};
 ghost use Rattle.sgb_gen.specs.VectorGraphs.{event_among};
 ghost use Rattle.sgb_gen.specs.inner.Rows.{IsFarthest, IsRowAt, LeadsOn, events_of_stride, last_side, vector_at};
 // For the search alone.
@@ -17,9 +17,8 @@ ghost use Rattle.std.specs.Prelude.{slice_get, Some};
 
 use super::Board;
 use super::strides::stride_by;
-use crate::moves::{leads_onward, reach, steps_on};
-use crate::steps::{Part, Parts, Step, put_parts_of};
 use sgb_graph::Graph;
+use sgb_moves::{Part, Parts, Step, leads_onward, put_parts_of, reach, steps_on};
 use sgb_vec::{Family, Panic, Vector};
 
 // Where a walk over the vertices stands in a row.

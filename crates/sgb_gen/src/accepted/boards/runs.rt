@@ -15,19 +15,18 @@ ghost use Rattle.sgb_vec.specs.Boxes.{box};
 ghost use Rattle.sgb_vec.specs.Lexicographic.{IsBelow};
 ghost use Rattle.sgb_gen.specs.Boards.{moves_of_board};
 ghost use Rattle.sgb_gen.specs.LocalLists.{list_at};
-ghost use Rattle.sgb_gen.specs.MovedCoordinates.{part_at, parts_of};
-ghost use Rattle.sgb_gen.specs.Moves.{opposite, place, sides_of};
+ghost use Rattle.sgb_moves.specs.MovedCoordinates.{part_at, parts_of};
+ghost use Rattle.sgb_moves.specs.Moves.{opposite, place, sides_of};
 ghost use Rattle.sgb_gen.specs.Runs.{AreMoved, arcs_along, arcs_of_run};
-ghost use Rattle.sgb_gen.specs.inner.EntryBounds.{displacements_within, entry_bounds};
-ghost use Rattle.sgb_gen.specs.inner.Moves.{destination, longest_move};
-ghost use Rattle.sgb_gen.specs.inner.MovedCoordinates.{IsInside, StayAtOne, parts_stay};
+ghost use Rattle.sgb_moves.specs.inner.EntryBounds.{displacements_within, entry_bounds};
+ghost use Rattle.sgb_moves.specs.inner.Moves.{destination, longest_move};
+ghost use Rattle.sgb_moves.specs.inner.MovedCoordinates.{IsInside, StayAtOne, parts_stay};
 ghost use Rattle.sgb_gen.specs.inner.StraightLists.{AreOnward, IsLeaper, IsRun, arcs_back, arcs_from};
 
 use super::Board;
 use super::board_lists::BoardLists;
 use crate::displacement_tables::{DisplacementTable, KeptPair};
-use crate::moves::{is_inside, leads_onward, part_at, reach_from};
-use crate::steps::Step;
+use sgb_moves::{Step, is_inside, leads_onward, part_at, reach_from};
 use std::marker::Model;
 
 /// The arcs of a vertex by a displacement and its opposite: those ahead, of the lengths from `farthest` down to 1, and then
@@ -60,10 +59,10 @@ impl<'b> Model for Runs<'b> {
     ghost use Rattle.std.specs.Prelude.{◌≡◌, ◌≤◌, length, nat_abs, take, All};
     ghost use Rattle.std.specs.Bool.{OnTrue};
     ghost use Rattle.sgb_vec.specs.Lexicographic.{IsBelow};
-    ghost use Rattle.sgb_gen.specs.Moves.{sides_of};
+    ghost use Rattle.sgb_moves.specs.Moves.{sides_of};
     ghost use Rattle.sgb_gen.specs.Runs.{RunsData};
-    ghost use Rattle.sgb_gen.specs.inner.EntryBounds.{displacements_within, entry_bounds};
-    ghost use Rattle.sgb_gen.specs.inner.MovedCoordinates.{StayAtOne};
+    ghost use Rattle.sgb_moves.specs.inner.EntryBounds.{displacements_within, entry_bounds};
+    ghost use Rattle.sgb_moves.specs.inner.MovedCoordinates.{StayAtOne};
     ghost use Rattle.sgb_gen.specs.inner.StraightLists.{IsRun, arcs_by_all};
 
     ghost Value = { RunsData };

@@ -6,15 +6,13 @@
 //! comes later. The first that is left at last is the next to be looked at.
 ghost use Rattle.std.specs.Prelude.{◌≡◌, ◌+◌, ◌<◌, ◌≤◌, ◌*◌, ◌+ℤ◌, ◌*ℤ◌, ℕ, List, false, get_or, length, neg_ℤ, pos, IfNone, IfSome, Some};
 ghost use Rattle.sgb_vec.specs.Lexicographic.{IsBelow};
-ghost use Rattle.sgb_gen.specs.Moves.{is_bit_set, place, sides_of};
+ghost use Rattle.sgb_moves.specs.Moves.{is_bit_set, place, sides_of};
 ghost use Rattle.sgb_gen.specs.inner.Progressions.{IsAmong, Rises};
 ghost use Rattle.sgb_gen.specs.inner.VertexBounds.{AreBounds, IsBetween, Misses};
 
 use super::Board;
 use super::progressions::Progression;
-use crate::moves::{part_at, wraps};
-use crate::start_ranges::StartRange;
-use crate::steps::Step;
+use sgb_moves::{StartRange, Step, part_at, wraps};
 use sgb_vec::{Family, Vector};
 
 impl Board {

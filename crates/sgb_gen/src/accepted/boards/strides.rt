@@ -52,11 +52,11 @@ impl<'b> Model for Strides<'b> {
     ghost use Rattle.sgb_vec.specs.Boxes.{box, product_of};
     ghost use Rattle.sgb_vec.specs.Lexicographic.{IsBelow};
     ghost use Rattle.sgb_vec.specs.Limits.{most_vertices};
-    ghost use Rattle.sgb_gen.specs.Moves.{sides_of};
+    ghost use Rattle.sgb_moves.specs.Moves.{sides_of};
     ghost use Rattle.sgb_gen.specs.Strides.{StridesData};
     ghost use Rattle.sgb_gen.specs.VectorGraphs.{vertex_among};
-    ghost use Rattle.sgb_gen.specs.inner.EntryBounds.{displacements_within, entry_bounds};
-    ghost use Rattle.sgb_gen.specs.inner.MovedCoordinates.{StayAtOne};
+    ghost use Rattle.sgb_moves.specs.inner.EntryBounds.{displacements_within, entry_bounds};
+    ghost use Rattle.sgb_moves.specs.inner.MovedCoordinates.{StayAtOne};
     ghost use Rattle.sgb_gen.specs.inner.StraightLists.{IsRun, arcs_by_all};
     ghost use Rattle.sgb_gen.specs.inner.Strides.{LeadsByStride, stride_of};
 

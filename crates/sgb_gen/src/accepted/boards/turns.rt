@@ -8,16 +8,15 @@ ghost use Rattle.std.specs.Bool.{OnTrue, OnFalse};
 ghost use Rattle.std.specs.List.{range_with_len};
 ghost use Rattle.sgb_vec.specs.Boxes.{box};
 ghost use Rattle.sgb_vec.specs.Lexicographic.{IsBelow};
-ghost use Rattle.sgb_gen.specs.MovedCoordinates.{parts_of};
-ghost use Rattle.sgb_gen.specs.Moves.{opposite, sides_of};
+ghost use Rattle.sgb_moves.specs.MovedCoordinates.{parts_of};
+ghost use Rattle.sgb_moves.specs.Moves.{opposite, sides_of};
 ghost use Rattle.sgb_gen.specs.Runs.{arc_along, arcs_along};
 ghost use Rattle.sgb_gen.specs.inner.LocalBoards.{arcs_onward, moves_by};
 ghost use Rattle.sgb_gen.specs.inner.StraightLists.{GoesAroundOnce, IsInOrder, arcs_back, arcs_from};
 
 use super::Board;
 use super::counts::first_stop;
-use crate::moves::{leads_onward, times_within};
-use crate::steps::Step;
+use sgb_moves::{Step, leads_onward, times_within};
 
 impl Board {
     // Whether the arcs of a vector by the edges of `t` are had in order with no sort, where so many moves lead back from it:

@@ -5,14 +5,14 @@
 //! no greater than the room above. Of the others mostly one sign alone fits. No contract says how many are left out: the checks from outside see it (`great`).
 ghost use Rattle.std.specs.Prelude.{◌≡◌, ◌≤◌, length, nat_abs, All, IfSome};
 ghost use Rattle.sgb_vec.specs.Lexicographic.{IsBelow};
-ghost use Rattle.sgb_gen.specs.Limits.{most_piece};
-ghost use Rattle.sgb_gen.specs.Moves.{opposite, sides_of};
-ghost use Rattle.sgb_gen.specs.inner.EntryBounds.{displacements_within, near_bounds};
+ghost use Rattle.sgb_moves.specs.Limits.{most_piece};
+ghost use Rattle.sgb_moves.specs.Moves.{opposite, sides_of};
+ghost use Rattle.sgb_moves.specs.inner.EntryBounds.{displacements_within, near_bounds};
 ghost use Rattle.sgb_gen.specs.inner.StraightLists.{LeadNowhere};
 
 use super::Board;
 use crate::falling_displacements::FallingDisplacements;
-use crate::moves::{first_off_board, near_bounds};
+use sgb_moves::{first_off_board, near_bounds};
 
 impl Board {
     /// The displacements whose entries fit on the board from `x` up or down, from the last of them on. Where there are arcs and

@@ -4,11 +4,12 @@ use Rattle.sgb_graph.specs.Events.{Event}
 use Rattle.sgb_ops.specs.Intersection.{intersection_events}
 use Rattle.sgb_ops.specs.inner.Ends.{AllWithin}
 use Rattle.sgb_graph.specs.Vertices.{order_of}
-use Rattle.sgb_ops.specs.Taken.{taken}
+use Rattle.sgb_taken.specs.Taken.{taken}
 use Rattle.sgb_ops.specs.inner.Sources.{bare}
 use Rattle.sgb_ops.proofs.BareArcs.{same_commons}
 use Rattle.sgb_ops.proofs.CommonEvents.{commons_of, events_after, intersection_within}
-use Rattle.sgb_ops.proofs.EventsWithin.{TipBelow, tips_below_more}
+use Rattle.sgb_taken.proofs.TakenTips.{TipBelow}
+use Rattle.sgb_ops.proofs.EventsWithin.{tips_below_more}
 use Rattle.sgb_ops.proofs.PlainLists.{part_more, parts_all, places-next, places-none}
 use Rattle.sgb_ops.proofs.intersections.common_arcs.Goals as goal
 

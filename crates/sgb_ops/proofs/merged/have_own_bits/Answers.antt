@@ -1,6 +1,6 @@
 use Rattle.sgb_vec.proofs.Common.{◌≡◌, ◌≢◌, ◌∙◌, ◌+◌, ◌/◌, ◌%◌, ◌++◌, ◌∷◌, [], get_or, take, sym, ap, arith, bit_at, take_more}
 use Rattle.std.proofs.lemmas.Nat.Bits.{shr_and_one}
-use Rattle.sgb_ops.specs.inner.Ends.{bit_place}
+use Rattle.sgb_taken.specs.inner.Ends.{bit_place}
 use Rattle.sgb_ops.proofs.Apart.{so_far_more}
 use Rattle.sgb_ops.proofs.merged.have_own_bits.Goals as goal
 

@@ -1,5 +1,5 @@
 use Rattle.sgb_vec.proofs.Common.{◌≡◌, ◌∙◌, ◌++◌, ◌∷◌, [], ℕ, List, true, sym, ap, rules, list_any, position_or_len, not-true, not-false, map_push, map, if◌then◌else◌, set}
-use Rattle.sgb_ops.specs.inner.Ends.{ends_key}
+use Rattle.sgb_taken.specs.inner.Ends.{ends_key}
 use Rattle.sgb_ops.proofs.Ends.{has_same_pair}
 use Rattle.sgb_ops.proofs.MergeSteps.{has_key, put_last, put_there, keys_stay}
 use Rattle.sgb_ops.proofs.merged.merge_event.Goals as goal

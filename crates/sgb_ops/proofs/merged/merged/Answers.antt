@@ -1,5 +1,5 @@
 use Rattle.sgb_vec.proofs.Common.{rules, ◌≡◌, ◌+◌, ◌∙◌, ◌++◌, ◌∷◌, [], sym, ap, take, arith, take_all, take_more}
-use Rattle.sgb_ops.specs.inner.Ends.{ends_key}
+use Rattle.sgb_taken.specs.inner.Ends.{ends_key}
 use Rattle.sgb_ops.specs.Merged.{merged}
 use Rattle.sgb_ops.proofs.MergeSteps.{merged_more}
 use Rattle.sgb_ops.proofs.merged.merged.Goals as goal

@@ -1,5 +1,5 @@
 use Rattle.std.proofs.Common.{◌≡◌, map, take}
-use Rattle.sgb_ops.specs.inner.Ends.{ends_key}
+use Rattle.sgb_taken.specs.inner.Ends.{ends_key}
 use Rattle.sgb_ops.specs.Merged.{merged}
 use Rattle.sgb_ops.proofs.merged.merged.Given as goal
 

@@ -1,5 +1,5 @@
 use Rattle.sgb_vec.proofs.Common.{◌≡◌, ◌+◌, ◌∷◌, ◌∙◌, [], drop, map, sym, ap, arith, drop_all, drop_more}
-use Rattle.sgb_ops.specs.inner.Sources.{link_of}
+use Rattle.sgb_taken.specs.inner.Ends.{link_of}
 use Rattle.sgb_ops.proofs.PlainLists.{part_more, parts_all}
 use Rattle.sgb_ops.proofs.sources.push_links_of.Goals as goal
 

@@ -1,5 +1,5 @@
 use Rattle.std.proofs.Common.{◌≡◌, ◌++◌, drop, map}
-use Rattle.sgb_ops.specs.inner.Sources.{link_of}
+use Rattle.sgb_taken.specs.inner.Ends.{link_of}
 use Rattle.sgb_ops.proofs.sources.push_links_of.Given as goal
 
 -- with the arcs of the events that are to come, they are all

@@ -1,6 +1,6 @@
 use Rattle.std.proofs.Common.{◌≡◌, ◌++◌, map, filter, nat_lt}
 use Rattle.sgb_ops.specs.inner.Ends.{event_of}
-use Rattle.sgb_ops.specs.Taken.{taken}
+use Rattle.sgb_taken.specs.Taken.{taken}
 use Rattle.sgb_ops.proofs.sources.push_taken.Given as goal
 
 -- with the events of the arcs that are to come, they are all

@@ -1,8 +1,8 @@
 use Rattle.std.proofs.Common.{◌≡◌, ◌++◌, ◌∷◌, ◌≤◌, [], ℤ, List, nat_abs, refl, sym, ap, subst, ◌∙◌, append_assoc}
 use Rattle.std.specs.List.{All}
 use Rattle.std.proofs.lemmas.List.Elements.{All-tail}
-use Rattle.sgb_gen.specs.Limits.{most_piece}
-use Rattle.sgb_gen.proofs.DisplacementWalk.{first_and_others}
+use Rattle.sgb_moves.specs.Limits.{most_piece}
+use Rattle.sgb_moves.proofs.DisplacementWalk.{first_and_others}
 use Rattle.sgb_gen.proofs.displacement_tables.DisplacementTable.new.Goals as goal
 
 abbrev IsSmall : List ℤ → Type 0

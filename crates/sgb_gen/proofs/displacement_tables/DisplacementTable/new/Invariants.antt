@@ -1,6 +1,6 @@
 use Rattle.std.proofs.Common.{◌≡◌, ◌≤◌, ◌++◌, length, nat_abs}
 use Rattle.std.specs.List.{All}
-use Rattle.sgb_gen.specs.Limits.{most_piece}
+use Rattle.sgb_moves.specs.Limits.{most_piece}
 use Rattle.sgb_gen.proofs.displacement_tables.DisplacementTable.new.Given as goal
 
 -- those that are left come behind those that are kept

@@ -1,6 +1,6 @@
 use Rattle.std.proofs.Common.{length, ap, sym, ◌∙◌}
-use Rattle.sgb_gen.specs.MovedCoordinates.{parts_of}
-use Rattle.sgb_gen.proofs.MovedCoordinates.{length_parts_opposite}
+use Rattle.sgb_moves.specs.MovedCoordinates.{parts_of}
+use Rattle.sgb_moves.proofs.MovedCoordinates.{length_parts_opposite}
 use Rattle.sgb_gen.proofs.displacement_tables.KeptPair.new.Goals as goal
 
 pub kept_both-requires-2 : goal.kept_both-requires-2

@@ -1,7 +1,7 @@
 use Rattle.sgb_vec.proofs.Common.{ℤ, w64, rules, ◌++◌, ◌∷◌, [], ◌∙◌, ◌+◌, map, length, ap, subst, All, to_z-of_z, All-tail}
 use Rattle.sgb_ops.specs.inner.Entries.{inner_event, inner_events_from}
 use Rattle.sgb_ops.specs.inner.Induced.{wanted}
-use Rattle.sgb_ops.proofs.EventsWithin.{TipBelow}
+use Rattle.sgb_taken.proofs.TakenTips.{TipBelow}
 use Rattle.sgb_vec.proofs.Lists.{steps_to}
 use Rattle.sgb_ops.proofs.WantedEvents.{wanted_more}
 use Rattle.sgb_ops.proofs.induced_graphs.events.push_inner_arcs.Goals as goal

@@ -1,7 +1,7 @@
 use Rattle.std.proofs.Common.{◌≡◌, ◌++◌, map, length, All}
 use Rattle.sgb_ops.specs.inner.Entries.{inner_event, inner_events_from}
 use Rattle.sgb_ops.specs.inner.Induced.{wanted}
-use Rattle.sgb_ops.proofs.EventsWithin.{TipBelow}
+use Rattle.sgb_taken.proofs.TakenTips.{TipBelow}
 use Rattle.sgb_ops.proofs.induced_graphs.events.push_inner_arcs.Given as goal
 
 -- with those of the arcs that are left, they are all

@@ -1,7 +1,7 @@
 use Rattle.sgb_vec.proofs.Common.{◌≡◌, ◌+◌, ◌++◌, ◌∷◌, ◌∙◌, [], Bool, List, cond, drop, filter, map, sym, ap, arith, cases_Bool, drop_all, drop_more}
 use Rattle.sgb_graph.specs.declared.fields.Link.{Link}
 use Rattle.sgb_ops.specs.inner.Copies.{leads_to_copies}
-use Rattle.sgb_ops.specs.inner.Sources.{link_of}
+use Rattle.sgb_taken.specs.inner.Ends.{link_of}
 use Rattle.sgb_ops.proofs.PlainLists.{part_more, parts_all}
 use Rattle.sgb_ops.proofs.induced_graphs.rooms.push_arcs_to_copies.Goals as goal
 

@@ -2,7 +2,7 @@ use Rattle.std.proofs.Common.{◌≡◌, ℕ, false}
 use Rattle.std.specs.List.{list_all}
 use Rattle.sgb_graph.specs.Vertices.{order_of, places_of}
 use Rattle.sgb_ops.specs.Lines.{has_way_back}
-use Rattle.sgb_ops.specs.Taken.{taken}
+use Rattle.sgb_taken.specs.Taken.{taken}
 use Rattle.sgb_ops.proofs.PlainLists.{places_from}
 use Rattle.sgb_ops.proofs.line_graphs.line.have_ways_back.Given as goal
 

@@ -1,7 +1,7 @@
 use Rattle.std.proofs.Common.{◌≡◌, false}
 use Rattle.std.specs.List.{list_all}
 use Rattle.sgb_ops.specs.Lines.{has_way_back}
-use Rattle.sgb_ops.specs.Taken.{taken}
+use Rattle.sgb_taken.specs.Taken.{taken}
 use Rattle.sgb_ops.proofs.line_graphs.line.have_ways_back_from.Given as goal
 
 -- it is told by the arcs that are left

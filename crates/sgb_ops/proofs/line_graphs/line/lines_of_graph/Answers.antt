@@ -1,7 +1,7 @@
 use Rattle.std.proofs.Common.{rules, ◌≡◌, ◌∙◌, ◌+◌, ◌-◌, ◌++◌, ap, arith, map}
 use Rattle.sgb_ops.specs.inner.Lines.{DescendFrom, LeadsUp, LineWithin, line_of}
 use Rattle.sgb_graph.specs.Vertices.{order_of}
-use Rattle.sgb_ops.specs.Taken.{taken}
+use Rattle.sgb_taken.specs.Taken.{taken}
 use Rattle.sgb_ops.proofs.LineEvents.{lines_at, lines_below, lines_below-more, lines_within, same_lines}
 use Rattle.sgb_ops.proofs.LineLists.{lines_descend, lines_lead_up}
 use Rattle.sgb_ops.proofs.PlainLists.{part_more, parts_all}

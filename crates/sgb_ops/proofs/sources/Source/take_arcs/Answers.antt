@@ -4,10 +4,10 @@ use Rattle.sgb_graph.specs.Made.{graph_described}
 use Rattle.sgb_gen.specs.Boards.{board_vector_graph}
 use Rattle.sgb_gen.specs.Generators.{described}
 use Rattle.sgb_gen.specs.VectorGraphs.{described_by}
-use Rattle.sgb_ops.specs.Taken.{taken}
+use Rattle.sgb_taken.specs.Taken.{taken}
 use Rattle.sgb_ops.specs.inner.Sources.{bare, graph_kept}
 use Rattle.sgb_ops.proofs.BareArcs.{arcs_read, bare_tips, bare_twice}
-use Rattle.sgb_ops.proofs.EventsWithin.{TipBelow}
+use Rattle.sgb_taken.proofs.TakenTips.{TipBelow}
 use Rattle.sgb_ops.proofs.ListedEvents.{listed_tips}
 use Rattle.sgb_ops.proofs.sources.Source.take_arcs.Goals as goal
 

@@ -3,7 +3,7 @@ use Rattle.std.specs.Option.{unwrap_or}
 use Rattle.std.proofs.lemmas.Int.{to_z-of_z}
 use Rattle.std.proofs.lemmas.List.{at_drop_more, drop_all, length-drop}
 use Rattle.sgb_vec.specs.Names.{name_of_vector}
-use Rattle.sgb_gen.specs.MovedCoordinates.{part_at, parts_put}
+use Rattle.sgb_moves.specs.MovedCoordinates.{part_at, parts_put}
 use Rattle.sgb.proofs.KeptNames.{kept-back}
 use Rattle.sgb.proofs.MovedNames.{moved-all, moved-more, moved-none, moved-order}
 use Rattle.sgb.proofs.NameEntries.{name-entries}

@@ -1,5 +1,5 @@
 use Rattle.std.proofs.Common.{◌≤◌, ◌+◌, ◌*◌, drop, length}
-use Rattle.sgb_gen.specs.MovedCoordinates.{parts_put}
+use Rattle.sgb_moves.specs.MovedCoordinates.{parts_put}
 use Rattle.sgb.proofs.MovedNames.{IsMovedSoFar}
 use Rattle.sgb.proofs.writing.kept_names.KeptName.push_moved.Given as goal
 

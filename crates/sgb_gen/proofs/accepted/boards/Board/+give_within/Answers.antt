@@ -2,10 +2,11 @@ use Rattle.std.proofs.Common.{◌≡◌, ◌∙◌, ℕ, List, reverse, refl, ap
 use Rattle.std.specs.List.Sorted.{IsPermutation}
 use Rattle.sgb_vec.specs.Boxes.{box}
 use Rattle.sgb_vec.proofs.BoxPlaces.{Contains-from_IsBelow}
-use Rattle.sgb_gen.specs.Moves.{opposite, sides_of}
+use Rattle.sgb_moves.specs.Moves.{opposite, sides_of}
 use Rattle.sgb_gen.specs.VectorGraphs.{vertex_among}
 use Rattle.sgb_gen.specs.inner.LocalBoards.{arcs_of_starts}
-use Rattle.sgb_gen.specs.inner.Starts.{is_within, starts_within}
+use Rattle.sgb_moves.specs.inner.Starts.{is_within}
+use Rattle.sgb_gen.specs.inner.Starts.{starts_within}
 use Rattle.sgb_gen.proofs.ArcsInTurn.{exit_part, given_as, given_last, so_far_begun, so_far_more}
 use Rattle.sgb_gen.proofs.SortedStarts.{passing_sorted}
 use Rattle.sgb_gen.proofs.StartRanges.{arcs_apart, not_two}

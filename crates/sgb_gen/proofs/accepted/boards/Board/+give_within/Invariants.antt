@@ -1,4 +1,4 @@
-use Rattle.sgb_gen.specs.inner.Starts.{extent}
+use Rattle.sgb_moves.specs.inner.Starts.{extent}
 use Rattle.sgb_gen.proofs.accepted.boards.Board.+give_within.Given as goal
 
 abbrev pub decreases-give_within : goal.decreases-give_within

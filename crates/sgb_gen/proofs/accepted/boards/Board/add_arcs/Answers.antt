@@ -4,11 +4,11 @@ use Rattle.std.proofs.lemmas.List.Elements.{All-tail}
 use Rattle.sgb_vec.specs.Boxes.{box}
 use Rattle.sgb_graph.specs.Growth.{AddsEvents}
 use Rattle.sgb_graph.proofs.AddedEvents.{up_to-none, up_to-more, up_to-all}
-use Rattle.sgb_gen.specs.Moves.{moves_from, sides_of}
+use Rattle.sgb_moves.specs.Moves.{moves_from, sides_of}
 use Rattle.sgb_gen.specs.VectorGraphs.{event_among}
 use Rattle.sgb_gen.proofs.BoardEvents.{events_by, events_of, events_by-moves, events_of-moves}
 use Rattle.sgb_gen.proofs.BoundedMoves.{events_within}
-use Rattle.sgb_gen.proofs.DisplacementWalk.{first_and_others}
+use Rattle.sgb_moves.proofs.DisplacementWalk.{first_and_others}
 use Rattle.sgb_gen.proofs.accepted.boards.Board.add_arcs.Goals as goal
 
 pub loop-t-init : goal.loop-t-init

@@ -4,7 +4,7 @@ use Rattle.std.proofs.lemmas.List.{drop_all}
 use Rattle.sgb_vec.specs.Boxes.{box}
 use Rattle.sgb_vec.proofs.BoxPlaces.{length-box}
 use Rattle.sgb_graph.proofs.AddedEvents.{up_to-all, up_to-more, up_to-none}
-use Rattle.sgb_gen.specs.MovedCoordinates.{parts_of}
+use Rattle.sgb_moves.specs.MovedCoordinates.{parts_of}
 use Rattle.sgb_gen.proofs.BoardEvents.{events_by, events_by-moves, events_from}
 use Rattle.sgb_gen.proofs.RowMoves.{next_events, tips_within}
 use Rattle.sgb_gen.proofs.accepted.boards.Board.add_strides_by.Goals as goal

@@ -1,7 +1,7 @@
 use Rattle.std.proofs.Common.{◌≡◌, ◌+◌, length}
 use Rattle.sgb_vec.specs.Boxes.{box}
 use Rattle.sgb_gen.specs.inner.LocalBoards.{moves_by}
-use Rattle.sgb_gen.specs.Moves.{sides_of}
+use Rattle.sgb_moves.specs.Moves.{sides_of}
 use Rattle.sgb_gen.proofs.BoardCountsBoards.{moves_beyond}
 use Rattle.sgb_gen.proofs.accepted.boards.Board.count_one_by_one.Given as goal
 

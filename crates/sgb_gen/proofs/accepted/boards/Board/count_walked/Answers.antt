@@ -3,7 +3,7 @@ use Rattle.std.specs.Prelude.{IfSome}
 use Rattle.sgb_vec.proofs.BoxPlaces.{IsBelow-from_Contains}
 use Rattle.sgb_vec.specs.Boxes.{box}
 use Rattle.sgb_gen.specs.Boards.{moves_of_board}
-use Rattle.sgb_gen.specs.Limits.{most_piece}
+use Rattle.sgb_moves.specs.Limits.{most_piece}
 use Rattle.sgb_gen.specs.LocalLists.{list_at}
 use Rattle.sgb_gen.specs.inner.StraightLists.{LeadNowhere, NeedsNoSort, arcs_by_all}
 use Rattle.sgb_gen.proofs.NearMoves.{all_near, list_near}

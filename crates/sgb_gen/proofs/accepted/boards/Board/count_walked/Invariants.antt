@@ -2,7 +2,7 @@ use Rattle.std.proofs.Common.{◌≡◌, ◌+◌, ◌≤◌, length, nat_abs}
 use Rattle.std.specs.List.{All}
 use Rattle.sgb_vec.specs.Boxes.{box}
 use Rattle.sgb_gen.specs.Boards.{moves_of_board}
-use Rattle.sgb_gen.specs.Limits.{most_piece}
+use Rattle.sgb_moves.specs.Limits.{most_piece}
 use Rattle.sgb_gen.specs.LocalLists.{list_at}
 use Rattle.sgb_gen.specs.inner.StraightLists.{NeedsNoSort, arcs_by_all}
 use Rattle.sgb_gen.proofs.accepted.boards.Board.count_walked.Given as goal

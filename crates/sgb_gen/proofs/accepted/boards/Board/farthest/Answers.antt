@@ -1,6 +1,6 @@
 use Rattle.std.proofs.Common.{◌≡◌, ◌+◌, ◌∙◌, ℕ, sym, ap, ap₂, arith, rules, w64, to_z, of_z}
 use Rattle.std.proofs.lemmas.Int.{to_z-of_z}
-use Rattle.sgb_gen.specs.inner.MovedCoordinates.{parts_stay}
+use Rattle.sgb_moves.specs.inner.MovedCoordinates.{parts_stay}
 use Rattle.sgb_gen.proofs.StraightMoves.{straight_arcs}
 use Rattle.sgb_gen.proofs.accepted.boards.Board.farthest.Goals as goal
 

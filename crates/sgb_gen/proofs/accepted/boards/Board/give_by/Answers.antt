@@ -3,14 +3,14 @@ use Rattle.std.proofs.lemmas.List.{length-map}
 use Rattle.std.specs.List.{range_with_len}
 use Rattle.sgb_vec.specs.Boxes.{box}
 use Rattle.sgb_gen.specs.Boards.{BoardData}
-use Rattle.sgb_gen.specs.MovedCoordinates.{parts_of}
-use Rattle.sgb_gen.specs.Moves.{opposite, sides_of}
+use Rattle.sgb_moves.specs.MovedCoordinates.{parts_of}
+use Rattle.sgb_moves.specs.Moves.{opposite, sides_of}
 use Rattle.sgb_gen.specs.Runs.{arc_along, arcs_along}
 use Rattle.sgb_gen.specs.inner.LocalBoards.{arcs_onward, moves_by}
-use Rattle.sgb_gen.specs.inner.MovedCoordinates.{moved_of}
+use Rattle.sgb_moves.specs.inner.MovedCoordinates.{moved_of}
 use Rattle.sgb_gen.specs.inner.StraightLists.{arcs_from}
 use Rattle.sgb_gen.proofs.ArcsInTurn.{exit_part, given_as, given_last, so_far_begun, so_far_more}
-use Rattle.sgb_gen.proofs.MovedCoordinates.{moved_opposite}
+use Rattle.sgb_moves.proofs.MovedCoordinates.{moved_opposite}
 use Rattle.sgb_gen.proofs.accepted.boards.Board.give_by.Goals as goal
 
 -- the arcs back around, those ahead and those back, one after another

@@ -1,9 +1,9 @@
 use Rattle.std.proofs.Common.{rules, ◌≡◌, ◌++◌, ◌∷◌, [], ◌∙◌, pos, cond, not, Bool, List, refl, sym, ap, true, false}
 use Rattle.sgb_gen.specs.LocalLists.{LocalArc}
-use Rattle.sgb_gen.specs.Moves.{sides_of}
-use Rattle.sgb_gen.specs.VectorGraphs.{same_vector}
+use Rattle.sgb_moves.specs.Moves.{sides_of}
+use Rattle.sgb_moves.specs.VectorMoves.{same_vector}
 use Rattle.sgb_gen.specs.inner.LocalBoards.{edge_arcs}
-use Rattle.sgb_gen.specs.inner.Moves.{destination}
+use Rattle.sgb_moves.specs.inner.Moves.{destination}
 use Rattle.sgb_gen.proofs.ArcsInTurn.{exit_part, given_last, so_far_begun, so_far_more}
 use Rattle.sgb_gen.proofs.BoardWalks.{lands_width, leads}
 use Rattle.sgb_gen.proofs.accepted.boards.Board.give_edge.Goals as goal

@@ -1,7 +1,7 @@
 use Rattle.std.proofs.Common.{◌==◌, cond, arith, rules}
 use Rattle.std.proofs.lemmas.List.{take_all}
-use Rattle.sgb_gen.specs.inner.Moves.{destination}
-use Rattle.sgb_gen.specs.Moves.{sides_of}
+use Rattle.sgb_moves.specs.inner.Moves.{destination}
+use Rattle.sgb_moves.specs.Moves.{sides_of}
 use Rattle.sgb_gen.proofs.ArcsInTurn.{exit_part, so_far_begun, so_far_more}
 use Rattle.sgb_gen.proofs.EdgesInTurn.{last_edge}
 use Rattle.sgb_gen.proofs.accepted.boards.Board.give_edges.Goals as goal

@@ -1,5 +1,5 @@
 use Rattle.std.proofs.Common.{arith}
-use Rattle.sgb_gen.specs.MovedCoordinates.{parts_of}
+use Rattle.sgb_moves.specs.MovedCoordinates.{parts_of}
 use Rattle.sgb_gen.specs.Runs.{arc_along}
 use Rattle.sgb_gen.proofs.ArcsInTurn.{exit_part, so_far_more}
 use Rattle.sgb_gen.proofs.GivenArcs.{lengths-first}

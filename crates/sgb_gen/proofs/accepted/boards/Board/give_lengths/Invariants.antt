@@ -1,8 +1,8 @@
 use Rattle.std.proofs.Common.{◌+◌, ◌-◌, map}
 use Rattle.std.specs.List.{range_with_len}
-use Rattle.sgb_gen.specs.MovedCoordinates.{parts_of}
+use Rattle.sgb_moves.specs.MovedCoordinates.{parts_of}
 use Rattle.sgb_gen.specs.Runs.{arc_along}
-use Rattle.sgb_gen.specs.inner.MovedCoordinates.{AgreeBut, moved_of}
+use Rattle.sgb_moves.specs.inner.MovedCoordinates.{AgreeBut, moved_of}
 use Rattle.sgb_gen.proofs.ArcsInTurn.{TakenSoFar}
 use Rattle.sgb_gen.proofs.accepted.boards.Board.give_lengths.Given as goal
 

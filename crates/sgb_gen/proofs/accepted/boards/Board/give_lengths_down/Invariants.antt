@@ -1,7 +1,7 @@
 use Rattle.std.proofs.Common.{reverse}
-use Rattle.sgb_gen.specs.MovedCoordinates.{parts_of}
+use Rattle.sgb_moves.specs.MovedCoordinates.{parts_of}
 use Rattle.sgb_gen.specs.Runs.{arcs_along}
-use Rattle.sgb_gen.specs.inner.MovedCoordinates.{AgreeBut, moved_of}
+use Rattle.sgb_moves.specs.inner.MovedCoordinates.{AgreeBut, moved_of}
 use Rattle.sgb_gen.proofs.ArcsInTurn.{TakenSoFar}
 use Rattle.sgb_gen.proofs.accepted.boards.Board.give_lengths_down.Given as goal
 

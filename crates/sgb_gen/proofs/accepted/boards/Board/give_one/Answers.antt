@@ -1,6 +1,6 @@
 use Rattle.std.proofs.Common.{rules}
-use Rattle.sgb_gen.proofs.DisplacementWalk.{refill-all}
-use Rattle.sgb_gen.proofs.MovedCoordinates.{agree_put, length-put, put_over}
+use Rattle.sgb_moves.proofs.DisplacementWalk.{refill-all}
+use Rattle.sgb_moves.proofs.MovedCoordinates.{agree_put, length-put, put_over}
 use Rattle.sgb_gen.proofs.accepted.boards.Board.give_one.Goals as goal
 
 pub put_arc-requires-clause-width : goal.put_arc-requires-clause-width

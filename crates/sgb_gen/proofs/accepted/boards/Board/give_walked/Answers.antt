@@ -2,8 +2,8 @@ use Rattle.std.proofs.Common.{◌≡◌, ◌≤◌, ◌∙◌, ◌++◌, ℤ, Li
 use Rattle.std.specs.Prelude.{IfSome}
 use Rattle.sgb_vec.proofs.BoxPlaces.{IsBelow-from_Contains}
 use Rattle.sgb_vec.specs.Boxes.{box}
-use Rattle.sgb_gen.specs.Limits.{most_piece}
-use Rattle.sgb_gen.specs.Moves.{sides_of}
+use Rattle.sgb_moves.specs.Limits.{most_piece}
+use Rattle.sgb_moves.specs.Moves.{sides_of}
 use Rattle.sgb_gen.specs.inner.LocalBoards.{arcs_onward, moves_by}
 use Rattle.sgb_gen.specs.inner.StraightLists.{LeadNowhere, arcs_by_all}
 use Rattle.sgb_gen.proofs.ArcsInTurn.{exit_part, so_far_begun, so_far_more}

@@ -1,6 +1,6 @@
 use Rattle.std.proofs.Common.{◌≡◌, ◌<◌, nat_abs, ap, refl, subst}
 use Rattle.std.specs.Prelude.{IfSome}
-use Rattle.sgb_gen.specs.inner.EntryBounds.{displacements_within}
+use Rattle.sgb_moves.specs.inner.EntryBounds.{displacements_within}
 use Rattle.sgb_gen.proofs.BoundedMoves.{bounds_of}
 use Rattle.sgb_gen.proofs.PlainBoards.{plain_in_order}
 use Rattle.sgb_gen.proofs.RunsOfLists.{widths_in_table}

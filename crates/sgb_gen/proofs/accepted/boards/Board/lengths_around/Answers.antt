@@ -1,7 +1,7 @@
 use Rattle.std.proofs.Common.{◌≡◌, ◌-◌, ◌+◌, ◌%◌, ℕ, to_z, of_z, w64, eqb, ◌∙◌, rules, arith}
 use Rattle.std.proofs.lemmas.Int.{to_z-of_z}
 use Rattle.sgb_vec.proofs.BoxPlaces.{length-box}
-use Rattle.sgb_gen.specs.Moves.{sides_of}
+use Rattle.sgb_moves.specs.Moves.{sides_of}
 use Rattle.sgb_gen.specs.inner.BoardCounts.{comes_home}
 use Rattle.sgb_gen.proofs.BoardCountsBoards.{rider-home}
 use Rattle.sgb_gen.proofs.Reaches.{longest-rider}

@@ -1,8 +1,8 @@
 use Rattle.std.proofs.Common.{◌≡◌, ◌<◌, ℕ, ℤ, ◌/◌, min, pos, nat_abs, get_or, length, ap, arith, rules}
 use Rattle.sgb_vec.proofs.BoxPlaces.{Contains-from_IsBelow}
-use Rattle.sgb_gen.specs.MovedCoordinates.{parts_of}
+use Rattle.sgb_moves.specs.MovedCoordinates.{parts_of}
 use Rattle.sgb_gen.proofs.FallingPlaces.{around_arcs}
-use Rattle.sgb_gen.proofs.SideEntries.{entry_there}
+use Rattle.sgb_moves.proofs.SideEntries.{entry_there}
 use Rattle.sgb_gen.proofs.accepted.boards.Board.lengths_before.Goals as goal
 
 pub returns-clause-order : goal.returns-clause-order

@@ -1,7 +1,7 @@
 use Rattle.std.proofs.Common.{◌≡◌, ℕ, ◌<◌, ◌∙◌, true, false, length, ap, subst₂, arith, rules, w64, to_z, of_z}
 use Rattle.std.proofs.lemmas.Int.{to_z-of_z}
 use Rattle.sgb_vec.proofs.BoxPlaces.{Contains-from_IsBelow, length-box}
-use Rattle.sgb_gen.specs.Moves.{sides_of}
+use Rattle.sgb_moves.specs.Moves.{sides_of}
 use Rattle.sgb_gen.specs.inner.BoardCounts.{stops_at}
 use Rattle.sgb_gen.proofs.AroundMoves.{around_lengths}
 use Rattle.sgb_gen.proofs.BoardCountsLengths.{going}

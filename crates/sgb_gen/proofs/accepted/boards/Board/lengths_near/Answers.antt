@@ -1,6 +1,6 @@
 use Rattle.std.proofs.Common.{◌≡◌, true, false, rules, sym, ap, subst, ◌∙◌, w64, to_z, of_z}
 use Rattle.std.proofs.lemmas.Int.{to_z-of_z}
-use Rattle.sgb_gen.specs.inner.Moves.{leads_onward}
+use Rattle.sgb_moves.specs.inner.Moves.{leads_onward}
 use Rattle.sgb_gen.proofs.GivenArcs.{none_around}
 use Rattle.sgb_gen.proofs.RunsOfLists.{directed_run, onward_run}
 use Rattle.sgb_gen.proofs.accepted.boards.Board.lengths_near.Goals as goal

@@ -1,7 +1,7 @@
 use Rattle.std.proofs.Common.{rules, ◌≡◌, ◌≤◌, ◌<◌, ◌%◌, ◌+◌, ℕ, to_z, of_z, w64, get_or, length, true, ap, subst, ◌∙◌, arith}
 use Rattle.std.proofs.lemmas.Int.{to_z-of_z}
 use Rattle.sgb_vec.specs.Boxes.{product_of}
-use Rattle.sgb_gen.specs.Moves.{is_bit_set, sides_of}
+use Rattle.sgb_moves.specs.Moves.{is_bit_set, sides_of}
 use Rattle.sgb_gen.proofs.MostLengths.{within_longest}
 use Rattle.sgb_gen.proofs.Reaches.{sizes_of_sides}
 use Rattle.sgb_gen.proofs.RideLengths.{few_lengths, rider_if_far}

@@ -3,10 +3,10 @@ use Rattle.std.specs.List.{All, flat_map}
 use Rattle.std.proofs.lemmas.List.Elements.{All-tail}
 use Rattle.sgb_vec.specs.Boxes.{box}
 use Rattle.sgb_gen.specs.inner.LocalBoards.{moves_by}
-use Rattle.sgb_gen.specs.Moves.{sides_of}
-use Rattle.sgb_gen.specs.VectorGraphs.{Move}
+use Rattle.sgb_moves.specs.Moves.{sides_of}
+use Rattle.sgb_moves.specs.VectorMoves.{Move}
 use Rattle.sgb_gen.proofs.BoundedMoves.{moves_within}
-use Rattle.sgb_gen.proofs.DisplacementWalk.{first_and_others}
+use Rattle.sgb_moves.proofs.DisplacementWalk.{first_and_others}
 use Rattle.sgb_gen.proofs.accepted.boards.Board.moves_walked.Goals as goal
 
 pub loop-t-init : goal.loop-t-init

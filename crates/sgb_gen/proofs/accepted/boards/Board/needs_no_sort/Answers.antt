@@ -1,6 +1,6 @@
 use Rattle.std.proofs.Common.{◌≤◌, length, pos, get_or, subst}
 use Rattle.std.proofs.lemmas.Bool.{OnTrue_at, OnTrue_from}
-use Rattle.sgb_gen.specs.MovedCoordinates.{parts_of}
+use Rattle.sgb_moves.specs.MovedCoordinates.{parts_of}
 use Rattle.sgb_gen.specs.inner.StraightLists.{NeedsNoSort, arcs_from}
 use Rattle.sgb_gen.proofs.GivenArcs.{around_fewer}
 use Rattle.sgb_gen.proofs.accepted.boards.Board.needs_no_sort.Goals as goal

@@ -1,7 +1,7 @@
 use Rattle.std.proofs.Common.{◌<◌, ◌-◌, ◌∙◌, ap, get_or, length, pos, subst, sym, take, w32, arith, rules}
 use Rattle.std.specs.List.{All}
 use Rattle.std.proofs.lemmas.Int.{to_z-of_z}
-use Rattle.sgb_gen.specs.MovedCoordinates.{parts_of}
+use Rattle.sgb_moves.specs.MovedCoordinates.{parts_of}
 use Rattle.sgb_gen.specs.inner.Rows.{IsFarthest, last_side, vector_at}
 use Rattle.sgb_gen.proofs.RowMoves.{farthest_by_steps, next_in_row, others_within, stands}
 use Rattle.sgb_gen.proofs.Vertices.{below_in_box}

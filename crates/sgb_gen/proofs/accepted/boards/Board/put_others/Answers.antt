@@ -3,7 +3,7 @@ use Rattle.std.specs.List.{filter}
 use Rattle.sgb_vec.specs.Boxes.{box}
 use Rattle.sgb_gen.specs.VectorGraphs.{vertex_among}
 use Rattle.sgb_gen.specs.inner.LocalBoards.{other_starts}
-use Rattle.sgb_gen.specs.inner.Starts.{is_within}
+use Rattle.sgb_moves.specs.inner.Starts.{is_within}
 use Rattle.sgb_gen.proofs.BoardWalks.{left-all, moves_of, others_next, others_same, leads, led_nowhere}
 use Rattle.sgb_gen.proofs.SkippedLengths.{jumped, leads_along, none_left, starts_left, two_at_least}
 use Rattle.sgb_gen.proofs.StartRanges.{others_outside}

@@ -2,7 +2,7 @@ use Rattle.std.proofs.Common.{◌≡◌, ◌++◌, ◌+◌, ◌-◌, ◌≤◌}
 use Rattle.std.specs.List.{filter}
 use Rattle.sgb_vec.specs.Boxes.{box}
 use Rattle.sgb_gen.specs.inner.LocalBoards.{other_starts}
-use Rattle.sgb_gen.specs.inner.Starts.{is_within}
+use Rattle.sgb_moves.specs.inner.Starts.{is_within}
 use Rattle.sgb_gen.proofs.BoardWalks.{moves_left, moves_of}
 use Rattle.sgb_gen.proofs.accepted.boards.Board.put_others.Given as goal
 

@@ -1,6 +1,6 @@
 use Rattle.std.proofs.Common.{◌++◌, ◌+◌, ◌∙◌, sym, ap, append-nil, arith}
 use Rattle.std.specs.List.{filter}
-use Rattle.sgb_gen.specs.inner.Starts.{is_within}
+use Rattle.sgb_moves.specs.inner.Starts.{is_within}
 use Rattle.sgb_gen.proofs.BoardWalks.{moves_of}
 use Rattle.sgb_gen.proofs.OwnLengths.{all_lengths, all_put, begun, one_put}
 use Rattle.sgb_gen.proofs.StartRanges.{own_outside}

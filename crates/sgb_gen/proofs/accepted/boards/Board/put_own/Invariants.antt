@@ -1,7 +1,7 @@
 use Rattle.std.proofs.Common.{◌≡◌, ◌++◌, ◌+◌}
 use Rattle.std.specs.List.{filter}
 use Rattle.sgb_gen.specs.inner.LocalBoards.{own_starts}
-use Rattle.sgb_gen.specs.inner.Starts.{is_within}
+use Rattle.sgb_moves.specs.inner.Starts.{is_within}
 use Rattle.sgb_gen.proofs.BoardWalks.{moves_of}
 use Rattle.sgb_gen.proofs.OwnLengths.{within_left}
 use Rattle.sgb_gen.proofs.accepted.boards.Board.put_own.Given as goal

@@ -1,6 +1,6 @@
 use Rattle.std.proofs.Common.{◌≡◌, ◌∙◌, ◌+◌, ℕ, ap, ap₂, of_z, sym, to_z, w64, arith, rules}
 use Rattle.std.proofs.lemmas.Int.{to_z-of_z}
-use Rattle.sgb_gen.specs.inner.MovedCoordinates.{parts_stay}
+use Rattle.sgb_moves.specs.inner.MovedCoordinates.{parts_stay}
 use Rattle.sgb_gen.proofs.accepted.boards.Board.reach_by.Goals as goal
 
 pub returns : goal.returns

@@ -3,7 +3,7 @@ use Rattle.std.proofs.lemmas.Bool.{OnTrue_at, OnTrue_from}
 use Rattle.std.proofs.lemmas.List.{take_all}
 use Rattle.sgb_vec.specs.Lexicographic.{IsBelow}
 use Rattle.sgb_vec.proofs.BoxPlaces.{IsBelow-from_Contains}
-use Rattle.sgb_gen.specs.inner.MovedCoordinates.{StayAtOne}
+use Rattle.sgb_moves.specs.inner.MovedCoordinates.{StayAtOne}
 use Rattle.sgb_gen.proofs.BoundedMoves.{moves_within}
 use Rattle.sgb_gen.proofs.InsideRuns.{all_runs}
 use Rattle.sgb_gen.proofs.InsideVertices.{stay_inside}

@@ -1,7 +1,7 @@
 use Rattle.std.proofs.Common.{◌≡◌, ◌+◌, ◌*◌, Some, subst, sym, ◌∙◌, arith, rules}
-use Rattle.sgb_gen.specs.Moves.{place, sides_of}
+use Rattle.sgb_moves.specs.Moves.{place, sides_of}
 use Rattle.sgb_gen.specs.inner.Progressions.{IsAmong}
-use Rattle.sgb_gen.proofs.SideEntries.{part_less}
+use Rattle.sgb_moves.proofs.SideEntries.{part_less}
 use Rattle.sgb_gen.proofs.SkippedLengths.{coordinate_around}
 use Rattle.sgb_gen.proofs.accepted.boards.Board.steps_at.Goals as goal
 

@@ -1,5 +1,5 @@
 use Rattle.std.proofs.Common.{◌≡◌, ◌+◌, ◌<◌, ℕ, List, Some}
-use Rattle.sgb_gen.specs.Moves.{place, sides_of}
+use Rattle.sgb_moves.specs.Moves.{place, sides_of}
 use Rattle.sgb_gen.specs.inner.Progressions.{IsAmong, Rises}
 use Rattle.sgb_gen.specs.inner.VertexBounds.{IsBetween}
 use Rattle.sgb_gen.proofs.accepted.boards.Board.steps_between.Given as goal

@@ -1,6 +1,6 @@
 use Rattle.std.proofs.Common.{◌≡◌, ◌<◌, ◌≤◌, ◌*◌, ◌%◌, ◌&&◌, eqb, drop, ℕ}
 use Rattle.sgb_vec.specs.Boxes.{product_of}
-use Rattle.sgb_gen.specs.Moves.{sides_of}
+use Rattle.sgb_moves.specs.Moves.{sides_of}
 use Rattle.sgb_gen.specs.inner.BoardCounts.{is_home}
 use Rattle.sgb_gen.proofs.BoardCountsBoards.{home_from}
 use Rattle.sgb_gen.proofs.accepted.boards.counts.home.Given as goal

@@ -1,4 +1,4 @@
-use Rattle.sgb_gen.proofs.SignedSteps.{product_fits, product_is}
+use Rattle.sgb_moves.proofs.SignedSteps.{product_fits, product_is}
 use Rattle.sgb_gen.proofs.accepted.boards.counts.step.Goals as goal
 
 pub overflow_mul-result : goal.overflow_mul-result

@@ -1,5 +1,5 @@
 use Rattle.std.proofs.Common.{◌≡◌, ◌<◌, ◌%◌, ℕ, slice_index, true}
-use Rattle.sgb_gen.specs.Moves.{is_bit_set}
+use Rattle.sgb_moves.specs.Moves.{is_bit_set}
 use Rattle.sgb_gen.proofs.accepted.boards.most_moves.length_home.Given as goal
 
 -- the sides before k that wrap around divide it

@@ -1,6 +1,6 @@
 use Rattle.std.proofs.Common.{refl}
-use Rattle.sgb_gen.proofs.SideRests.{rest_fits, rest_is, rest_small, size_small, size_some}
-use Rattle.sgb_gen.proofs.SignedSteps.{product_fits, product_is}
+use Rattle.sgb_moves.proofs.SideRests.{rest_fits, rest_is, rest_small, size_small, size_some}
+use Rattle.sgb_moves.proofs.SignedSteps.{product_fits, product_is}
 use Rattle.sgb_gen.proofs.accepted.boards.progressions.step_around.Goals as goal
 
 pub overflow_mul-step : goal.overflow_mul-step

@@ -1,7 +1,7 @@
 use Rattle.std.proofs.Common.{◌≡◌, slice_index_or, subst, true, w64, arith, rules}
 use Rattle.std.proofs.lemmas.Int.{to_z-of_z}
 use Rattle.std.proofs.lemmas.Option.{slice_get-get_or}
-use Rattle.sgb_gen.specs.inner.Moves.{leads_onward}
+use Rattle.sgb_moves.specs.inner.Moves.{leads_onward}
 use Rattle.sgb_gen.proofs.accepted.boards.runs.all_lead_onward.Goals as goal
 
 pub returns : goal.returns

@@ -1,6 +1,6 @@
 use Rattle.std.proofs.Common.{◌≡◌, ◌<◌, ℕ, ℤ, List, true}
 use Rattle.std.specs.Prelude.{Some, slice_get}
-use Rattle.sgb_gen.specs.inner.Moves.{leads_onward}
+use Rattle.sgb_moves.specs.inner.Moves.{leads_onward}
 use Rattle.sgb_gen.proofs.accepted.boards.runs.all_lead_onward.Given as goal
 
 -- the displacements before this one lead onward

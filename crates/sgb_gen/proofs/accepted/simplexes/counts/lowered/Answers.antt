@@ -2,7 +2,7 @@ use Rattle.std.proofs.Common.{◌≡◌, ℕ, ◌-◌, ◌≤◌, List, length, 
 use Rattle.std.specs.List.{refill}
 use Rattle.std.proofs.lemmas.List.{get_or-set_other, take_all}
 use Rattle.sgb_gen.specs.inner.SimplexCounts.{less_at}
-use Rattle.sgb_gen.proofs.DisplacementWalk.{refill-all}
+use Rattle.sgb_moves.proofs.DisplacementWalk.{refill-all}
 use Rattle.sgb_gen.proofs.accepted.simplexes.counts.lowered.Goals as goal
 
 -- the bounds, once all are copied

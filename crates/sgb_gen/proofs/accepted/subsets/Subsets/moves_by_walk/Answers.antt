@@ -8,7 +8,7 @@ use Rattle.sgb_gen.specs.Subsets.{subsets_vectors}
 use Rattle.sgb_gen.specs.inner.Descents.{down_from}
 use Rattle.sgb_gen.specs.inner.SubsetsCounts.{moves_among, wanted_among}
 use Rattle.sgb_gen.proofs.SubsetsCounts.{moves-counted, moves-few}
-use Rattle.sgb_gen.proofs.DisplacementWalk.{first_has}
+use Rattle.sgb_moves.proofs.DisplacementWalk.{first_has}
 use Rattle.sgb_gen.proofs.accepted.subsets.Subsets.moves_by_walk.Goals as goal
 
 pub loop-x-init : goal.loop-x-init

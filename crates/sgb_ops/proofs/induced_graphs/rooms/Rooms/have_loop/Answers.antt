@@ -1,7 +1,7 @@
 use Rattle.std.proofs.Common.{◌==◌, ◌∙◌, ap}
 use Rattle.std.specs.List.{list_any}
 use Rattle.sgb_graph.specs.declared.fields.Link.{Link}
-use Rattle.sgb_ops.specs.Taken.{taken}
+use Rattle.sgb_taken.specs.Taken.{taken}
 use Rattle.sgb_ops.proofs.ReadArcs.{same_loops}
 use Rattle.sgb_ops.proofs.induced_graphs.rooms.Rooms.have_loop.Goals as goal
 

@@ -1,10 +1,11 @@
 use Rattle.std.proofs.Common.{◌<◌, ◌∙◌, ◌++◌, [], length, map, filter, sym, ap, subst, refl, All}
 use Rattle.std.proofs.lemmas.Result.{on_ok_weaker}
-use Rattle.sgb_ops.specs.Taken.{taken}
+use Rattle.sgb_taken.specs.Taken.{taken}
 use Rattle.sgb_ops.specs.inner.Copies.{leads_to_copies}
-use Rattle.sgb_ops.specs.inner.Sources.{bare, link_of}
+use Rattle.sgb_taken.specs.inner.Ends.{link_of}
+use Rattle.sgb_ops.specs.inner.Sources.{bare}
 use Rattle.sgb_ops.proofs.BareArcs.{arcs_read, bare_tips, bare_twice}
-use Rattle.sgb_ops.proofs.EventsWithin.{TipBelow}
+use Rattle.sgb_taken.proofs.TakenTips.{TipBelow}
 use Rattle.sgb_ops.proofs.ListedEvents.{listed_tips}
 use Rattle.sgb_ops.proofs.ReadArcs.{ends_below, kept_tips, same_events}
 use Rattle.sgb_ops.proofs.induced_graphs.rooms.Rooms.take_arcs.Goals as goal

@@ -1,7 +1,7 @@
 use Rattle.std.proofs.Common.{◌∙◌, ap, map, arith, refl, subst, flat_map}
 use Rattle.sgb_graph.specs.Growth.{AddsEvents}
 use Rattle.sgb_graph.specs.Vertices.{order_of}
-use Rattle.sgb_ops.specs.Taken.{taken}
+use Rattle.sgb_taken.specs.Taken.{taken}
 use Rattle.sgb_ops.specs.inner.Sources.{bare}
 use Rattle.sgb_ops.specs.inner.Steps.{steps_by}
 use Rattle.sgb_ops.proofs.Places.{place_added, places_added}

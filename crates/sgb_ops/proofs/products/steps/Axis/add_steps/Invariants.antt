@@ -1,6 +1,6 @@
 use Rattle.std.specs.List.{flat_map}
 use Rattle.sgb_graph.specs.Vertices.{order_of}
-use Rattle.sgb_ops.specs.Taken.{taken}
+use Rattle.sgb_taken.specs.Taken.{taken}
 use Rattle.sgb_ops.specs.inner.Steps.{steps_by}
 use Rattle.sgb_ops.proofs.Places.{PlacesLeft}
 use Rattle.sgb_ops.proofs.products.steps.Axis.add_steps.Given as goal

@@ -7,8 +7,8 @@ use Rattle.sgb_graph.specs.Made.{graph_described}
 use Rattle.sgb_graph.specs.declared.fields.Link.{Link}
 use Rattle.sgb_gen.specs.Boards.{board_vector_graph}
 use Rattle.sgb_gen.specs.VectorGraphs.{described_by}
-use Rattle.sgb_gen.specs.Moves.{sides_of}
-use Rattle.sgb_gen.specs.inner.EntryBounds.{displacements_within, entry_bounds}
+use Rattle.sgb_moves.specs.Moves.{sides_of}
+use Rattle.sgb_moves.specs.inner.EntryBounds.{displacements_within, entry_bounds}
 use Rattle.sgb_gen.specs.inner.StraightLists.{AreOnward}
 use Rattle.sgb_gen.specs.inner.Strides.{IsStrided, stride_of}
 use Rattle.sgb_gen.proofs.InsideRows.{ones_in}

@@ -8,10 +8,10 @@ use Rattle.sgb_graph.specs.Made.{graph_described}
 use Rattle.sgb_graph.specs.declared.fields.Link.{Link}
 use Rattle.sgb_gen.specs.Boards.{board_vector_graph}
 use Rattle.sgb_gen.specs.LocalLists.{LocalArc}
-use Rattle.sgb_gen.specs.Moves.{sides_of}
+use Rattle.sgb_moves.specs.Moves.{sides_of}
 use Rattle.sgb_gen.specs.VectorGraphs.{described_by}
-use Rattle.sgb_gen.specs.inner.EntryBounds.{displacements_within, entry_bounds}
-use Rattle.sgb_gen.specs.inner.MovedCoordinates.{StayAtOne}
+use Rattle.sgb_moves.specs.inner.EntryBounds.{displacements_within, entry_bounds}
+use Rattle.sgb_moves.specs.inner.MovedCoordinates.{StayAtOne}
 use Rattle.sgb_gen.specs.inner.StraightLists.{AreOnward, arcs_by_all}
 use Rattle.sgb_gen.specs.inner.Strides.{stride_of}
 use Rattle.sgb_gen.proofs.InsideRuns.{all_runs}

@@ -9,9 +9,9 @@ use Rattle.sgb_graph.specs.Made.{graph_described}
 use Rattle.sgb_graph.specs.declared.fields.Link.{Link}
 use Rattle.sgb_gen.specs.Boards.{board_vector_graph}
 use Rattle.sgb_gen.specs.LocalLists.{LocalArc}
-use Rattle.sgb_gen.specs.Moves.{opposite}
+use Rattle.sgb_moves.specs.Moves.{opposite}
 use Rattle.sgb_gen.specs.VectorGraphs.{described_by}
-use Rattle.sgb_gen.specs.inner.MovedCoordinates.{StayAtOne}
+use Rattle.sgb_moves.specs.inner.MovedCoordinates.{StayAtOne}
 use Rattle.sgb_gen.specs.inner.StraightLists.{arcs_by_all}
 use Rattle.sgb_gen.proofs.FlatBoards.{tips_apart}
 use Rattle.sgb_gen.proofs.InsideRuns.{all_runs}

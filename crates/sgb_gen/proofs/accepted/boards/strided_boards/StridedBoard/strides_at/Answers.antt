@@ -5,7 +5,7 @@ use Rattle.sgb_graph.specs.Graphs.{chain_of}
 use Rattle.sgb_graph.specs.Made.{graph_described}
 use Rattle.sgb_graph.specs.declared.fields.Link.{Link}
 use Rattle.sgb_gen.specs.Boards.{board_vector_graph}
-use Rattle.sgb_gen.specs.Moves.{opposite}
+use Rattle.sgb_moves.specs.Moves.{opposite}
 use Rattle.sgb_gen.specs.VectorGraphs.{described_by}
 use Rattle.sgb_gen.specs.inner.StraightLists.{arcs_by_all}
 use Rattle.sgb_gen.proofs.InsideRows.{runs_of}

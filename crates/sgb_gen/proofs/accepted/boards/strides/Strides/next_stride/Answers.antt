@@ -2,7 +2,7 @@ use Rattle.std.proofs.Common.{rules, Bool, true, false, ℤ, List, All, Some, sl
 use Rattle.std.specs.Bool.{OnTrue}
 use Rattle.sgb_gen.specs.LocalLists.{LocalArc}
 use Rattle.sgb_gen.specs.Strides.{lengths_of_stride, tips_of_stride}
-use Rattle.sgb_gen.specs.inner.MovedCoordinates.{StayAtOne}
+use Rattle.sgb_moves.specs.inner.MovedCoordinates.{StayAtOne}
 use Rattle.sgb_gen.specs.inner.StraightLists.{IsRun, arcs_by_all}
 use Rattle.sgb_gen.specs.inner.Strides.{LeadsByStride}
 use Rattle.sgb_gen.proofs.RunsOfLists.{at_has, width_in_table}

@@ -1,5 +1,0 @@
-use Rattle.sgb_gen.proofs.BoundedMoves.{AreBoundsSoFar}
-use Rattle.sgb_gen.proofs.moves.entry_bounds.Given as goal
-
-abbrev pub invariant-loop-k : goal.invariant-loop-k
-invariant-loop-k l = AreBoundsSoFar l.piece l.sizes l.wrap l.k l.bounds.items

@@ -1,0 +1,20 @@
+//! How a piece moves on a board: its displacements, where it moves by one of them, and starts of moves. The library is for
+//! sgb_gen.
+#![tactic(auto)]
+
+// A walk over the displacements of a piece.
+mod displacements;
+// Where a piece moves on a board.
+mod moves;
+// Ranges of the starts of moves.
+mod start_ranges;
+// Starts of moves in a range, and their order.
+mod starts;
+// Displacements with the coordinates that they move.
+mod steps;
+
+pub use displacements::{Displacement, Displacements, EntrySizes, first_entry, is_no_sum, is_out_of_reach, least_tried, put_opposite, put_positive, zeros};
+pub use moves::{destination, entry_bounds, first_off_board, is_inside, leads_onward, near_bounds, part_at, put_parts, put_vector, reach, reach_from, steps_on, times_within, wraps};
+pub use start_ranges::StartRange;
+pub use starts::Starts;
+pub use steps::{Part, Parts, Step, either, put_parts_of};

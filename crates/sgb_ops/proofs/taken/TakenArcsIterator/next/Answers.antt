@@ -1,7 +1,0 @@
-use Rattle.std.proofs.Common.{rules}
-use Rattle.sgb_ops.specs.inner.TakenArcs.{taken_after}
-use Rattle.sgb_ops.proofs.Taking.{none_taken}
-use Rattle.sgb_ops.proofs.taken.TakenArcsIterator.next.Goals as goal
-
-pub returns-clause-steps : goal.returns-clause-steps
-returns-clause-steps c = search (rules, none_taken, taken_after)
