@@ -848,9 +848,10 @@ def main():
 
 
 def measure(crate, known, args):
+    below = [name for one in (crate, *args.above) for name in known[one] if name not in (crate, *args.above)]
     universe = Universe([crate, *args.above], args.others)
     modules = [module for module in universe.modules.values() if not isinstance(module, Declared)]
-    for name in known[crate]:
+    for name in dict.fromkeys(below):
         for path in glob.glob(f"crates/{name}/specs/**/*.antt", recursive=True):
             module = os.path.relpath(path, f"crates/{name}/specs").removesuffix(".antt").replace("/", ".")
             if module != "Lib" and not path.endswith("inner.antt"):
@@ -879,7 +880,7 @@ def measure(crate, known, args):
     verdicts = []
     for start in range(0, len(turns), args.batch):
         part = turns[start:start + args.batch]
-        verdicts += check([name for name in dict.fromkeys([crate, *args.above, *known[crate]]) if name in known], part, universe, args.jobs, crate, args.seconds)
+        verdicts += check([name for name in dict.fromkeys([crate, *args.above, *below]) if name in known], part, universe, args.jobs, crate, args.seconds)
         print(f"{crate}: {min(start + args.batch, len(turns))} of {len(turns)}", file=sys.stderr, flush=True)
     return report(crate, definitions, laws, verdicts, args)
 
