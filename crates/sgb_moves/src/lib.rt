@@ -13,8 +13,14 @@ mod starts;
 // Displacements with the coordinates that they move.
 mod steps;
 
-pub use displacements::{Displacement, Displacements, EntrySizes, first_entry, is_no_sum, is_out_of_reach, least_tried, put_opposite, put_positive, zeros};
-pub use moves::{destination, entry_bounds, first_off_board, is_inside, leads_onward, near_bounds, part_at, put_parts, put_vector, reach, reach_from, steps_on, times_within, wraps};
+pub use displacements::{
+    Displacement, Displacements, EntrySizes, first_entry, is_no_sum, is_out_of_reach, least_tried,
+    put_opposite, put_positive, zeros,
+};
+pub use moves::{
+    destination, entry_bounds, first_off_board, is_inside, leads_onward, near_bounds, part_at,
+    put_parts, put_vector, reach, reach_from, steps_on, times_within, wraps,
+};
 pub use start_ranges::StartRange;
 pub use starts::Starts;
 pub use steps::{Part, Parts, Step, either, put_parts_of};

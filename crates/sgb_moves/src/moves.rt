@@ -115,14 +115,7 @@ pub fn reach(sizes: &[u32], wrap: i64, x: &[u32], parts: &[Part], most: u32) -> 
 }
 
 /// What `reach` answers, where `near` tells that the steps of length 1 lead to a place: it is then not looked at once more.
-pub fn reach_from(
-    near: bool,
-    sizes: &[u32],
-    wrap: i64,
-    x: &[u32],
-    parts: &[Part],
-    most: u32,
-) -> u32
+pub fn reach_from(near: bool, sizes: &[u32], wrap: i64, x: &[u32], parts: &[Part], most: u32) -> u32
     requires below { IsBelow x.now sizes.now }
     requires parts { All (λ p. p.0 < length sizes.now) parts.now }
     requires near { OnTrue near (parts_stay sizes.now wrap x.now 1 parts.now ≡ true) }
@@ -152,14 +145,7 @@ pub fn is_inside(sizes: &[u32], x: &[u32], room: u32) -> bool
 }
 
 /// Where coordinate number `k` leads at length `l` from `x`, if it does, where it moves so far for each unit of length.
-pub fn part_at(
-    sizes: &[u32],
-    wrap: i64,
-    x: &[u32],
-    l: u32,
-    k: usize,
-    amount: i32,
-) -> Option<u32>
+pub fn part_at(sizes: &[u32], wrap: i64, x: &[u32], l: u32, k: usize, amount: i32) -> Option<u32>
     requires below { IsBelow x.now sizes.now }
     requires within { k < length sizes.now }
     ensures { result ≡ part_at sizes.now wrap x.now l (k, amount) }
@@ -168,14 +154,7 @@ pub fn part_at(
 }
 
 /// Puts these coordinates where they lead at length `l` from `x` into their places of `there`.
-pub fn put_parts(
-    sizes: &[u32],
-    wrap: i64,
-    x: &[u32],
-    parts: &[Part],
-    l: u32,
-    there: &mut [u32],
-)
+pub fn put_parts(sizes: &[u32], wrap: i64, x: &[u32], parts: &[Part], l: u32, there: &mut [u32])
     requires below { IsBelow x.now sizes.now }
     requires parts { All (λ p. p.0 < length sizes.now) parts.now }
     requires there { length there.old ≡ length sizes.now }
@@ -325,13 +304,7 @@ fn near_bound(up: bool, size: u32, wraps: bool, piece: u32, x: u32) -> u32
 
 /// The greatest entries of the displacements by which a piece can move from `x` (GB_BASIC, board), or to it, too, where `onward`
 /// does not tell that it moves from `x` alone: the first entry other than 0 is then positive, and those before it are 0.
-pub fn near_bounds(
-    onward: bool,
-    sizes: &[u32],
-    wrap: i64,
-    piece: u32,
-    x: &[u32],
-) -> EntrySizes
+pub fn near_bounds(onward: bool, sizes: &[u32], wrap: i64, piece: u32, x: &[u32]) -> EntrySizes
     requires few { length sizes.now ≤ most_dimensions }
     requires below { IsBelow x.now sizes.now }
     ensures { result.items ≡ near_bounds onward piece (sides_of sizes.now wrap) x.now }

@@ -22,7 +22,9 @@ ghost use Rattle.sgb_gen.specs.inner.StraightLists.{IsInOrder, NeedsNoSort, arcs
 use super::Board;
 use crate::arc_sinks::ArcSink;
 use crate::displacement_tables::DisplacementTable;
-use sgb_moves::{Displacement, Parts, Starts, Step, put_opposite, put_parts, put_parts_of, put_vector};
+use sgb_moves::{
+    Displacement, Parts, Starts, Step, put_opposite, put_parts, put_parts_of, put_vector,
+};
 use sgb_vec::{Family, Vector};
 
 impl Board {
