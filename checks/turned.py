@@ -87,7 +87,7 @@ ALIKE = {
     ("sgb_ops.Intersection.intersection_events", "intersection_events 1: max for min in `v)) (range_with_len 0 (min (order_of g) (order_of`"): "past the last vertex the list is empty",
     ("sgb_ops.Merged.merged", "merged 2: e and f exchanged after has_ends_of"): "it has no order",
     ("sgb_ops.Merged.IsShortest", "one 1: e and f exchanged after has_ends_of"): "it has no order",
-    ("sgb_ops.Taken.each_edge_once", "each_edge_once 2: reversed"): "it has one entry or none",
+    ("sgb_taken.Taken.each_edge_once", "each_edge_once 2: reversed"): "it has one entry or none",
     ("sgb_ops.Wheel.accepted_rim", "accepted_rim 1: 0 for 1 in `dle. board (line n (pos 1) (pos 1) directed))`"): "piece 0 is piece 1",
     ("sgb_ops.Wheel.wheel_of", "wheel_of 1: 0 for 1 in `hen (board (line n (pos 1) (pos 1) directed)) (λ`"): "piece 0 is piece 1",
     ("sgb_values.FirstRefusals.AreNumbersRefused", "AreNumbersRefused 1: n1 and n2 exchanged after accepted_parts"): "it is refused the same in either order",
