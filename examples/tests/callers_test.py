@@ -83,6 +83,10 @@ def rust(folder):
     status, out, err = run("cargo", "build", "--offline", "--example", "listing", "--manifest-path", manifest, **more)
     must(status == 0, "cargo build gave", status, out, err)
     same(os.path.join(target, "debug/examples/listing"), SGB, ("list",))
+    # a folder without the library is told of, with what to do
+    status, _, err = run("cargo", "build", "--offline", "--manifest-path", manifest, **dict(more, SGB_LIB=target))
+    told = f"libsgb.a is not in {os.path.realpath(target)}\n".encode()
+    must(status != 0 and told in err and b"`make lib`" in err and b"SGB_LIB" in err, "without the library cargo build gave", status, err)
 
 
 def python():

@@ -23,6 +23,8 @@ pub const ANSWERS: [(u64, &str); 16] = [
 
 /// What a bad expression is answered with: this and the length of its longest prefix that begins one.
 const BAD_EXPRESSION: u64 = 1000;
+/// What a vertex that is not there is answered with.
+const NO_VERTEX: u64 = 106;
 
 /// Why there is no answer.
 #[derive(Clone, Copy, Debug, PartialEq, Eq)]
@@ -34,6 +36,8 @@ pub enum Error {
     Code(u64),
     /// Arcs that were to be edges: none leads back from this one.
     Unpaired(Arc),
+    /// An edge of those that were given, by its place among them from 0 on, has an end that is no vertex.
+    NoEnd(usize, Arc),
 }
 
 impl Error {
@@ -43,6 +47,7 @@ impl Error {
             Error::Expression(byte) => Some(BAD_EXPRESSION + byte),
             Error::Code(code) => Some(*code),
             Error::Unpaired(_) => None,
+            Error::NoEnd(..) => Some(NO_VERTEX),
         }
     }
 
@@ -51,6 +56,7 @@ impl Error {
         match self {
             Error::Expression(_) => "bad expression",
             Error::Unpaired(_) => "no arc leads back",
+            Error::NoEnd(..) => Error::Code(NO_VERTEX).words(),
             Error::Code(code) => {
                 ANSWERS.iter().find(|(number, _)| number == code).map_or("something went wrong", |(_, words)| words)
             }
@@ -63,6 +69,9 @@ impl std::fmt::Display for Error {
         match self {
             Error::Expression(byte) => write!(f, "bad expression at byte {byte}"),
             Error::Code(code) => write!(f, "{} (code {code})", self.words()),
+            Error::NoEnd(place, Arc { v, tip, .. }) => {
+                write!(f, "edge {place} of those given, from vertex {v} to vertex {tip}: {} (code {NO_VERTEX})", self.words())
+            }
             Error::Unpaired(Arc { v, tip, length }) => {
                 write!(f, "the arc from vertex {v} to vertex {tip}, length {length}, is no edge, since none leads back")
             }

@@ -57,7 +57,16 @@ pub enum Field {
 /// A graph that is open. What its vertices have is asked for a run at a time: so many vertices, one after another
 /// from a first one on. Where these are not all there, the answer is `Error::Code(106)`.
 ///
-/// Two graphs are equal where they have one official name.
+/// Graphs have no `==`. Different ones may have one official name: that of an induced graph has no entries, and a long one
+/// is cut. So what is meant is compared: `file()`, in which all of a graph stands, or its lists, `all()`, or `all_names()`.
+///
+/// ```
+/// let all = sgb::Graph::new("complete(4)", b"")?;
+/// let (few, many) = (all.induced(&[1.into(); 4], false, false, false)?, all.induced(&[2.into(); 4], false, false, false)?);
+/// assert_eq!((few.id(), few.n(), many.n()), (many.id(), 4, 8));
+/// assert_ne!(few.all()?, many.all()?);
+/// # Ok::<(), sgb::Error>(())
+/// ```
 #[derive(Debug)]
 pub struct Graph {
     held: Held,
@@ -227,11 +236,3 @@ impl Graph {
         Ok(text)
     }
 }
-
-impl PartialEq for Graph {
-    fn eq(&self, other: &Graph) -> bool {
-        self.id == other.id
-    }
-}
-
-impl Eq for Graph {}

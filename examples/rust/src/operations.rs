@@ -57,7 +57,8 @@ impl Graph {
     }
 
     /// The graph of n vertices, whose names are their numbers, with these edges, or arcs where it is directed: each list
-    /// has its arcs in the order in which they are given.
+    /// has its arcs in the order in which they are given. It is `Error::NoEnd` of the first edge that has an end which is no
+    /// vertex.
     ///
     /// ```
     /// use sgb::{Arc, Graph};
@@ -67,6 +68,9 @@ impl Graph {
     /// # Ok::<(), sgb::Error>(())
     /// ```
     pub fn from_edges(n: u32, edges: &[Arc], directed: bool, id: &str) -> Result<Graph, Error> {
+        if let Some(place) = edges.iter().position(|edge| edge.v.max(edge.tip) >= n) {
+            return Err(Error::NoEnd(place, edges[place]));
+        }
         let names: Vec<String> = (0..n).map(|v| v.to_string()).collect();
         let from: Vec<u32> = edges.iter().rev().map(|edge| edge.v).collect();
         let to: Vec<u32> = edges.iter().rev().map(|edge| edge.tip).collect();

@@ -1,6 +1,6 @@
 use std::collections::HashMap;
 
-use sgb::{draws, uniform_draws, version, Arc, Entry, Error, Field, Graph, Product, ANSWERS};
+use sgb::{draws, uniform_draws, version, Arc, Entry, Error, Field, Graph, Product, Rows, ANSWERS};
 
 const FILE: &[u8] = b"* GraphBase graph (util_types ZZZZZZZZZZZZZZ,2V,2A)\n\"two\",2,2\n* Vertices\n\"left\",A0\n\"right\",A1\n\
                       * Arcs\nV1,0,7\nV0,0,-3\n* Checksum -1\n";
@@ -191,10 +191,26 @@ fn an_edge_is_two_arcs() {
     assert_eq!(Error::Unpaired(alone).to_string(), said);
 }
 
+/// Whether a type has `==`: what it says by itself comes before what every type says.
+struct Compared<T>(std::marker::PhantomData<T>);
+
+trait NotCompared {
+    const IS: bool = false;
+}
+
+impl<T> NotCompared for Compared<T> {}
+
+impl<T: PartialEq> Compared<T> {
+    const IS: bool = true;
+}
+
 #[test]
-fn graphs_of_one_official_name_are_equal() {
-    assert_eq!(graph("petersen()"), graph("subsets(2,1,-4,0,0,0,1,0)"));
-    assert_ne!(graph("complete(3)"), graph("complete(4)"));
+fn graphs_are_compared_by_what_they_have() {
+    assert_eq!((Compared::<Rows>::IS, Compared::<Graph>::IS), (true, false));
+    let one = |length| Graph::from_edges(2, &[Arc { v: 0, tip: 1, length }], false, "one").unwrap();
+    assert_eq!((one(1).id(), one(1).all(), one(1).file()), ("one", one(1).all(), one(1).file()));
+    assert!(one(2).id() == "one" && one(2).all() != one(1).all() && one(2).file() != one(1).file());
+    assert_eq!(graph("petersen()").file(), graph("subsets(2,1,-4,0,0,0,1,0)").file());
 }
 
 #[test]
@@ -297,6 +313,16 @@ fn a_graph_is_made_of_its_arcs() {
     assert_eq!(refused(&[0], "a", "\n"), Some(Error::Code(107)));
     assert_eq!(refused(&[0, 0], "a", "x"), Some(Error::Code(101)));
     assert_eq!(Graph::make::<&str>(&[], &[], &[], &[], false, "").unwrap().n(), 0);
+}
+
+#[test]
+fn an_edge_that_cannot_be_is_told() {
+    let edges = [(1, 0), (2, 3), (7, 1), (3, 2)].map(|(v, tip)| Arc { v, tip, length: 5 });
+    let told = |n| Graph::from_edges(n, &edges, false, "own").unwrap_err();
+    assert_eq!((told(4), told(3), told(0)), (Error::NoEnd(2, edges[2]), Error::NoEnd(1, edges[1]), Error::NoEnd(0, edges[0])));
+    let said = "edge 2 of those given, from vertex 7 to vertex 1: there are not so many vertices (code 106)";
+    assert_eq!((told(4).to_string().as_str(), told(4).code(), told(4).words()), (said, Some(106), Error::Code(106).words()));
+    assert_eq!(Graph::from_edges(8, &edges, false, "own").unwrap().m(), Ok(8));
 }
 
 #[test]
