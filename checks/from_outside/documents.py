@@ -1,11 +1,23 @@
-"""What the documents say: their commands, the manual page, the version."""
+"""What the documents say: their commands, the manual page, the version.
+
+The commands of a page are given where it says, at the top of a repository: in a copy of this one as git has it, with the
+programs and libraries that a build leaves there. Where root makes the checks, the user `nobody` gives the commands, who has
+no right to any other folder; a script in the place of the program has to be one that `nobody` can run.
+"""
 
 import os
+import pwd
 import re
 import shutil
 import subprocess
 
 from .runs import PROGRAM, SECONDS, TOP, DidNotEnd
+
+# what a build leaves at the top, and where that is
+BUILT = {name: name for name in ("libgb.a", "libsgb.a", "libsgb.so", "libsgb.so.1")}
+BUILT.update(sgb=PROGRAM, sgb_levels="crates/sgb_levels/out/sgb_levels")
+# the tools of a command without which it is left out
+TOOL = re.compile(r"(?:^|[|&;]) *(bash|c[+][+]|cargo|dot)(?= |$)")
 
 
 def commands(path):
@@ -26,31 +38,81 @@ def commands(path):
     return [(command, "\n".join(block).rstrip("\n").split("\n") if any(block) else []) for command, block in found]
 
 
+def repository():
+    """The files of this repository: what git has, or where it has none of this folder, what no build left; of the crates, in
+    which no page has a command, their pages alone."""
+    listed = subprocess.run(["git", "ls-files", "-z"], cwd=TOP, capture_output=True, check=False).stdout.decode()
+    found = [name for name in listed.split("\0") if name and os.path.lexists(os.path.join(TOP, name))]
+    if not found:
+        for folder, folders, names in os.walk(TOP):
+            folders[:] = [name for name in folders if name not in ("out", "dist", "target", "__pycache__", ".git")]
+            found += [os.path.relpath(os.path.join(folder, name), TOP) for name in names]
+    return [name for name in found if not name.startswith("crates/") or name.endswith(".md")]
+
+
+def somebody():
+    """Who gives the commands, in words of subprocess: `nobody`, where this is root, and else whoever this is."""
+    if os.geteuid() != 0:
+        return {}
+    found = {"user": "nobody", "group": pwd.getpwnam("nobody").pw_gid, "extra_groups": []}
+    try:
+        subprocess.run(["true"], check=True, **found)
+    except OSError:
+        print("  skipped, since root may not be `nobody` here: commands of pages by somebody without rights")
+        return {}
+    return found
+
+
 class Shell:
-    """A folder with the program as sgb, the examples and the library for C, in which commands are run."""
+    """The top of a repository, in which commands are run: its files, with the programs and the library for C."""
 
     def __init__(self, runs, name):
-        self.folder = os.path.join(runs.folder, name)
-        os.mkdir(self.folder)
-        os.symlink(PROGRAM, os.path.join(self.folder, "sgb"))
-        os.symlink(os.path.join(TOP, "crates/sgb_levels/out/sgb_levels"), os.path.join(self.folder, "sgb_levels"))
-        for there in ("conformance", "examples", "include", "python", "libgb.a", "libsgb.a", "libsgb.so", "libsgb.so.1"):
-            os.symlink(os.path.join(TOP, there), os.path.join(self.folder, there))
+        self.folder, self.owner = os.path.join(runs.folder, name), somebody()
+        for there in repository():
+            self.lay(os.path.join(TOP, there), there)
+        for there, path in BUILT.items():
+            if os.path.exists(os.path.join(TOP, path)):
+                self.lay(os.path.realpath(os.path.join(TOP, path)), there)
         self.environment = dict(os.environ, PATH=self.folder + os.pathsep + os.environ.get("PATH", os.defpath))
+        if self.owner:
+            os.chmod(runs.folder, 0o711)
+            subprocess.run(["chown", "-R", self.owner["user"], self.folder], check=True)
 
-    def run(self, command):
+    def lay(self, path, there):
+        there = os.path.join(self.folder, there)
+        os.makedirs(os.path.dirname(there), exist_ok=True)
+        shutil.copy(path, there, follow_symlinks=False)
+
+    def run(self, command, owner=None):
         shell = "bash" if "<(" in command else "sh"
+        owner = self.owner if owner is None else owner
+        home = {"HOME": self.folder} if owner else {}
         try:
             got = subprocess.run(
-                [shell, "-c", command], cwd=self.folder, env=self.environment, stdin=subprocess.DEVNULL,
-                capture_output=True, timeout=SECONDS,
+                [shell, "-c", command], cwd=self.folder, env={**self.environment, **home}, stdin=subprocess.DEVNULL,
+                capture_output=True, timeout=SECONDS, **owner,
             )
         except subprocess.TimeoutExpired:
             raise DidNotEnd(f"$ {command} did not end") from None
         return got.returncode, got.stdout, got.stderr
 
-    def file(self, name):
-        return os.path.join(self.folder, name)
+    def owner_of(self, command):
+        """Who has the tools of the command, `nobody` or else whoever this is; or None, and a line says so."""
+        tools = set(TOOL.findall(command)) | ({"bash"} if "<(" in command else set())
+        for owner in (self.owner, {}):
+            if all(self.run(f"command -v {tool}", owner)[0] == 0 for tool in tools):
+                if owner != self.owner:
+                    print(f"  not by {self.owner['user']}, who has no {' and '.join(sorted(tools))}: {command}")
+                return owner
+        print(f"  skipped, without {' and '.join(sorted(tools))}: {command}")
+        return None
+
+    def write(self, name, lines):
+        """A file that is written by hand, as a page shows it."""
+        path = os.path.join(self.folder, name)
+        with open(path, "w", encoding="utf-8") as file:
+            file.write("".join(line + "\n" for line in lines))
+        os.chmod(path, 0o644)
 
 
 def document(path, wanted, left_out=()):
@@ -61,20 +123,17 @@ def document(path, wanted, left_out=()):
         tally.check(len(found) >= wanted, path, "has only so many commands:", len(found))
         for command, lines in found:
             name = re.fullmatch("cat ([A-Za-z]+[.](gb|c|cpp|py|rs|toml))", command)
-            if name and not os.path.exists(shell.file(name[1])):
-                # a file that is written by hand, as it is shown
-                with open(shell.file(name[1]), "w", encoding="utf-8") as file:
-                    file.write("".join(line + "\n" for line in lines))
+            if name and not os.path.exists(os.path.join(shell.folder, name[1])):
+                shell.write(name[1], lines)
             if any(word in command for word in left_out):
                 print(f"  skipped: {command}")
                 continue
-            needed = "bash" if "<(" in command else command.split()[0]
-            if needed in ("bash", "c++", "cargo") and not shutil.which(needed):
-                print(f"  skipped, without {needed}: {command}")
+            owner = shell.owner_of(command)
+            if owner is None:
                 continue
             is_cut = lines[-1:] == [".."]
             text = "".join(line + "\n" for line in (lines[:-1] if is_cut else lines)).encode()
-            status, out, err = shell.run(command)
+            status, out, err = shell.run(command, owner)
             is_right = out.startswith(text) and len(out) > len(text) if is_cut else out == text
             tally.check(status == 0 and not err and is_right, "$", command, "gave", (status, out, err), "and not", text)
 
@@ -90,10 +149,10 @@ def manual(runs, tally):
     tally.check(len(found) >= 6, "the manual page has only so many examples:", len(found))
     for command in found:
         command = command.replace(r"\(dq", '"').replace(r"\-", "-")
-        if "| dot " in command and not shutil.which("dot"):
-            print(f"  skipped, without dot: {command}")
+        owner = shell.owner_of(command)
+        if owner is None:
             continue
-        status, out, err = shell.run(command)
+        status, out, err = shell.run(command, owner)
         tally.check(status == 0 and not err, "$", command, "gave", (status, out, err))
     if shutil.which("mandoc"):
         linter = ["mandoc", "-T", "lint", "-W", "warning", page]
