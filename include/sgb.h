@@ -55,6 +55,9 @@
 #include <stddef.h>
 #include <stdint.h>
 
+#if !defined __cplusplus && (!defined __STDC_VERSION__ || __STDC_VERSION__ < 199901L)
+#error "sgb.h needs C99"
+#endif
 #if SIZE_MAX != UINT64_MAX
 #error "sgb.h: the library is for machines whose size_t has 64 bits"
 #endif

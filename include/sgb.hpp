@@ -247,14 +247,17 @@ private:
     detail::array<char> bytes_;
 };
 
-class chunk_list;
+template <class Lists> class chunks_of;
+using chunk_list = chunks_of<arc_lists>;
+using tip_chunk_list = chunks_of<tip_lists>;
 class entry;
 
 // the products of GB_BASIC: a step in one of two graphs, in both, in one or both
 enum class product_kind : std::int64_t { cartesian = 0, direct = 1, strong = 2 };
 
-// A graph that is open. It may be moved, and is not copied. It is used by one call at a time; what its calls return is
-// the caller's, stays when it is closed, and may be read by many.
+// A graph that is open. It may be moved, and is not copied. It is used by one call at a time, also where it is const, which
+// says that it is neither closed nor moved; what its calls return is the caller's, stays when it is closed, and may be read
+// by many.
 //
 // A generator's graph is not built, so that one of 10^9 vertices is open at once, and is had in runs: `first` and
 // `count` are those of sgb.h. Without them a call is of all vertices.
@@ -278,44 +281,46 @@ public:
     const std::string &id() const { return id_; }
 
     // the number of arcs that the graph counts; 2^64 - 1 also where there are more
-    std::uint64_t m() {
+    std::uint64_t m() const {
         std::uint64_t arcs = 0;
         must(sgb_arcs(held(), &arcs));
         return arcs;
     }
 
     // the lists of a run
-    arc_lists rows(std::uint32_t first, std::uint32_t count) {
+    arc_lists rows(std::uint32_t first, std::uint32_t count) const {
         arc_lists made(first, count, arcs_in(first, count));
         must(sgb_rows(held(), first, count, made.starts_.data(), made.starts_.size(), made.tips_.data(), made.tips_.size(),
                       made.lengths_.data(), made.lengths_.size()));
         return made;
     }
-    arc_lists rows() { return rows(0, n()); }
+    arc_lists rows() const { return rows(0, n()); }
 
     // the same without lengths
-    tip_lists tips(std::uint32_t first, std::uint32_t count) {
+    tip_lists tips(std::uint32_t first, std::uint32_t count) const {
         tip_lists made(first, count, arcs_in(first, count));
         must(sgb_tips(held(), first, count, made.starts_.data(), made.starts_.size(), made.tips_.data(), made.tips_.size()));
         return made;
     }
-    tip_lists tips() { return tips(0, n()); }
+    tip_lists tips() const { return tips(0, n()); }
 
     // the names of a run
-    name_list names(std::uint32_t first, std::uint32_t count) {
+    name_list names(std::uint32_t first, std::uint32_t count) const {
         std::uint64_t size = 0;
         must(sgb_names_size(held(), first, count, &size));
         name_list made(first, count, size);
         must(sgb_names(held(), first, count, made.starts_.data(), made.starts_.size(), made.bytes_.data(), made.bytes_.size()));
         return made;
     }
-    name_list names() { return names(0, n()); }
+    name_list names() const { return names(0, n()); }
 
     // the lists of all vertices, `size` vertices at a time: for (const auto &part : g.chunks(10000)) ...
-    chunk_list chunks(std::uint32_t size);
+    chunk_list chunks(std::uint32_t size) const;
+    // the same without lengths
+    tip_chunk_list tip_chunks(std::uint32_t size) const;
 
     // the integers of a run in a utility field of the vertices: u v w x y z are 0 to 5
-    std::vector<std::int64_t> ints(std::uint32_t field, std::uint32_t first, std::uint32_t count) {
+    std::vector<std::int64_t> ints(std::uint32_t field, std::uint32_t first, std::uint32_t count) const {
         if (first > n() || count > n() - first) throw error(handle_ ? SGB_NO_VERTEX : SGB_NOT_OPEN);
         // one place more than is handed over, so that there is always an address
         std::vector<std::int64_t> values(std::size_t{count} + 1);
@@ -323,10 +328,10 @@ public:
         values.pop_back();
         return values;
     }
-    std::vector<std::int64_t> ints(std::uint32_t field) { return ints(field, 0, n()); }
+    std::vector<std::int64_t> ints(std::uint32_t field) const { return ints(field, 0, n()); }
 
     // what the utility fields hold, a letter each: of vertices u v w x y z, of arcs a b, of the graph uu vv ww xx yy zz
-    std::string kinds() {
+    std::string kinds() const {
         std::string letters(14, ' ');
         must(sgb_kinds(held(), letters.data(), letters.size()));
         return letters;
@@ -342,7 +347,7 @@ public:
     }
 
     // the `.gb` file of the graph
-    std::string file() {
+    std::string file() const {
         std::uint64_t size = 0;
         must(sgb_file_size(held(), &size));
         std::string bytes(size, ' ');
@@ -384,7 +389,7 @@ private:
         return handle_.get();
     }
 
-    std::uint64_t arcs_in(std::uint32_t first, std::uint32_t count) {
+    std::uint64_t arcs_in(std::uint32_t first, std::uint32_t count) const {
         std::uint64_t arcs = 0;
         must(sgb_rows_size(held(), first, count, &arcs));
         return arcs;
@@ -398,16 +403,16 @@ private:
 
 // The lists of all vertices of a graph, so many vertices at a time: each is made when it is come to, and the last one
 // may be shorter. It is gone through once, while its graph is open.
-class chunk_list {
+template <class Lists> class chunks_of {
 public:
     class iterator {
     public:
-        using value_type = arc_lists;
+        using value_type = Lists;
         using difference_type = std::ptrdiff_t;
         using iterator_concept = std::input_iterator_tag;
 
-        const arc_lists &operator*() const { return part_; }
-        const arc_lists *operator->() const { return &part_; }
+        const Lists &operator*() const { return part_; }
+        const Lists *operator->() const { return &part_; }
         iterator &operator++() {
             make(part_.first() + part_.count());
             return *this;
@@ -416,26 +421,31 @@ public:
         friend bool operator==(const iterator &at, std::default_sentinel_t) { return at.part_.count() == 0; }
 
     private:
-        friend class chunk_list;
-        iterator(graph *of, std::uint32_t size) : of_(of), size_(size) { make(0); }
-        void make(std::uint32_t first) { part_ = of_->rows(first, std::min(size_, of_->n() - first)); }
-        graph *of_;
+        friend class chunks_of;
+        iterator(const graph *of, std::uint32_t size) : of_(of), size_(size) { make(0); }
+        void make(std::uint32_t first) {
+            const std::uint32_t count = std::min(size_, of_->n() - first);
+            if constexpr (std::is_same_v<Lists, arc_lists>) part_ = of_->rows(first, count);
+            else part_ = of_->tips(first, count);
+        }
+        const graph *of_;
         std::uint32_t size_;
-        arc_lists part_;
+        Lists part_;
     };
     iterator begin() const { return {of_, size_}; }
     std::default_sentinel_t end() const { return {}; }
 
 private:
     friend class graph;
-    chunk_list(graph *of, std::uint32_t size) : of_(of), size_(size) {
+    chunks_of(const graph *of, std::uint32_t size) : of_(of), size_(size) {
         if (size == 0) throw std::invalid_argument("sgb: chunks of no vertices");
     }
-    graph *of_;
+    const graph *of_;
     std::uint32_t size_;
 };
 
-inline chunk_list graph::chunks(std::uint32_t size) { return {this, size}; }
+inline chunk_list graph::chunks(std::uint32_t size) const { return {this, size}; }
+inline tip_chunk_list graph::tip_chunks(std::uint32_t size) const { return {this, size}; }
 
 inline graph graph::make(std::span<const std::string> names, std::span<const std::uint32_t> from, std::span<const std::uint32_t> to,
                          std::span<const std::int64_t> lengths, bool directed, std::string_view id) {
@@ -559,6 +569,24 @@ inline std::vector<std::string> numbers(std::uint32_t n) {
 // a string of a `.gb` file
 inline std::string quoted(std::string_view text) { return '"' + std::string(text) + '"'; }
 
+// Puts a record of these fields into a `.gb` file, whose lines have at most 79 bytes: a field that does not fit begins the
+// next line, and goes on over as many as it wants, which end with a backslash.
+inline void put_record(std::string &file, std::initializer_list<std::string> fields) {
+    constexpr std::size_t most = 79;
+    std::size_t used = 0, after = fields.size();
+    for (std::string field : fields) {
+        if (--after > 0) field += ',';
+        std::string_view left = field;
+        if (used + left.size() > most) {
+            if (used > 0) file += '\n';
+            for (used = 0; left.size() > most; left.remove_prefix(most - 1)) file.append(left.substr(0, most - 1)).append("\\\n");
+        }
+        file += left;
+        used += left.size();
+    }
+    file += '\n';
+}
+
 } // namespace detail
 
 // The `.gb` file of the graph of these edges, or arcs where it is directed, which the expression `stdin` stands for:
@@ -590,12 +618,13 @@ inline std::string file_of_edges(std::uint32_t n, std::span<const edge> edges, b
     }
     const auto arc = [&](std::uint64_t k) { return k == none ? std::string("0") : "A" + std::to_string(k); };
     std::string file = "* GraphBase graph (util_types ZZZZZZZZZZZZZZ," + std::to_string(n) + "V," + std::to_string(records.size()) + "A)\n";
-    file += detail::quoted(id) + "," + std::to_string(n) + "," + std::to_string(records.size()) + "\n* Vertices\n";
+    detail::put_record(file, {detail::quoted(id), std::to_string(n), std::to_string(records.size())});
+    file += "* Vertices\n";
     for (std::uint32_t v = 0; v < n; v++)
-        file += detail::quoted(names.empty() ? std::to_string(v) : names[v]) + "," + arc(firsts[v]) + "\n";
+        detail::put_record(file, {detail::quoted(names.empty() ? std::to_string(v) : names[v]), arc(firsts[v])});
     file += "* Arcs\n";
     for (const record &one : records)
-        file += "V" + std::to_string(one.tip) + "," + arc(one.next) + "," + std::to_string(one.length) + "\n";
+        detail::put_record(file, {"V" + std::to_string(one.tip), arc(one.next), std::to_string(one.length)});
     return file + "* Checksum -1\n";
 }
 

@@ -409,10 +409,13 @@ def exports(runs, tally):
 
 
 def headers(runs, tally):
-    """The headers are C99 and C++, refuse machines of 32 bits and older C++, and are of the version that is installed."""
+    """The headers are C99 and C++, refuse machines of 32 bits, older C and C++, and are of the version that is installed."""
     folder = os.path.join(TOP, "include")
     syntax = ("-pedantic", "-Wall", "-Wextra", "-Werror", "-fsyntax-only")
     tally.same("sgb.h in C99", ran("cc", "-std=c99", *syntax, "-x", "c", folder + "/sgb.h"), (0, b"", b""))
+    for older in "-std=gnu89", "-std=c89":
+        status, _, err = ran("cc", older, "-fsyntax-only", "-x", "c", folder + "/sgb.h")
+        tally.check(status != 0 and b"sgb.h needs C99" in err, "sgb.h by", older, "gave", (status, err))
     if os.uname().machine == "x86_64":
         status, _, err = ran("cc", "-m32", "-ffreestanding", *syntax, "-x", "c", folder + "/sgb.h")
         tally.check(status != 0 and b"size_t has 64 bits" in err, "sgb.h of 32 bits gave", (status, err))

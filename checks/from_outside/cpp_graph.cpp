@@ -41,8 +41,18 @@ template <class F> static bool is_no_vertex(F call) {
     return false;
 }
 
+template <class F> static bool is_refused(F call) {
+    try {
+        call();
+    } catch (const std::invalid_argument &) {
+        return true;
+    }
+    return false;
+}
+
 static void runs() {
-    sgb::graph graph("board(3,4,0,0,1,0,0)");
+    const sgb::graph graph("board(3,4,0,0,1,0,0)");
+    check(graph.m() == 34 && graph.kinds() == "ZZZIIIZZZZZZZZ" && graph.ints(3).size() == 12, "what a const graph has");
     const auto whole = graph.rows();
     const auto names = graph.names();
     for (std::uint32_t first = 0; first <= 12; first++)
@@ -100,26 +110,29 @@ static void iterators() {
     check(std::ranges::equal(some, std::vector<std::string_view>{"1.0", "1.1", "1.2"}), "the names that a run goes through");
 }
 
+// that these chunks of a board of 3 by 4 are its lists, so many vertices at a time
+template <class Chunks> static void all_of(const Chunks &chunks, const sgb::arc_lists &whole, std::uint32_t size) {
+    std::uint32_t next = 0;
+    for (const auto &part : chunks) {
+        check(part.first() == next && part.count() == std::min(size, 12 - next), "the vertices of a chunk");
+        for (std::uint32_t v = next; v < next + part.count(); v++) {
+            check(std::ranges::equal(part.tips(v), whole.tips(v)), "the lists of a chunk");
+            if constexpr (std::is_same_v<Chunks, sgb::chunk_list>)
+                check(std::ranges::equal(part.lengths(v), whole.lengths(v)), "the lengths of a chunk");
+        }
+        next += part.count();
+    }
+    check(next == 12, "all chunks");
+}
+
 static void chunks() {
-    sgb::graph graph("board(3,4,0,0,1,0,0)");
+    const sgb::graph graph("board(3,4,0,0,-1,0,0)");
     const auto whole = graph.rows();
     for (std::uint32_t size : {1u, 5u, 12u, 13u, 4294967295u}) {
-        std::uint32_t next = 0;
-        for (const auto &part : graph.chunks(size)) {
-            check(part.first() == next && part.count() == std::min(size, 12 - next), "the vertices of a chunk");
-            for (std::uint32_t v = next; v < next + part.count(); v++)
-                check(std::ranges::equal(part.tips(v), whole.tips(v)), "the lists of a chunk");
-            next += part.count();
-        }
-        check(next == 12, "all chunks");
+        all_of(graph.chunks(size), whole, size);
+        all_of(graph.tip_chunks(size), whole, size);
     }
-    bool is_refused = false;
-    try {
-        graph.chunks(0);
-    } catch (const std::invalid_argument &) {
-        is_refused = true;
-    }
-    check(is_refused, "chunks of no vertices");
+    check(is_refused([&] { graph.chunks(0); }) && is_refused([&] { graph.tip_chunks(0); }), "chunks of no vertices");
     sgb::graph none("simplex(3,1,1,0,0,0,0)");
     for (const auto &part : none.chunks(10)) check(part.count() == 99, "a graph of no vertices has a chunk");
     check(none.n() == 0 && none.rows().starts().size() == 1 && none.names().size() == 0, "a graph of no vertices");
@@ -153,19 +166,11 @@ template <class F> static std::string words_of(F call) {
 static_assert(std::forward_iterator<sgb::arc_lists::iterator> && std::ranges::forward_range<sgb::arc_lists::range>);
 static_assert(std::random_access_iterator<sgb::name_list::iterator> && std::ranges::random_access_range<const sgb::name_list>);
 static_assert(std::input_iterator<sgb::chunk_list::iterator> && std::ranges::input_range<const sgb::chunk_list>);
+static_assert(std::input_iterator<sgb::tip_chunk_list::iterator> && std::ranges::input_range<const sgb::tip_chunk_list>);
 static_assert(!std::is_copy_constructible_v<sgb::arc_lists> && std::is_nothrow_move_constructible_v<sgb::arc_lists>);
 static_assert(!std::is_copy_constructible_v<sgb::name_list> && std::is_nothrow_move_assignable_v<sgb::name_list>);
 static_assert(!std::is_copy_constructible_v<sgb::graph> && !std::is_copy_assignable_v<sgb::graph>);
 static_assert(std::is_nothrow_move_constructible_v<sgb::graph> && std::is_nothrow_move_assignable_v<sgb::graph>);
-
-template <class F> static bool is_refused(F call) {
-    try {
-        call();
-    } catch (const std::invalid_argument &) {
-        return true;
-    }
-    return false;
-}
 
 // a graph of one's own: lists in the order of its edges, a loop, a length below 0
 static void own() {
@@ -195,8 +200,26 @@ static void own() {
     check(most.id().size() == 160, "the longest id");
 }
 
+// A file of edges is the one that the library writes, but for the checksum, and so its lines have at most 79 bytes.
+static void written() {
+    for (std::size_t size : {0, 1, 70, 75, 76, 77, 78, 79, 80, 154, 155, 156, 157, 158, 160, 300, 4095}) {
+        const std::vector<std::string> names = {"a", std::string(size, ' '), std::string(size, 'x'), std::string(size, '&')};
+        const std::vector<sgb::edge> edges = {{1, 0, INT64_MIN}, {1, 2, INT64_MAX}, {2, 0, -3}, {1, 1}};
+        for (const bool directed : {false, true}) {
+            const auto id = std::string(std::min<std::size_t>(size, 160), '-');
+            const auto file = sgb::file_of_edges(4, edges, directed, names, id);
+            const sgb::graph read("stdin", file);
+            check(read.id() == id && std::ranges::equal(read.names(), names), "the texts of a file of edges");
+            const auto saved = read.file();
+            check(file == saved.substr(0, saved.find("* Checksum ")) + "* Checksum -1\n", "a file of edges");
+            for (std::size_t at = 0, end; at < file.size(); at = end + 1)
+                check((end = file.find('\n', at)) - at <= 79, "a line of more than 79 bytes");
+        }
+    }
+}
+
 // the arrays, names and id of a graph, as one text
-static std::string told(sgb::graph &graph) { return graph.id() + "\n" + graph.file(); }
+static std::string told(const sgb::graph &graph) { return graph.id() + "\n" + graph.file(); }
 
 // that an operation makes the graph of the expression
 static void same(sgb::graph made, const char *text, const char *what) {
@@ -266,6 +289,7 @@ static void making() {
 
 int main() {
     own();
+    written();
     operations();
     making();
     closed = 0;
