@@ -22,6 +22,10 @@ CHECKED = ["-fsanitize=address,undefined", "-fno-sanitize-recover=all"]
 ENVIRONMENT = {"ASAN_OPTIONS": "allocator_may_return_null=1"}
 WRAPPED = ["-Wl,--wrap=malloc,--wrap=calloc,--wrap=realloc"]
 GRAPHS, FILES = 200, 4000  # that gb_random makes and spoils
+HEADERS_SAY = b"""\
+board(3,0,0,0,2,0,0) 5 0 board(3,0,0,0,-1,0,0) board(3,0,0,0,1,1,1)
+product(board(2,0,0,0,2,0,0),board(3,0,0,0,1,1,0),1,0) 10
+"""
 PUBLIC = """
 gb_alloc gb_flip_cycle gb_fptr gb_free gb_init_rand gb_new_arc gb_new_edge gb_new_graph gb_recycle gb_save_string
 gb_trouble_code gb_unif_rand gb_virgin_arc hash_in hash_lookup hash_out hash_setup make_compound_id make_double_compound_id
@@ -129,6 +133,23 @@ def symbols(runs, tally):
             tally.check(status != 0 and b"is not rebuilt" in err, name, "is no stub:", (status, err))
 
 
+def in_cpp(runs, tally):
+    """The headers before those of C++ and sgb.hpp, in each C++ from C++11 on."""
+    if not shutil.which("c++"):
+        print("  skipped, without c++: checks/from_outside/gb_headers.cpp")
+        return
+    if not c_library.is_there(tally, "libgb.a", "libsgb.a"):
+        return
+    source, path = os.path.join(TOP, "checks/from_outside/gb_headers.cpp"), os.path.join(runs.folder, "gb_headers")
+    libraries = [os.path.join(TOP, name) for name in ("libgb.a", "libsgb.a")]
+    for standard in "-std=c++11", "-std=c++14", "-std=c++17", "-std=c++20":
+        words = ["c++", standard, "-pedantic", "-Wall", "-Wextra", "-Werror", *INCLUDES, source, *libraries, "-o", path]
+        got = c_library.ran(*words)
+        tally.check(got == (0, b"", b""), " ".join(words), "gave", got[0], got[2][:1000])
+        if got[0] == 0:
+            tally.same(f"gb_headers, {standard}", c_library.ran(path), (0, HEADERS_SAY, b""))
+
+
 def has_boost():
     words = ["c++", "-DSGB_GRAPHBASE_STUBS", INCLUDES[0], "-fsyntax-only", "-x", "c++", "-"]
     return shutil.which("c++") and c_library.ran(*words, given=b"#include <boost/graph/stanford_graph.hpp>\n")[0] == 0
@@ -148,4 +169,5 @@ def all_checks(document):
         return
     yield "graphbase", calls
     yield "graphbase symbols", symbols
+    yield "graphbase in C++", in_cpp
     yield "document docs/GRAPHBASE.md", page(document)
