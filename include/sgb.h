@@ -312,24 +312,19 @@ static inline uint64_t sgb_induced(sgb_graph *graph, const sgb_entry *entries, s
  * board(2,0,0,0,1,0,directed) with the entries `middle` and board(n,0,0,0,1,1,directed). */
 static inline uint64_t sgb_wheel_around(sgb_graph *middle, int64_t n, bool directed, sgb_graph *result) {
     sgb_graph pair = SGB_NO_GRAPH, rim = SGB_NO_GRAPH;
+    sgb_graph_sizes sizes;
     sgb_entry entries[2];
-    char pair_text[] = "board(2,0,0,0,1,0,0)", rim_text[64], digits[24];
-    size_t length = 0, count = 0;
-    uint64_t answer, left = n < 0 ? 0 - (uint64_t)n : (uint64_t)n;
+    char pair_text[] = "board(2,0,0,0,1,0,0)", rim_text[] = "board(0000000000,0,0,0,1,1,0)";
+    char *digit = rim_text + sizeof "board(0000000000" - 1;
+    uint64_t answer, left = n > 0 ? (uint64_t)n : 0;
     if (result->is_open) return SGB_ALREADY_OPEN;
-    if (!middle->is_open) return SGB_NOT_OPEN;
-    do {
-        digits[count++] = (char)('0' + left % 10);
-        left /= 10;
-    } while (left);
-    if (n < 0) digits[count++] = '-';
-    for (const char *at = "board("; *at; at++) rim_text[length++] = *at;
-    while (count) rim_text[length++] = digits[--count];
-    for (const char *at = ",0,0,0,1,1,"; *at; at++) rim_text[length++] = *at;
-    rim_text[length++] = directed ? '1' : '0';
-    rim_text[length++] = ')';
-    if (directed) pair_text[sizeof pair_text - 3] = '1';
-    answer = sgb_open(rim_text, length, "", 0, &rim);
+    answer = sgb_sizes(middle, &sizes);
+    if (answer != SGB_OK) return answer;
+    /* refused before anything is built */
+    if (left > 1000000000 - sizes.vertices) return SGB_VERY_BAD_SPECS;
+    for (; left; left /= 10) *--digit = (char)('0' + left % 10);
+    if (directed) pair_text[sizeof pair_text - 3] = rim_text[sizeof rim_text - 3] = '1';
+    answer = sgb_open(rim_text, sizeof rim_text - 1, "", 0, &rim);
     if (answer == SGB_OK) answer = sgb_open(pair_text, sizeof pair_text - 1, "", 0, &pair);
     entries[0].number = entries[1].number = 0;
     entries[0].graph = middle;

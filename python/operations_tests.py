@@ -90,6 +90,8 @@ class Operations(unittest.TestCase):
         self.same(sgb.bi_complete(0, 1, directed=True), "bi_complete(0,1,1)")
         self.same(sgb.wheel(5), "wheel(5,1,0)")
         self.same(sgb.wheel(4, 2, True), "wheel(4,2,1)")
+        around = "induced(board(2,0,0,0,1,0,0),[petersen(),board(0,0,0,0,1,1,0)],0,0,0)"
+        self.same(sgb.wheel_around(sgb.graph("petersen()"), -10**18), around)
 
     def test_refused(self):
         few, arcs = sgb.graph("complete(3)"), sgb.graph("transitive(3)")
@@ -97,7 +99,8 @@ class Operations(unittest.TestCase):
         for code, call in (
             (60, arcs.lines), (40, lambda: sgb.product(many, many)), (30, lambda: sgb.induced(few, [1, 1])),
             (30, lambda: sgb.induced(few, [1] * 4)), (40, lambda: sgb.induced(few, [1, 1, 10**9])), (30, lambda: sgb.bi_complete(-1, 2)),
-            (40, lambda: sgb.bi_complete(10**9, 1)), (30, lambda: sgb.wheel(3, -1)),
+            (40, lambda: sgb.bi_complete(10**9, 1)), (30, lambda: sgb.wheel(3, -1)), (40, lambda: sgb.wheel_around(few, 10**9 - 2)),
+            (40, lambda: sgb.wheel_around(few, 10**18)),
         ):
             with self.assertRaises(sgb.GraphError) as why:
                 call()

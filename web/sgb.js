@@ -698,9 +698,11 @@ export class Sgb {
   }
 
   wheelAround(middle, n, { directed = false } = {}) {
-    const [size, flag] = [word(n, 64, "a number of vertices", true), Number(Boolean(directed))];
+    const [around, flag] = [word(n, 64, "a number of vertices", true), Number(Boolean(directed))];
     handleOf(middle, this.#library);
-    const rim = this.graph(`board(${size},0,0,0,1,1,${flag})`);
+    // too many vertices are refused before anything is built
+    const size = around > 1_000_000_000n - BigInt(middle.n) ? 1_000_000_001n : around;
+    const rim = this.graph(`board(${size < 0n ? 0n : size},0,0,0,1,1,${flag})`);
     const pair = this.graph(`board(2,0,0,0,1,0,${flag})`);
     try {
       return this.induced(pair, [middle, rim], { directed });

@@ -278,12 +278,15 @@ const tests = {
     like(sgb.wheel(5n, 2, { directed: true }), "wheel(5,2,1)");
     like(sgb.wheelAround(ring, 5), "induced(board(2,0,0,0,1,0,0),[circuit(4),board(5,0,0,0,1,1,0)],0,0,0)");
     like(sgb.wheelAround(ring, 5, { directed: true }), "induced(board(2,0,0,0,1,0,1),[circuit(4),board(5,0,0,0,1,1,1)],0,0,1)");
+    like(sgb.wheelAround(ring, -(10n ** 18n)), "induced(board(2,0,0,0,1,0,0),[circuit(4),board(0,0,0,0,1,1,0)],0,0,0)");
     same(digest(board.save()) + digest(ring.save()) + digest(arcs.save()), before, "operands after operations");
     const many = sgb.graph("empty(40000)");
     refused(() => arcs.lines(), 60, "lines of arcs");
     refused(() => sgb.product(many, many), 40, "a product of too many vertices");
     refused(() => sgb.induced(arcs, [1]), 30, "too few entries");
     refused(() => sgb.biComplete(-1, 1), 30, "a number below 0");
+    refused(() => sgb.wheelAround(arcs, 10n ** 18n), 40, "a rim that is too large");
+    refused(() => sgb.wheelAround(arcs, 10 ** 9 - 2), 40, "a rim that is too large with the middle");
     const other = (await load()).graph("circuit(4)");
     for (const call of [
       () => sgb.gunion(board, "circuit(4)"), () => sgb.gunion(null, board), () => sgb.gunion(board, other), () => sgb.induced(board, [other]),

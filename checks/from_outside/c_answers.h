@@ -70,6 +70,22 @@ static void lists(void) {
     sgb_close(&is_open);
 }
 
+/* A rim of any number of vertices: of one that is not positive it is the board of 8 by 8. */
+static void rims(void) {
+    const int64_t rim_sizes[] = {INT64_MIN, -1000000000000000000, 0, 999999991, 1000000000000000000, INT64_MAX};
+    sgb_graph middle = SGB_NO_GRAPH, result = SGB_NO_GRAPH;
+    must(sgb_open("petersen()", 10, "", 0, &middle), SGB_OK, "sgb_open");
+    for (int k = 0; k < 12; k++) {
+        int64_t n = rim_sizes[k / 2];
+        must(sgb_wheel_around(&middle, n, k % 2, &result), n > 0 ? SGB_VERY_BAD_SPECS : SGB_OK, "a rim");
+        if (n > 0) continue;
+        sizes_of(&result);
+        if (vertices() != 74) fail("a rim of 64 vertices around ten");
+        sgb_close(&result);
+    }
+    sgb_close(&middle);
+}
+
 /* sgb_make with these arrays, or with one of them changed. */
 static uint64_t starts_of[4] = {0, 1, 3, 3};
 static char names_of[] = "a ~", id_of[] = "own";
@@ -184,6 +200,7 @@ static void without_memory(void) {
     must(sgb_entries_graph(&list, &none), SGB_NOT_OPEN, "sgb_entries_graph without memory");
     must(sgb_bi_complete(-1, 1, false, &graph), SGB_BAD_SPECS, "sgb_bi_complete without memory");
     must(sgb_wheel(3, -1, false, &graph), SGB_BAD_SPECS, "sgb_wheel without memory");
+    must(sgb_wheel_around(&is_open, 999999991, false, &graph), SGB_VERY_BAD_SPECS, "sgb_wheel_around without memory");
     lens[2] = 1;
     must_make(SGB_WRONG_LENGTH, "sgb_make without memory");
     lens[2] = 2, from_of[1] = 3;

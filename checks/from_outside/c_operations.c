@@ -284,6 +284,7 @@ int main(int words_len, char **words) {
     if (words_len == 2 && strcmp(words[1], "answers") == 0) {
         handles();
         lists();
+        rims();
         making();
         puts("right");
     } else if (words_len == 2 && strcmp(words[1], "many") == 0) {

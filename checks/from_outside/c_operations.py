@@ -118,6 +118,8 @@ def of_sixty(program, folder, dice):
     numbers = [(2, 3), (0, 0), (0, 4), (-1, 2), (2, -1), (5, 1), (1, 5), (3, 0)]
     for name in "bi_complete", "wheel":
         found += [Operation(name, [*pair, directed], []) for pair in numbers for directed in (0, 1)]
+    for n in -1, 0, 10**9 + 1:
+        found += [Operation("wheel_around", [n, directed], [Operand("petersen()")]) for directed in (0, 1)]
     # more vertices than a graph may have
     many = [Operand("empty(40000)"), Operand("empty(40000)")]
     return [*found, Operation("bi_complete", [10**9, 1, 0], []), Operation("product", [0, 0], many)]

@@ -255,6 +255,7 @@ static void operations() {
     same(sgb::wheel(5), "wheel(5,1,0)", "a wheel");
     same(sgb::wheel(5, 2, true), "wheel(5,2,1)", "a wheel of arcs");
     same(sgb::wheel_around(ring, 5), "induced(board(2,0,0,0,1,0,0),[circuit(4),board(5,0,0,0,1,1,0)],0,0,0)", "a wheel around a graph");
+    same(sgb::wheel_around(ring, INT64_MIN), "induced(board(2,0,0,0,1,0,0),[circuit(4),board(0,0,0,0,1,1,0)],0,0,0)", "a wheel of a board");
     check(told(board) + told(ring) == before, "operands stay as they are");
     check(code_of([&] { arcs.lines(); }) == SGB_INVALID_OPERAND, "lines of arcs that are no edges");
     check(code_of([&] { sgb::induced(arcs, {1}); }) == SGB_BAD_SPECS, "too few entries");

@@ -48,6 +48,7 @@ from typing import TYPE_CHECKING, Any, SupportsIndex
 
 from . import _library
 from ._convert import convert
+from ._files import MOST_VERTICES
 from ._graph import Graph
 from ._library import GraphError
 from ._names import Names
@@ -139,8 +140,10 @@ def wheel_around(middle: Graph, n: SupportsIndex, directed: bool = False) -> Gra
     GraphError
         With code 40, where there are more than 10^9 vertices.
     """
-    flag = int(bool(directed))
-    rim = Graph(f"board({integer(n, 'a number of vertices')},0,0,0,1,1,{flag})")
+    flag, size = int(bool(directed)), max(integer(n, "a number of vertices"), 0)
+    if isinstance(middle, Graph) and size > MOST_VERTICES - middle.n:
+        size = MOST_VERTICES + 1  # refused before anything is built
+    rim = Graph(f"board({size},0,0,0,1,1,{flag})")
     return induced(Graph(f"board(2,0,0,0,1,0,{flag})"), [middle, rim], directed=directed)
 
 

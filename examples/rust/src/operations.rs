@@ -146,10 +146,13 @@ impl Graph {
         Graph::of("stdin", Held::wheel(n, n1, directed)?)
     }
 
-    /// The wheel with a graph in its middle, each of whose vertices is joined to each of n in a circle.
+    /// The wheel with a graph in its middle, each of whose vertices is joined to each of n in a circle. It is `Error::Code(40)`
+    /// where these are more than 10^9 vertices.
     pub fn wheel_around(middle: &Graph, n: i64, directed: bool) -> Result<Graph, Error> {
-        let flag = u8::from(directed);
-        let rim = Graph::new(&format!("board({n},0,0,0,1,1,{flag})"), b"")?;
+        let (flag, n) = (u8::from(directed), n.max(0));
+        // too many vertices are refused before anything is built
+        let size = if n > 1_000_000_000 - middle.n() as i64 { 1_000_000_001 } else { n };
+        let rim = Graph::new(&format!("board({size},0,0,0,1,1,{flag})"), b"")?;
         let pair = Graph::new(&format!("board(2,0,0,0,1,0,{flag})"), b"")?;
         pair.induced(&[middle.into(), (&rim).into()], false, false, directed)
     }

@@ -285,6 +285,8 @@ fn entries_are_numbers_and_graphs() {
     same(Graph::wheel(5, 2, false), "wheel(5,2,0)");
     let around = "induced(board(2,0,0,0,1,0,1),[circuit(4),board(5,0,0,0,1,1,1)],0,0,1)";
     same(Graph::wheel_around(&ring, 5, true), around);
+    let board = "induced(board(2,0,0,0,1,0,0),[circuit(4),board(0,0,0,0,1,1,0)],0,0,0)";
+    same(Graph::wheel_around(&ring, i64::MIN, false), board);
 }
 
 #[test]
@@ -293,6 +295,9 @@ fn an_operation_may_be_refused() {
     assert_eq!(arcs.lines(false).err(), Some(Error::Code(60)));
     assert_eq!(many.product(&many, Product::Direct, false).err(), Some(Error::Code(40)));
     assert_eq!(arcs.induced(&[1.into()], false, false, false).err(), Some(Error::Code(30)));
+    for n in [1_000_000_000 - 2, i64::MAX] {
+        assert_eq!(Graph::wheel_around(&arcs, n, false).err(), Some(Error::Code(40)));
+    }
     assert_eq!((Graph::wheel(3, -1, false).err(), Graph::bi_complete(-1, 0, false).err()), (Some(Error::Code(30)), Some(Error::Code(30))));
 }
 
