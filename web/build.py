@@ -47,7 +47,7 @@ if os.path.exists("module.bc"):
 os.execv({clang!r}, [{clang!r}, *sys.argv[1:]])
 """
 
-WARNINGS = ["-Wall", "-Wextra", "-Werror", "-Wno-unused-function"]
+WARNINGS = ["-Wall", "-Wextra", "-Werror"]
 TARGET = ["--target=wasm64-unknown-unknown", "-mbulk-memory", "-O3", "-c"]
 # Boards take more than the 64 KB of stack that the linker gives. Below it is nothing: a stack that is used up traps.
 LINK = ["-mwasm64", "-z", "stack-size=8388608", "--stack-first", "--no-entry", "--gc-sections", "--strip-all"]

@@ -1,19 +1,15 @@
-/* The memory of the module, as the heap sees it: bytes from heap_base() on, as many as heap_room() says. */
-#ifndef HEAP_H
-#define HEAP_H
+/* The heap of the module: what it wants of the machine, and what it gives. */
+#pragma once
 
 typedef __SIZE_TYPE__ size_t;
 
-/* Where the heap begins, a multiple of 16. It is one place for ever. */
+/* Where the heap's bytes begin, a multiple of 16, the same for ever; how many there are, at first zeros; and the call
+ * that makes it so many more, at least, or answers that it does not. */
 unsigned char *heap_base(void);
-
-/* How many bytes there are from there on. */
 size_t heap_room(void);
-
-/* Makes it so many bytes more, at least; whether there are. */
 _Bool heap_grow(size_t bytes);
 
-/* What the proved library answers a call for memory with, and takes back. */
+/* What the proved library answers a call for memory with, and takes back. No place is null. */
 typedef struct {
     _Bool ok;
     void *place;
@@ -29,5 +25,3 @@ void sgb_give(void *place);
 /* The bytes that are taken; and from when on memory is refused, though there be more. */
 size_t sgb_taken(void);
 void sgb_limit(size_t bytes);
-
-#endif

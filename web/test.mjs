@@ -422,7 +422,7 @@ const tests = {
     const wanted = digest((await load()).graph("board(30,30,0,0,1,0,0)").list());
     let [refusals, answers] = [0, 0];
     const module = await WebAssembly.compile(await readFile(new URL("sgb.wasm", folder)));
-    for (let limit = 0; limit < 1_200_000; limit += 8_192) {
+    for (let limit = 0; limit < 600_000; limit += 4_096) {
       const small = await load(module, { limit });
       const error = thrown(() => {
         const graph = small.graph("board(30,30,0,0,1,0,0)");
@@ -448,22 +448,33 @@ const tests = {
 
   async closing() {
     const sgb = await load();
-    const turn = (k) => {
-      const graph = sgb.graph(`board(${10 + (k % 20)},10,0,0,${k % 2 ? -1 : 1},0,0)`);
-      graph.names();
-      graph.save();
-      thrown(() => sgb.graph("board(3,"));
-      graph.close();
-    };
-    for (let k = 0; k < 80; k++) {
-      turn(k);
-    }
     const { size } = sgb.memory;
-    for (let k = 0; k < 1000; k++) {
-      turn(k);
+    // graphs of mixed sizes, some open at a time: the heap has at most twice what they had at once
+    const open = [];
+    let [most, seed] = [0, 1];
+    const random = (n) => {
+      seed = (Math.imul(seed, 1_103_515_245) + 12_345) >>> 0;
+      return (seed >>> 16) % n;
+    };
+    for (let k = 0; k < 100_000; k++) {
+      const [place, n] = [random(64), 2 + random([4, 4, 4, 8, 8, 20, 60, 120][random(8)])];
+      open[place]?.close();
+      const texts = [
+        `complement(empty(${n}),0,0,0)`, `lines(board(${n},3,0,0,1,0,0),0)`, `product(circuit(${n}),petersen(),0,0)`,
+        `complete(${n})`,
+      ];
+      open[place] = sgb.graph(texts[k % 4]);
+      most = Math.max(most, sgb.memory.taken);
+      if (k % 100 === 0) {
+        open[place].names();
+        open[place].save();
+        thrown(() => sgb.graph("board(3,"));
+      }
     }
-    same(sgb.memory.size, size, "the memory after 1000 graphs");
-    same(sgb.memory.taken, 0, "taken after 1000 graphs");
+    open.forEach((graph) => graph.close());
+    const had = sgb.memory.size - size;
+    check(had <= 2 * most, `the heap took ${had} bytes for graphs that had ${most} at once`);
+    same(sgb.memory.taken, 0, "taken after 100000 graphs");
     // graphs that are open at once, and closed in another order
     const graphs = Array.from({ length: 100 }, (_, k) => sgb.graph(`complete(${k + 1})`));
     for (const k of graphs.keys()) {
