@@ -5,8 +5,8 @@
 
 It builds the two programs and the library for C of the sources as they stand, unproved and optimized, and tries on them what
 needs no proof: the checks from outside (checks/outside.py), library calls with memory refused (checks/calls.py), the tables of
-the libraries (checks/library.py), the tests that are proved elsewhere (`rt try --test` in each crate of tests), where definitions
-stand, the callers of the pages, and the places of forms. All lies in out/test, a copy of the tree, so that nothing there is taken for what was proved. The last line is
+the libraries (checks/library.py), the tests that are proved elsewhere (`rt try --test` in each crate of tests), what may
+be of others, where definitions stand, the callers of the pages, and the places of forms. All lies in out/test, a copy of the tree, so that nothing there is taken for what was proved. The last line is
 `N passed, M failed`.
 
 A program is built as `rt try` does it, up to the module that LLVM is handed: rt runs over a folder like the toolchain's, whose
@@ -300,6 +300,7 @@ def main():
             folder = os.path.join(TREE, "crates", name)
             others[name] = pool.submit(task, rt, "try", "--test", "--steps", "1", "--seconds", SECONDS, folder=folder)
         others["library tests"] = pool.submit(task, "checks/library.py", RT=rt)
+        others["nothing of others"] = pool.submit(task, "checks/own.py", folder=TOP)
         others["definitions"] = pool.submit(task, "checks/definitions.py")
         others["callers of the pages"] = pool.submit(task, "checks/callers.py")
         others["forms of expressions"] = pool.submit(task, "checks/forms.py")
