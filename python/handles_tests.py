@@ -1,7 +1,6 @@
 """Tests of what the library holds, and of a graph as Python has such things."""
 
 import collections
-import copy
 import gc
 import io
 import os
@@ -100,11 +99,6 @@ class Handles(unittest.TestCase):
         for text, seen, names, x in found:
             self.assertEqual(seen, said("list", text))
             self.assertEqual((names, x), (shared.names(), [k // 60 for k in range(3600)]))
-
-    def test_copies(self):
-        for make in (copy.copy, copy.deepcopy, pickle.dumps):
-            with self.assertRaises(TypeError):
-                make(sgb.graph(BOARD))
 
 
 class Python(unittest.TestCase):
@@ -221,13 +215,6 @@ class Python(unittest.TestCase):
             self.test_names()
             self.assertEqual(sgb.graph("complement(board(3,3,0,0,1,0,0),0,0,0)").vertex("2.1"), 7)
 
-    def test_equal(self):
-        first, second = sgb.graph("petersen()"), sgb.graph("subsets(2,1,-4,0,0,0,1,0)")
-        self.assertEqual(first, second)
-        self.assertEqual(len({first, second, sgb.graph("complete(3)")}), 2)
-        self.assertNotEqual(first, sgb.graph("complete(10)"))
-        self.assertNotEqual(first, first.id)
-
     def test_read_only(self):
         graph = sgb.graph(BOARD)
         rows = graph.rows(0, 2)
@@ -242,10 +229,10 @@ class Python(unittest.TestCase):
         self.assertIs(graph.tips, tips)
 
     def test_late(self):
-        """Nothing but n and the id is asked for when a graph is opened."""
-        for text in (BOARD, "lines(complete(4),0)"):
+        """Nothing but n and the id is asked for when a graph is opened, and m where it is built."""
+        for text, kept in (BOARD, {}), ("lines(complete(4),0)", {"number of arcs": 24}):
             graph = sgb.graph(text)
-            self.assertEqual(graph._kept, {})
+            self.assertEqual(graph._kept, kept)
             self.assertEqual((len(graph.lengths), len(graph.tips)), (graph.m, graph.m))
 
     def test_texts(self):

@@ -14,6 +14,7 @@ from convert_tests import Converted  # noqa: F401
 from handles_tests import Handles, Python  # noqa: F401
 from operations_tests import Operations  # noqa: F401
 from others_tests import Others  # noqa: F401
+from same_tests import Copied, Forked, Same, Shown  # noqa: F401
 from ways_in_tests import Igraph, Networkx, Numpy, Scipy, WaysIn  # noqa: F401
 
 if __name__ == "__main__":

@@ -69,9 +69,9 @@ class WaysIn(unittest.TestCase):
             tails, tips, lengths = [0, 2, 1, 1, 0], [1, 0, 1, 2, 1], [5, -6, 7, 2**62, 9]
             made = sgb.from_arrays(tails, tips, lengths, n=4, directed=directed)
             edges = list(zip(tails, tips, lengths))
-            self.assertEqual(made, sgb.from_edges(edges[::-1], n=4, directed=directed))
+            self.assertTrue(made.same_as(sgb.from_edges(edges[::-1], n=4, directed=directed)))
             self.assertEqual(list(made.arcs()), list(sgb.from_edges(edges[::-1], n=4, directed=directed).arcs()))
-            self.assertNotEqual(made, sgb.from_edges(edges, n=4, directed=directed))
+            self.assertFalse(made.same_as(sgb.from_edges(edges, n=4, directed=directed)))
         self.assertEqual([sgb.from_arrays([0, 0], [1, 2])[v].tolist() for v in range(3)], [[2, 1], [0], [0]])
         self.assertEqual((sgb.from_arrays([], []).n, sgb.from_arrays([], [], [], names=["a"]).names()), (0, ["a"]))
         for words, more in (([0], []), {}), (([0], [0], []), {}), (([0], [5]), {"n": 5}), (([0], [-1]), {}), (([0], [0], [2**63]), {}):
@@ -122,8 +122,8 @@ class WaysIn(unittest.TestCase):
             sgb.from_edges([(0, 1)], names="ab"), sgb.from_edges([(0, 1)], directed=True), sgb.from_edges([(0, 1), (1, 2)]),
             sgb.from_edges([(1, 2), (0, 1)]),
         ]
-        self.assertEqual(len(set(graphs)), len(graphs))
-        self.assertEqual(graphs[0], sgb.from_edges([[0, 1, 1]]))
+        self.assertEqual(len({graph.id for graph in graphs}), len(graphs))
+        self.assertTrue(graphs[0].same_as(sgb.from_edges([[0, 1, 1]])))
         self.assertEqual(sgb.from_edges([(0, 1)], id="mine").id, "mine")
         self.assertTrue(all(len(graph.id) < 160 for graph in graphs))
 
@@ -145,7 +145,7 @@ class WaysIn(unittest.TestCase):
             graph = sgb.graph(text)
             again = sgb.from_csr(graph.starts, graph.tips, graph.lengths, graph.names(), id=graph.id)
             self.assertEqual(list(again.arcs()), list(graph.arcs()))
-            self.assertEqual((again.names(), again.m, again), (graph.names(), graph.m, graph))
+            self.assertEqual((again.names(), again.m, again.id), (graph.names(), graph.m, graph.id))
         self.assertEqual(list(sgb.from_csr([0, 1, 1], [1]).arcs()), [(0, 1, 1)])
         self.assertEqual(list(sgb.from_csr([0, 3, 3], [1, 0, 1], [4, 5, 6]).arcs()), [(0, 1, 4), (0, 0, 5), (0, 1, 6)])
         for words in ([], []), ([1], []), ([1, 1], [0]), ([0, 2], [0]), ([0, 2, 1], [0]), ([0, 1], [0], []), ([0], [0]):
@@ -192,7 +192,7 @@ class Numpy(unittest.TestCase):
         for dtype in "int64", "int32", "uint32", "uint64", "int8":
             width = 3 if dtype == "int64" else 2
             array = self.numpy.array([edge[:width] for edge in edges], dtype=dtype)
-            self.assertEqual(sgb.from_edges(array), sgb.from_edges([edge[:width] for edge in edges]))
+            self.assertTrue(sgb.from_edges(array).same_as(sgb.from_edges([edge[:width] for edge in edges])))
         self.assertEqual(sgb.from_edges(self.numpy.zeros((0, 2), dtype="int64"), n=2).n, 2)
         for array in ([[0.0, 1.0]], [[-1, 0]], [[0, 1, 2, 3]]):
             with self.assertRaises((TypeError, ValueError)):

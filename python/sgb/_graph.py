@@ -3,10 +3,9 @@
 from __future__ import annotations
 
 import operator
-import threading
 from typing import TYPE_CHECKING, Any, Callable, Iterator, Optional, SupportsIndex
 
-from . import _library, _lookups, _names, _operations, _others
+from . import _library, _lookups, _names, _operations, _others, _same
 from ._names import Names
 from ._rows import Rows
 
@@ -15,8 +14,6 @@ if TYPE_CHECKING:
     from numpy.typing import NDArray
 
 FIELDS = "uvwxyz"
-# a graph of no more than so many vertices and arcs is fetched whole when a list of it is asked for
-FEW = 65_536, 1_048_576
 # how many vertices may be looked up by a dictionary of all names
 NAMED = 1_048_576
 
@@ -32,7 +29,8 @@ class Graph:
     the list of vertex v is what stands from starts[v] up to starts[v + 1] in `tips` and `lengths`. They are made when
     they are first asked for, and cannot be changed. `rows` and `chunks` give the lists of some vertices.
 
-    Two graphs are equal where they have one official name.
+    Graphs are equal, and have one hash, where they are one object; `same_as` compares all that two graphs have. A graph can be
+    pickled and copied: it is made again from its text, or from its .gb file where the text has `stdin`.
 
     The library holds the graph until `close`, the end of a `with`, or the end of this object. What was asked for
     before stays; what was not is then a ValueError. A vertex is any integer, numpy's too: where there is no such
@@ -64,13 +62,16 @@ class Graph:
 
     def _begin(self, held: _library.Held, text: str) -> None:
         self._held = held
-        self._lock, self._kept = threading.RLock(), {}  # type: threading.RLock, dict[str, Any]
+        self._kept: dict[str, Any] = {}
         sizes = _library.Sizes()
-        self._held.call("sizes", "sgb_sizes", sizes)
+        held.call("sgb_sizes", sizes)
         self.text, self.n = text, sizes.vertices
         name = _library.Array("B", sizes.id)
-        self._held.call("id", "sgb_id", *name.words)
+        held.call("sgb_id", *name.words)
         self.id = name.bytes().decode(errors="surrogateescape")
+        if not _lookups.is_generated(self):
+            # where a graph is built they are counted
+            self._kept["number of arcs"] = held.number("sgb_arcs")
 
     def close(self) -> None:
         """Gives back what the library holds of the graph."""
@@ -99,25 +100,14 @@ class Graph:
         except TypeError:
             return False
 
-    def __eq__(self, other: object) -> bool:
-        if not isinstance(other, Graph):
-            return NotImplemented
-        return self.id == other.id
-
-    def __hash__(self) -> int:
-        return hash(self.id)
-
-    def __repr__(self) -> str:
-        return f"sgb.graph({self.text!r})"
-
-    def __reduce__(self) -> Any:
-        raise TypeError("a graph is not copied: make it again from its text")
+    __repr__, __reduce__, same_as = _same.shown, _same.reduced, _same.same_as
 
     def _fetched(self, what: str, fetch: Callable[[], Any]) -> Any:
-        with self._lock:
-            if what not in self._kept:
-                self._kept[what] = fetch()
-            return self._kept[what]
+        if what not in self._kept:
+            with self._held.lock:
+                if what not in self._kept:
+                    self._kept[what] = fetch()
+        return self._kept[what]
 
     @property
     def m(self) -> int:
@@ -126,7 +116,7 @@ class Graph:
         A generator's arcs are counted without their lists: of a board by its displacements, of a simplex at once;
         subsets are gone through where their sum and the wanted sizes are great, which takes long where they are many.
         """
-        return self._fetched("number of arcs", lambda: self._held.number("number of arcs", "sgb_arcs"))
+        return self._fetched("number of arcs", lambda: self._held.number("sgb_arcs"))
 
     @property
     def kinds(self) -> str:
@@ -139,7 +129,7 @@ class Graph:
 
     def _fetch_kinds(self) -> str:
         letters = _library.Array("B", 14)
-        self._held.call("kinds", "sgb_kinds", *letters.words)
+        self._held.call("sgb_kinds", *letters.words)
         return letters.bytes().decode()
 
     @property
@@ -184,16 +174,16 @@ class Graph:
         """How many arcs are on the lists of a run. Of all of a generator's they are those that are counted, at once."""
         if count == self.n and _lookups.is_generated(self):
             return self.m
-        return self._held.number("lists", "sgb_rows_size", first, count)
+        return self._held.number("sgb_rows_size", first, count)
 
     def _lists(self, first: int, count: int, lengths: bool) -> tuple[Any, Any, Any]:
         size = self._size(first, count)
         starts, tips = _library.Array("Q", count + 1), _library.Array("I", size)
         if not lengths:
-            self._held.call("lists", "sgb_tips", first, count, *starts.words, *tips.words)
+            self._held.call("sgb_tips", first, count, *starts.words, *tips.words)
             return starts.seen(), tips.seen(), None
         more = _library.Array("q", size)
-        self._held.call("lengths", "sgb_rows", first, count, *starts.words, *tips.words, *more.words)
+        self._held.call("sgb_rows", first, count, *starts.words, *tips.words, *more.words)
         return starts.seen(), tips.seen(), more.seen()
 
     def rows(self, first: SupportsIndex = 0, count: Optional[SupportsIndex] = None, lengths: bool = True) -> Rows:
@@ -263,7 +253,7 @@ class Graph:
         return self.rows(place, 1, lengths)
 
     def _is_small(self) -> bool:
-        return self.n <= FEW[0] and self._size(0, self.n) <= FEW[1]
+        return self.n <= _lookups.FEW[0] and self._size(0, self.n) <= _lookups.FEW[1]
 
     def __getitem__(self, v: SupportsIndex) -> NDArray[numpy.uint32]:
         return self.neighbors(v)
@@ -361,15 +351,13 @@ class Graph:
 
     def _fetch_ints(self, field: str, first: int, count: int) -> Any:
         values = _library.Array("q", count)
-        self._held.call("integers " + field, "sgb_ints", FIELDS.index(field), first, count, *values.words)
+        self._held.call("sgb_ints", FIELDS.index(field), first, count, *values.words)
         return values.seen()
 
     def save(self) -> bytes:
         """The bytes of the graph's .gb file, as `sgb save` writes it. A generator's graph is built for it."""
-        if self.closed:
-            raise ValueError("the graph is closed, and cannot be saved")
-        file = _library.Array("B", self._held.number("file", "sgb_file_size"))
-        self._held.call("file", "sgb_file", *file.words)
+        file = _library.Array("B", self._held.number("sgb_file_size"))
+        self._held.call("sgb_file", *file.words)
         return file.bytes()
 
     # arcs, edges, and other packages
@@ -378,7 +366,7 @@ class Graph:
         """The arcs (v, tip, length), int each, in the order of the lists. A great graph's come chunk by chunk."""
         if "lengths" in self._kept or self._fetched("size", self._is_small):
             return Rows(self.text, 0, self.starts, self.tips, self.lengths).arcs()
-        return (arc for rows in _lookups.pieces(self, *FEW) for arc in rows.arcs())
+        return (arc for rows in _lookups.pieces(self) for arc in rows.arcs())
 
     def edges(self) -> list[tuple[int, int, int]]:
         """The edges (v, tip, length), int each: of each edge the arc that comes first, and of a loop one of its two.

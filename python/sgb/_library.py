@@ -6,6 +6,7 @@ import contextlib
 import ctypes
 import os
 import threading
+import weakref
 from typing import Any, Optional, Sequence
 
 try:
@@ -208,40 +209,58 @@ def array_of(code: str, data: bytes) -> Any:
 class Held:
     """A graph that the library holds, until it is closed, or until nothing leads to this object any more.
 
-    It is what a call makes, which is handed these words, and then the handle.
+    It is what a call makes, which is handed these words, and then the handle. Its lock is that of all that is asked of it.
     """
 
     def __init__(self, name: str, *words: Any) -> None:
-        self._handle, self._lock = Handle(), threading.Lock()
+        self._handle, self.lock = Handle(), threading.RLock()
         must(getattr(lib, name)(*words, self._handle))
+        _all_held.add(self)
 
     @property
     def is_open(self) -> bool:
         """Whether the graph is held."""
         return bool(self._handle.is_open)
 
-    def call(self, what: str, name: str, *words: Any) -> None:
+    def call(self, name: str, *words: Any) -> None:
         """A call on the graph: one at a time. ValueError where it is closed."""
-        with self._lock:
+        with self.lock:
             if not self._handle.is_open:
-                raise ValueError(f"the graph is closed, and its {what} were not asked for before")
+                raise ValueError("the graph is closed: only what was asked for before is there")
             must(getattr(lib, name)(self._handle, *words))
 
-    def number(self, what: str, name: str, *words: Any) -> int:
+    def number(self, name: str, *words: Any) -> int:
         """A call that says a number."""
         number = ctypes.c_uint64()
-        self.call(what, name, *words, number)
+        self.call(name, *words, number)
         return number.value
 
     def close(self) -> None:
         """Gives the graph back."""
-        with self._lock:
-            lib.sgb_close(self._handle)
+        with self.lock:
+            # taken away first: what a fork sees of it is open, or closed
+            handle, self._handle = self._handle, Handle()
+            lib.sgb_close(handle)
 
     def __del__(self) -> None:
         # nobody else has it any more; where it was not made in full, its handle may not be there
         if handle := getattr(self, "_handle", None):
             lib.sgb_close(handle)
+
+
+_all_held: weakref.WeakSet[Held] = weakref.WeakSet()
+
+
+def _renew_locks() -> None:
+    """A lock that another thread held when this process was forked would stay so: that thread is not there.
+
+    Its call is not there either, and has changed nothing: calls on a graph that is open leave it as it is.
+    """
+    for held in _all_held:
+        held.lock = threading.RLock()
+
+
+os.register_at_fork(after_in_child=_renew_locks)
 
 
 def made_of(operands: Sequence[Held], name: str, *words: Any) -> Held:
@@ -251,7 +270,7 @@ def made_of(operands: Sequence[Held], name: str, *words: Any) -> Held:
     """
     with contextlib.ExitStack() as stack:
         for operand in sorted(set(operands), key=id):
-            stack.enter_context(operand._lock)
+            stack.enter_context(operand.lock)
         if not all(operand.is_open for operand in operands):
             raise ValueError("the graph is closed")
         made = Held(name, *(operand._handle for operand in operands), *words)
@@ -270,7 +289,7 @@ class Entries:
 
     def add_graph(self, graph: Held) -> None:
         """One more entry, a copy of the graph, which may be closed then. ValueError where it is closed before."""
-        with graph._lock:
+        with graph.lock:
             if not graph.is_open:
                 raise ValueError("a graph among the entries is closed")
             must(lib.sgb_entries_graph(self.held, graph._handle))

@@ -3,7 +3,7 @@
 from __future__ import annotations
 
 import bisect
-from typing import TYPE_CHECKING, Iterator, Optional, Sequence
+from typing import TYPE_CHECKING, Any, Iterator, Optional, Sequence
 
 if TYPE_CHECKING:
     from ._graph import Graph
@@ -13,6 +13,8 @@ if TYPE_CHECKING:
 GENERATORS = (
     "board", "simplex", "subsets", "complete", "transitive", "empty", "circuit", "cycle", "disjoint_subsets", "petersen",
 )
+# a graph of no more than so many vertices and arcs is fetched whole when a list of it is asked for
+FEW = 65_536, 1_048_576
 # the names that are looked at at once
 MANY = 65_536
 
@@ -22,12 +24,12 @@ def is_generated(graph: Graph) -> bool:
     return graph.text.split("(")[0] in GENERATORS
 
 
-def pieces(graph: Graph, vertices: int, arcs: int) -> Iterator[Rows]:
-    """All lists of a graph, so many at once that they have no more vertices, and about so many arcs."""
+def pieces(graph: Graph) -> Iterator[Rows]:
+    """All lists of a graph, few vertices and arcs at once."""
     first = 0
     while first < graph.n:
-        count = min(vertices, graph.n - first)
-        while count > 1 and graph._size(first, count) > arcs:
+        count = min(FEW[0], graph.n - first)
+        while count > 1 and graph._size(first, count) > FEW[1]:
             count //= 2
         yield graph.rows(first, count)
         first += count
@@ -57,7 +59,8 @@ def _bisected(graph: Graph, name: str) -> Optional[int]:
         wanted = _vector(name)
     except ValueError:
         return None
-    place = bisect.bisect_left(_Vectors(graph), wanted)  # type: ignore[arg-type]
+    vectors: Any = _Vectors(graph)
+    place = bisect.bisect_left(vectors, wanted)
     return place if place < graph.n and graph.name(place) == name else None
 
 

@@ -89,7 +89,9 @@ class Names(Sequence[str]):
     __hash__ = None  # type: ignore[assignment]
 
     def __add__(self, other: Sequence[str]) -> list[str]:
-        return [*self, *other] if isinstance(other, (list, Names)) else NotImplemented
+        if isinstance(other, (list, Names)):
+            return [*self, *other]
+        return NotImplemented
 
     def __radd__(self, other: list[str]) -> list[str]:
         return [*other, *self] if isinstance(other, list) else NotImplemented
@@ -111,9 +113,9 @@ def fetched(held: _library.Held, first: int, count: int) -> Names:
     pieces = []
     for begin in range(first, first + max(count, 1), PIECE):
         many = min(PIECE, first + count - begin)
-        size = held.number("names", "sgb_names_size", begin, many)
+        size = held.number("sgb_names_size", begin, many)
         starts, names = _library.Array("Q", many + 1), _library.Array("B", size)
-        held.call("names", "sgb_names", begin, many, *starts.words, *names.words)
+        held.call("sgb_names", begin, many, *starts.words, *names.words)
         pieces.append((names.bytes(), starts.seen()))
     return Names(pieces, 0, count)
 
