@@ -40,7 +40,6 @@ try: toolchain
 	@cd crates/sgb_cli && rt try -- $(WORDS)
 
 sgb: toolchain FORCE
-	@echo "Proving the crates, lowest first: some 12 minutes on a fresh machine, less where proofs are kept."
 	@checks/prove.py sgb_cli sgb_levels
 	@ln -sf $(PROGRAM) sgb
 	@ln -sf crates/sgb_levels/out/sgb_levels sgb_levels

@@ -21,8 +21,8 @@ SONAME = libsgb.so.$(firstword $(subst ., ,$(LIB_VERSION)))
 KIT_HEAP = $(dir $(shell rt doc))c/liblibc_c.a
 
 lib: toolchain FORCE
-	@echo "Proving the library for C: some minutes, less where proofs are kept."
-	cd crates/sgb_c && rt check > /dev/null && rt lib > /dev/null
+	@checks/prove.py sgb_c
+	cd crates/sgb_c && rt lib > /dev/null
 	@$(MAKE) --no-print-directory archives
 
 # the two archives of what `rt lib` left: one file is enough, and both show the calls of sgb.h alone
