@@ -19,8 +19,8 @@
 #                 wheels for x86-64 and aarch64, each tried (dist.mk)
 # make wasm       makes the package for Node and browsers of the proved library, and tests it: dist/sgb-VERSION.tgz (wasm.mk)
 # make page       makes a page of that package, and tests it: dist/page, dist/sgb-page-VERSION.tar.gz (wasm.mk)
-# make install    puts what is built below $(PREFIX), with its manual page and completion for bash, and the library for C
-#                 where it is there; it builds nothing
+# make install    puts what is built below $(PREFIX), with its manual page and completion for bash, zsh and fish, and the
+#                 library for C where it is there; it builds nothing
 # make uninstall  takes them away again
 # make clean      removes what was built, and with it what is kept of proofs
 
@@ -98,11 +98,14 @@ install:
 	install -D $(PROGRAM) "$(DESTDIR)$(PREFIX)/bin/sgb"
 	install -D -m 644 man/sgb.1 "$(DESTDIR)$(PREFIX)/share/man/man1/sgb.1"
 	install -D -m 644 completions/sgb.bash "$(DESTDIR)$(PREFIX)/share/bash-completion/completions/sgb"
+	install -D -m 644 completions/_sgb "$(DESTDIR)$(PREFIX)/share/zsh/site-functions/_sgb"
+	install -D -m 644 completions/sgb.fish "$(DESTDIR)$(PREFIX)/share/fish/vendor_completions.d/sgb.fish"
 	@[ ! -f libsgb.a ] || $(MAKE) --no-print-directory install-lib
 
 uninstall:
 	rm -f "$(DESTDIR)$(PREFIX)/bin/sgb" "$(DESTDIR)$(PREFIX)/share/man/man1/sgb.1"
 	rm -f "$(DESTDIR)$(PREFIX)/share/bash-completion/completions/sgb"
+	rm -f "$(DESTDIR)$(PREFIX)/share/zsh/site-functions/_sgb" "$(DESTDIR)$(PREFIX)/share/fish/vendor_completions.d/sgb.fish"
 
 clean:
 	rm -rf crates/*/out conformance/out out dist

@@ -66,6 +66,8 @@ PLACES = [
     ("gsoi", "README.md", r"`NAME\b"),
     ("gsoi", "man/sgb.1", r"\bNAME\b"),
     ("gsoi", "completions/sgb.bash", r"\bNAME\b"),
+    ("gsoi", "completions/_sgb", r"\bNAME\b"),
+    ("gsoi", "completions/sgb.fish", r"\bNAME\b"),
     ("gso", "docs/DEFINITIONS.md", r"NAME(_of)?\b|VARIANT"),
     ("gso", "docs/COOKBOOK.md", r"\bNAME\b"),
 ]

@@ -115,15 +115,15 @@ bind -x '"\C-g": _told'
 
 
 class Terminal:
-    """Bash in a terminal of its own."""
+    """A shell in a terminal of its own."""
 
-    def __init__(self, folder):
+    def __init__(self, folder, *words):
         self.process, self.end = pty.fork()
         if self.process == 0:
             environment = {"PATH": os.environ.get("PATH", os.defpath), "TERM": "dumb", "LC_ALL": "C", "HOME": folder}
             environment.update(INPUTRC="/dev/null", PS1=PROMPT, HISTFILE="/dev/null")
             os.chdir(folder)
-            os.execvpe("bash", ["bash", "--norc", "--noprofile", "-i"], environment)
+            os.execvpe(words[0], words, environment)
         fcntl.ioctl(self.end, termios.TIOCSWINSZ, struct.pack("HHHH", 200, 1000, 0, 0))
         self.heard = ""
 
@@ -136,7 +136,7 @@ class Terminal:
         while not (found := re.search(pattern, self.heard, re.S)):
             ready, _, _ = select.select([self.end], [], [], max(0, last - time.monotonic()))
             if not ready:
-                raise TimeoutError(f"in {SECONDS} s bash has said {self.heard[-1000:]!r}")
+                raise TimeoutError(f"in {SECONDS} s the shell has said {self.heard[-1000:]!r}")
             self.heard += os.read(self.end, 1 << 16).decode()
         before, self.heard = self.heard[:found.start()], self.heard[found.end():]
         return before, found
@@ -163,7 +163,7 @@ def main():
     with tempfile.TemporaryDirectory() as folder:
         with open(os.path.join(folder, "keys"), "w", encoding="utf-8") as file:
             file.write(KEYS)
-        terminal = Terminal(folder)
+        terminal = Terminal(folder, "bash", "--norc", "--noprofile", "-i")
         try:
             terminal.read(PROMPT)
             terminal.write(f"source ./keys; source '{SCRIPT}'; echo so far''\r")

@@ -71,6 +71,8 @@ def shared_part():
         add_file(tree, path, path)
     add_file(tree, "share/man/man1/sgb.1", "man/sgb.1")
     add_file(tree, "share/bash-completion/completions/sgb", "completions/sgb.bash")
+    add_file(tree, "share/zsh/site-functions/_sgb", "completions/_sgb")
+    add_file(tree, "share/fish/vendor_completions.d/sgb.fish", "completions/sgb.fish")
     for name in "INSTALL.md", "CALLING_FROM_C.md", "GRAPHBASE.md", "COOKBOOK.md", "RECIPES.md":
         add_file(tree, "share/doc/sgb/" + name, "docs/" + name)
     for path in tracked("examples") + tracked("conformance"):

@@ -1,5 +1,6 @@
 """Checks of what stands around the program, for checks/outside.py: the table of conformance/, pages, and scripts."""
 
+import filecmp
 import importlib.util
 import os
 import re
@@ -170,19 +171,46 @@ def carets(runs, tally):
 
 
 def completion(runs, tally):
-    """The script that tries the completion; its forms are those of the manual page."""
-    with open(os.path.join(TOP, "completions", "sgb.bash"), encoding="utf-8") as file:
-        offered = re.findall(r"^    '([a-z_]+)[('].*$", file.read(), re.M)
+    """The scripts that try the completions; their forms are those of the manual page, with the same arguments in each."""
+    offered = {}
+    for name in "sgb.bash", "_sgb", "sgb.fish":
+        with open(os.path.join(TOP, "completions", name), encoding="utf-8") as file:
+            offered[name] = re.findall(r"^    '([a-z_]+(?:\(.*\))?)'(?: \\)?$", file.read(), re.M)
     with open(os.path.join(TOP, "man", "sgb.1"), encoding="utf-8") as file:
         page = file.read().partition(".Sh EXPRESSIONS")[2].partition(".Ss ")[0]
     forms = [name for line in re.findall("^\\.It Li (.*)$", page, re.M) for name in re.findall(r"([a-z_]+)(?:\(|$)", line)]
-    tally.same("the forms of completions/sgb.bash", sorted(offered), sorted(forms))
+    for name, found in offered.items():
+        tally.same(f"the forms of completions/{name}", sorted(form.partition("(")[0] for form in found), sorted(forms))
+        tally.same(f"their arguments in completions/{name}", found, offered["sgb.bash"])
+    status, out, err = script("completions/others_test.py")
+    print(*re.findall(r"^  skipped.*\n", out.decode(), re.M), sep="", end="")
+    tally.check(status == 0 and re.search(rb"^[0-9]+ passed, 0 failed\n\Z", out, re.M) and not err, "others_test.py gave", (status, out, err))
     if not shutil.which("bash"):
         print("  skipped, without bash: completions/sgb_test.bash")
         return
     status, out, err = script("bash", "completions/sgb_test.bash")
     is_right = re.fullmatch(rb"[1-9][0-9]* passed, 0 failed\n", out)
     tally.check(status == 0 and is_right and not err, "completions/sgb_test.bash gave", (status, out, err))
+
+
+def installed(runs, tally):
+    """What make install puts below a prefix beside the library, and that make uninstall takes it away."""
+    wanted = {
+        "bin/sgb": runs.program, "share/man/man1/sgb.1": "man/sgb.1", "share/bash-completion/completions/sgb": "completions/sgb.bash",
+        "share/zsh/site-functions/_sgb": "completions/_sgb", "share/fish/vendor_completions.d/sgb.fish": "completions/sgb.fish",
+    }
+    prefix = os.path.join(runs.folder, "a prefix")
+    words = ["make", "-s", "-C", TOP, "PREFIX=" + prefix, "PROGRAM=" + runs.program]
+    # a make that this one runs in has no orders for it
+    environment = {name: value for name, value in os.environ.items() if not name.startswith("MAKE")}
+    for target in "install", "uninstall":
+        got = subprocess.run([*words, target], env=environment, stdin=subprocess.DEVNULL, capture_output=True, check=False)
+        tally.same(f"make {target}", (got.returncode, got.stdout, got.stderr), (0, b"", b""))
+        for name, path in wanted.items() if target == "install" else ():
+            there, path = os.path.join(prefix, name), os.path.join(TOP, path)
+            tally.check(os.path.exists(there) and filecmp.cmp(there, path, shallow=False), "make install has no", name)
+    left = [name for _, _, names in os.walk(prefix) for name in names]
+    tally.check(not left, "make uninstall leaves", left)
 
 
 def drawings(shell_of):
@@ -229,5 +257,6 @@ def all_checks(document, shell_of):
     yield "bad expressions", bad_expressions
     yield "carets", carets
     yield "completion", completion
+    yield "installed", installed
     yield "gallery", gallery
     yield "gallery drawings", drawings(shell_of)
