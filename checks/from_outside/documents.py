@@ -97,15 +97,16 @@ class Shell:
         return got.returncode, got.stdout, got.stderr
 
     def owner_of(self, command):
-        """Who has the tools of the command, `nobody` or else whoever this is; or None, and a line says so."""
-        tools = set(TOOL.findall(command)) | ({"bash"} if "<(" in command else set())
-        for owner in (self.owner, {}):
-            if all(self.run(f"command -v {tool}", owner)[0] == 0 for tool in tools):
-                if owner != self.owner:
-                    print(f"  not by {self.owner['user']}, who has no {' and '.join(sorted(tools))}: {command}")
-                return owner
-        print(f"  skipped, without {' and '.join(sorted(tools))}: {command}")
-        return None
+        """Who gives the command: `nobody`, or who has tools of its own for it; or None, and a line says so."""
+        tools = sorted(set(TOOL.findall(command)) | ({"bash"} if "<(" in command else set()))
+        theirs, own = ([self.run(f"command -v {tool}", owner) for tool in tools] for owner in (self.owner, {}))
+        if any(found[0] != 0 for found in own):
+            print(f"  skipped, without {' and '.join(tools)}: {command}")
+            return None
+        if theirs == own:
+            return self.owner
+        print(f"  not by {self.owner['user']}, who has not this {' and '.join(tools)}: {command}")
+        return {}
 
     def write(self, name, lines):
         """A file that is written by hand, as a page shows it."""
