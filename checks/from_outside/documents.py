@@ -1,8 +1,8 @@
 """What the documents say: their commands, the manual page, the version.
 
 The commands of a page are given where it says, at the top of a repository: in a copy of this one as git has it, with the
-programs and libraries that a build leaves there. Where root makes the checks, the user `nobody` gives the commands, who has
-no right to any other folder; a script in the place of the program has to be one that `nobody` can run.
+programs and libraries that a build leaves there. Where root makes the checks, the user `nobody` gives the commands, to whom
+no other folder belongs; a script in the place of the program has to be one that `nobody` can run.
 """
 
 import os
@@ -41,8 +41,10 @@ def commands(path):
 def repository():
     """The files of this repository: what git has, or where it has none of this folder, what no build left; of the crates, in
     which no page has a command, their pages alone."""
-    listed = subprocess.run(["git", "ls-files", "-z"], cwd=TOP, capture_output=True, check=False).stdout.decode()
-    found = [name for name in listed.split("\0") if name and os.path.lexists(os.path.join(TOP, name))]
+    listed = b""
+    if shutil.which("git"):
+        listed = subprocess.run(["git", "ls-files", "-z"], cwd=TOP, capture_output=True, check=False).stdout
+    found = [name for name in listed.decode().split("\0") if name and os.path.lexists(os.path.join(TOP, name))]
     if not found:
         for folder, folders, names in os.walk(TOP):
             folders[:] = [name for name in folders if name not in ("out", "dist", "target", "__pycache__", ".git")]
