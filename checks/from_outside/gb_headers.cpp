@@ -11,24 +11,13 @@
 #include <iterator>
 #include <map>
 #include <memory>
-#include <numeric>
-#include <random>
-#include <regex>
-#include <set>
-#include <sstream>
 #include <string>
-#include <thread>
-#include <unordered_map>
 #include <vector>
 
 #if __cplusplus >= 202002L
 #include "sgb.hpp"
 #endif
 #if __cplusplus >= 201703L
-#include <filesystem>
-#include <optional>
-#include <string_view>
-#include <variant>
 static bool has_none(const std::string &s) { return std::empty(s); }
 #else
 static bool has_none(const std::string &s) { return s.empty(); }

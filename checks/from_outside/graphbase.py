@@ -134,7 +134,7 @@ def symbols(runs, tally):
 
 
 def in_cpp(runs, tally):
-    """The headers before those of C++ and sgb.hpp, in each C++ from C++11 on."""
+    """The headers before those of C++ and sgb.hpp, which wants the last of these languages."""
     if not shutil.which("c++"):
         print("  skipped, without c++: checks/from_outside/gb_headers.cpp")
         return
@@ -142,7 +142,7 @@ def in_cpp(runs, tally):
         return
     source, path = os.path.join(TOP, "checks/from_outside/gb_headers.cpp"), os.path.join(runs.folder, "gb_headers")
     libraries = [os.path.join(TOP, name) for name in ("libgb.a", "libsgb.a")]
-    for standard in "-std=c++11", "-std=c++14", "-std=c++17", "-std=c++20":
+    for standard in "-std=c++11", "-std=c++17", "-std=c++20":
         words = ["c++", standard, "-pedantic", "-Wall", "-Wextra", "-Werror", *INCLUDES, source, *libraries, "-o", path]
         got = c_library.ran(*words)
         tally.check(got == (0, b"", b""), " ".join(words), "gave", got[0], got[2][:1000])
