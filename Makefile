@@ -1,4 +1,5 @@
-# make try        a quick look: a request from the sources, nothing proved, about a minute: make try WORDS='list "petersen()"'
+# make quick      a first look: the programs and the library for C in out/quick, compiled from the sources, nothing proved, in
+#                 some two minutes
 # make            proves every crate, builds the programs, leaves them as ./sgb and ./sgb_levels
 # make demo       that, and three small graphs
 # make examples   tries the examples: forms of listings, by the readers installed, and back, Python, parts of a listing, the
@@ -10,7 +11,7 @@
 # make gallery    makes the pictures of docs/GALLERY.md and compares them with those that are kept
 # make calls      refuses memory to library calls: what stood before stands after, about a minute
 # make library    calls of the libraries with values from outside, many of them as tables, about two minutes
-# make test       what runs without a proof, on programs and a library that are built unproved, in some five minutes
+# make test       what runs without a proof, on what make quick leaves, in some five minutes
 # make check      the gate: all proofs from nothing, must-fail edits, the tests, the program
 # make edits      tries the must-fail edits that the gate leaves out, on a copy
 # make lib        proves the library for C, and leaves libsgb.a and libsgb.so, and libgb.a with GraphBase's own calls (lib.mk)
@@ -25,7 +26,6 @@
 # make clean      removes what was built, and with it what is kept of proofs
 
 PREFIX ?= /usr/local
-WORDS ?= names "board(2,3,0,0,1,0,0)"
 
 PROGRAM = crates/sgb_cli/out/sgb_cli
 
@@ -35,9 +35,8 @@ toolchain:
 	@command -v rt > /dev/null || \
 	  { echo "make: there is no command rt on the path: the Rattle toolchain is needed (README.md)" >&2; exit 1; }
 
-try: toolchain
-	@echo "Unproved: compiled from the sources as they stand, about a minute. make proves them." >&2
-	@cd crates/sgb_cli && rt try -- $(WORDS)
+quick: toolchain
+	@checks/quick.py
 
 sgb: toolchain FORCE
 	@checks/prove.py sgb_cli sgb_levels
@@ -113,7 +112,7 @@ clean:
 
 FORCE:
 
-.PHONY: all toolchain try demo examples outside conformance graphbase gallery calls library test check edits install uninstall \
+.PHONY: all toolchain quick demo examples outside conformance graphbase gallery calls library test check edits install uninstall \
   clean FORCE
 
 include lib.mk

@@ -20,7 +20,7 @@ import sys
 import tempfile
 import time
 
-import unproved
+import quick
 from laying import lay
 
 FAILS = 2000  # as in checks/calls/main.in
@@ -91,7 +91,7 @@ def compiled(folder):
     own = os.path.join(folder, "tmp")
     os.mkdir(own)
     # a check of names beside it would take as long as the rest
-    rt = os.environ.get("RT") or unproved.shadow(unproved.toolchain(), "tries", folder)
+    rt = os.environ.get("RT") or quick.shadow(quick.toolchain(), "tries", folder)
     words = [rt, "try", "--steps", "1", "--fail-alloc", str(FAILS)]
     with open(os.path.join(folder, "said"), "w+") as said:
         tried = subprocess.Popen(

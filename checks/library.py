@@ -15,7 +15,7 @@ import subprocess
 import sys
 import tempfile
 
-import unproved
+import quick
 from laying import lay
 
 TEST = re.compile(r"^test (\S+) \.\.\. (.*)$", re.MULTILINE)
@@ -26,7 +26,7 @@ def main():
     with tempfile.TemporaryDirectory() as folder:
         crate = lay(folder, "library", ["sgb", "sgb_arrays"])
         # a check of names beside it would take as long as the rest
-        rt = os.environ.get("RT") or unproved.shadow(unproved.toolchain(), "tries", folder)
+        rt = os.environ.get("RT") or quick.shadow(quick.toolchain(), "tries", folder)
         own = os.path.join(folder, "tmp")
         os.mkdir(own)
         got = subprocess.run(

@@ -386,9 +386,6 @@ CALLED = {"malloc", "realloc", "free", "memcpy", "memmove", "memset"}
 
 def exports(runs, tally):
     """libsgb.so and libsgb.a show the calls of sgb.h and no others, and call what sgb.h says."""
-    if not shutil.which("nm"):
-        print("  skipped, without nm: the symbols of libsgb.so")
-        return
     if not is_there(tally, "libsgb.so"):
         return
     got = subprocess.run(["nm", "-D", "--defined-only", os.path.join(TOP, "libsgb.so")], capture_output=True, check=False)

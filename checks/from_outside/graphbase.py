@@ -151,6 +151,7 @@ def in_cpp(runs, tally):
 
 
 def has_boost():
+    """Whether Boost's graphs are there."""
     words = ["c++", "-DSGB_GRAPHBASE_STUBS", INCLUDES[0], "-fsyntax-only", "-x", "c++", "-"]
     return shutil.which("c++") and c_library.ran(*words, given=b"#include <boost/graph/stanford_graph.hpp>\n")[0] == 0
 
@@ -159,7 +160,10 @@ def page(document):
     def checks(runs, tally):
         """The commands of docs/GRAPHBASE.md give what stands there; without Boost's graphs, those that want none."""
         if c_library.is_there(tally, "libsgb.a", "libgb.a"):
-            document("docs/GRAPHBASE.md", 8, [] if has_boost() else ["boost_distances", "./distances"])(runs, tally)
+            left_out = [] if has_boost() else ["boost_distances", "./distances"]
+            if left_out:
+                print("  skipped, without Boost's graphs: examples/graphbase/boost_distances.cpp")
+            document("docs/GRAPHBASE.md", 8, left_out)(runs, tally)
 
     return checks
 

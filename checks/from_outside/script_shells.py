@@ -67,4 +67,7 @@ def awks():
     found = [name for name in ("mawk", "gawk", "original-awk") if shutil.which(name)]
     if shutil.which("busybox") and not subprocess.run(["busybox", "awk", ""], capture_output=True).returncode:
         found.append("busybox awk")
+    for name in ("mawk", "gawk", "original-awk", "busybox awk"):
+        if name not in found:
+            print(f"  skipped, without {name}: the scripts of awk by it")
     return found or ["awk"]
