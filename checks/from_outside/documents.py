@@ -102,8 +102,9 @@ class Shell:
         """Who gives the command: `nobody`, or who has tools of its own for it; or None, and a line says so."""
         tools = sorted(set(TOOL.findall(command)) | ({"bash"} if "<(" in command else set()))
         theirs, own = ([self.run(f"command -v {tool}", owner) for tool in tools] for owner in (self.owner, {}))
-        if any(found[0] != 0 for found in own):
-            print(f"  skipped, without {' and '.join(tools)}: {command}")
+        missing = [tool for tool, found in zip(tools, own) if found[0] != 0]
+        if missing:
+            print(f"  skipped, without {missing[0]}: {command}")
             return None
         if theirs == own:
             return self.owner
