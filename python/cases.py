@@ -106,8 +106,9 @@ def edges(graph):
 def handed(words):
     """The arcs or edges in what igraph is handed."""
     (name, lengths), = words["edge_attrs"].items()
-    assert name == "weight" and len(lengths) == len(words["edges"]), words
-    return [(*ends, length) for ends, length in zip(words["edges"], lengths)]
+    edges = list(words["edges"])
+    assert name == "weight" and len(lengths) == len(edges), words
+    return [(*ends, length) for ends, length in zip(edges, lengths)]
 
 
 def vertices(text):

@@ -8,6 +8,8 @@ import pathlib
 import pickle
 import pydoc
 import re
+import subprocess
+import sys
 import tempfile
 import threading
 import types
@@ -15,11 +17,24 @@ import unittest
 import unittest.mock
 
 from cases import (
-    BOARD, EDGES, FILE, GRAPHS, HERE, LOOPS, NO_EDGES, UNDIRECTED, arcs, edges, listing, numpy, refused, said,
+    BOARD, EDGES, FILE, GRAPHS, HERE, LOOPS, NO_EDGES, UNDIRECTED, arcs, edges, installed, listing, numpy, refused, said,
 )
 
 import sgb
 from sgb import _graph, _library, _lookups, _names
+
+CHECKED = """\
+import numpy
+import sgb
+ends = numpy.array([0, 1], dtype="uint32")
+graph = sgb.from_arrays(ends, ends[::-1], numpy.array([1, 2]))
+graph = sgb.from_csr(numpy.array([0, 1, 1]), ends[:1], names=graph.names())
+graph = sgb.from_csr(graph.starts, graph.tips, graph.lengths, graph.names())
+graph = sgb.from_arrays([0], (1,), n=2)
+graph = sgb.from_edges(numpy.array([[0, 1]]))
+graph = sgb.from_arrays(0, ends)  # wrong
+graph = sgb.from_csr(ends, None)  # wrong
+"""
 
 
 class Handles(unittest.TestCase):
@@ -308,3 +323,16 @@ class Python(unittest.TestCase):
             names = call.__code__.co_varnames[: call.__code__.co_argcount]
             wanted = {name for name in names if name != "self"} | {"return"}
             self.assertEqual(wanted - set(call.__annotations__), set(), call)
+
+    @unittest.skipUnless(numpy and installed("mypy"), "without mypy and numpy")
+    def test_checked(self):
+        """mypy has nothing against the package, nor against what its pages say of arrays; what is none it refuses."""
+        with tempfile.TemporaryDirectory() as folder:
+            path = os.path.join(folder, "arrays.py")
+            with open(path, "w", encoding="ascii") as file:
+                file.write(CHECKED)
+            words = ["--cache-dir=/dev/null", "--config-file=", "--ignore-missing-imports", path, os.path.dirname(sgb.__file__)]
+            found = subprocess.run([sys.executable, "-m", "mypy", *words], capture_output=True, check=False,
+                                   env={**os.environ, "MYPYPATH": HERE}).stdout.decode()
+        wrong = [number for number, line in enumerate(CHECKED.splitlines(), 1) if line.endswith("# wrong")]
+        self.assertEqual(re.findall(r"^(.*?):(\d+): error", found, re.M), [(path, str(number)) for number in wrong], found)

@@ -2,7 +2,10 @@
 
 import collections
 import gc
+import random
+import re
 import sys
+import time
 import types
 import unittest
 import unittest.mock
@@ -11,6 +14,19 @@ from cases import EDGES, GRAPHS, NO_EDGES, PROGRAM, UNDIRECTED, arcs, edges, han
 
 import sgb
 import sgb_graph
+from sgb import _others
+
+WIDE = "board(500,500,0,0,1,0,0)"
+
+
+def least_time(call):
+    """The processor's time that a call takes, in the best of some."""
+    times = []
+    for _ in range(3):
+        begin = time.process_time()
+        call()
+        times.append(time.process_time() - begin)
+    return min(times)
 
 
 class Others(unittest.TestCase):
@@ -114,6 +130,25 @@ class Others(unittest.TestCase):
             self.assertEqual(graph.to_networkx(multi=True).number_of_edges(), len(graph.tips))
         self.assertTrue(gc.isenabled())
 
+    @unittest.skipUnless(installed("networkx"), "without networkx")
+    def test_networkx_loops(self):
+        """A product of loops has edges twice; what the refusal names has them once, as networkx has."""
+        import networkx
+
+        looped, path = networkx.Graph([(0, 0), (0, 1)]), networkx.Graph([(0, 0), (0, 1), (1, 2)])
+        for kind, wanted in ("direct", networkx.tensor_product(looped, path)), ("strong", networkx.strong_product(looped, path)):
+            made = sgb.product(sgb.from_networkx(looped), sgb.from_networkx(path), kind)
+            with self.assertRaisesRegex(ValueError, r"parallel edges: multi=True keeps them, and sgb.gunion\(g, g\) has one"):
+                made.to_networkx(undirected=True)
+            self.assertGreater(made.to_networkx(multi=True, undirected=True).number_of_edges(), wanted.number_of_edges())
+            once = sgb.gunion(made, made).to_networkx(undirected=True)
+            self.assertEqual({frozenset(edge) for edge in once.edges()},
+                             {frozenset(3 * u + v for u, v in edge) for edge in wanted.edges()})
+            with self.assertRaisesRegex(ValueError, r"parallel arcs: .* sgb.gunion\(g, g, directed=True\) has one of each$"):
+                made.to_networkx()
+            arcs = sgb.gunion(made, made, directed=True).to_networkx()
+            self.assertEqual(arcs.number_of_edges(), wanted.to_directed().number_of_edges())
+
     def test_edges(self):
         """The edges that igraph is handed, where it is not installed either: those of sgb_graph.py, in its order."""
         with unittest.mock.patch.dict(sys.modules, igraph=types.SimpleNamespace(Graph=dict)):
@@ -137,6 +172,36 @@ class Others(unittest.TestCase):
                     with self.assertRaisesRegex(ValueError, "is no edge"):
                         graph.to_igraph(undirected=True)
                     self.assertEqual(collections.Counter(handed(graph.to_igraph())), arcs(graph))
+
+    def test_paired(self):
+        """What arrays of numpy pair is what is paired arc by arc, and what is refused is so too."""
+        dice, refused = random.Random(2), 0
+        for _ in range(1000):
+            n, lengths = dice.randint(1, 4), dice.choice([[1], [1, 2], [1, -3, 2**62]])
+            ends = [dice.choices(range(n), k=2) if dice.randrange(2) else [dice.randrange(n)] * 2 for _ in range(dice.randint(0, 9))]
+            arcs = [(*one, length) for v, tip in ends for length in [dice.choice(lengths)] for one in ((v, tip), (tip, v))]
+            dice.shuffle(arcs)
+            graph = sgb.from_edges(arcs[dice.randrange(2) * dice.randrange(4) :], n, directed=True)
+            try:
+                wanted = _others.paired(graph.arcs())
+            except ValueError as why:
+                refused += 1
+                with self.assertRaisesRegex(ValueError, re.escape(str(why).rpartition(":")[0])):
+                    graph.edges()
+                continue
+            slow = {"side_effect": AssertionError} if numpy else {"wraps": _others.paired}
+            with unittest.mock.patch.object(_others, "paired", **slow):
+                self.assertEqual(graph.edges(), wanted)
+        self.assertTrue(200 < refused < 800, refused)
+
+    def test_advice(self):
+        """A refusal names a way out that the call has."""
+        graph = sgb.graph("transitive(3)")
+        with self.assertRaisesRegex(ValueError, r": arcs\(\) has it as it is$"):
+            graph.edges()
+        if installed("networkx"):
+            with self.assertRaisesRegex(ValueError, ": without undirected=True arcs are kept as they are$"):
+                graph.to_networkx(undirected=True)
 
     @unittest.skipUnless(numpy and installed("scipy"), "without scipy")
     def test_scipy(self):
@@ -177,3 +242,16 @@ class Others(unittest.TestCase):
                 self.assertEqual([(*sorted(e.tuple), e["weight"]) for e in made.es], edges(graph))
                 self.assertEqual(made.vs["name"] if graph.n else [], graph.names())
                 self.assertFalse(made.is_directed())
+
+    @unittest.skipUnless(numpy and installed("igraph"), "without igraph and numpy")
+    def test_igraph_time(self):
+        """What igraph takes for lists that are there already is no small part of it all."""
+        import igraph
+
+        for undirected in (False, True):
+            made = sgb.graph(WIDE).to_igraph(undirected)
+            words = {"n": made.vcount(), "edges": made.get_edgelist(), "directed": not undirected,
+                     "vertex_attrs": {"name": made.vs["name"]}, "edge_attrs": {"weight": made.es["weight"]}}
+            own = least_time(lambda words=words: igraph.Graph(**words))
+            whole = least_time(lambda undirected=undirected: sgb.graph(WIDE).to_igraph(undirected))
+            self.assertLess(whole, (6 if undirected else 4) * own)

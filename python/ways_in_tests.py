@@ -263,6 +263,19 @@ class Networkx(unittest.TestCase):
         with self.assertRaisesRegex(ValueError, "printable ASCII"):
             sgb.from_networkx(networkx.Graph([(0, 'a"b')]))
         self.assertEqual(sgb.from_networkx(networkx.Graph([(0, 1, {"far": 5})]), weight="far").lengths.tolist(), [5, 5])
+        for given in (5, [(0, 1)], sgb.graph("petersen()")):
+            with self.assertRaisesRegex(TypeError, "^a graph of networkx is wanted, and this is (int|list|sgb.Graph)$"):
+                sgb.from_networkx(given)
+
+    def test_numbers(self):
+        """Nodes whose texts are no names are told by their numbers."""
+        import networkx
+
+        towns = networkx.Graph([("Z\u00fcrich", "K\u00f6ln"), ("K\u00f6ln", 'a"b')])
+        with self.assertRaisesRegex(ValueError, "printable ASCII"):
+            sgb.from_networkx(towns)
+        seen = sgb.from_networkx(towns, names=False)
+        self.assertEqual((seen.names(), seen.edges()), (["0", "1", "2"], [(0, 1, 1), (1, 2, 1)]))
 
 
 class Igraph(unittest.TestCase):
@@ -285,12 +298,17 @@ class Igraph(unittest.TestCase):
         bare = self.igraph.Graph(n=3, edges=[(0, 2), (1, 1)])
         self.assertEqual(sgb.from_igraph(bare).edges(), [(0, 2, 1), (1, 1, 1)])
         self.assertEqual(sgb.from_igraph(bare).names(), ["0", "1", "2"])
+        bare.vs["name"] = ["K\u00f6ln", "b", "c"]
+        self.assertEqual(sgb.from_igraph(bare, names=False).names(), ["0", "1", "2"])
 
     def test_refused(self):
         with self.assertRaisesRegex(ValueError, "the length of an arc"):
             sgb.from_igraph(self.igraph.Graph(n=2, edges=[(0, 1)], edge_attrs={"weight": [1.5]}))
         far = self.igraph.Graph(n=2, edges=[(0, 1)], edge_attrs={"far": [5]})
         self.assertEqual(sgb.from_igraph(far, weight="far").lengths.tolist(), [5, 5])
+        for given in (5, {0: [1]}, sgb.graph("petersen()")):
+            with self.assertRaisesRegex(TypeError, "^a graph of igraph is wanted, and this is (int|dict|sgb.Graph)$"):
+                sgb.from_igraph(given)
 
 
 class Scipy(unittest.TestCase):
@@ -320,6 +338,9 @@ class Scipy(unittest.TestCase):
             sgb.from_scipy(self.sparse.coo_matrix(([1], ([0], [1])), shape=(2, 2)), directed=False)
         with self.assertRaisesRegex(ValueError, "the length of an arc"):
             sgb.from_scipy(self.sparse.coo_matrix(([1.5], ([0], [1])), shape=(2, 2)))
+        for given in (sgb._library.numpy.eye(2), [[0, 1], [1, 0]]):
+            with self.assertRaisesRegex(TypeError, "^a sparse matrix of scipy is wanted, and this is (numpy.ndarray|list)$"):
+                sgb.from_scipy(given)
         # floating numbers that are integers will do
         seen = sgb.from_scipy(self.sparse.coo_matrix(([2.0, 3.0], ([0, 1], [1, 1])), shape=(2, 2)))
         self.assertEqual(list(seen.arcs()), [(0, 1, 2), (1, 1, 3)])

@@ -373,7 +373,7 @@ class Graph:
 
         ValueError where the arcs are no edges: an edge is two arcs of one length, there and back, and so is a loop.
         (Arcs that by chance come so are taken for edges.) """
-        return _others.paired(self.arcs())
+        return list(zip(*_others.columns(self, True, "arcs() has it as it is")))
 
     to_scipy, to_networkx, to_igraph = _others.to_scipy, _others.to_networkx, _others.to_igraph
     complement, lines = _operations.complement, _operations.lines

@@ -147,14 +147,15 @@ def product(first: Graph, second: Graph, kind: Union[str, SupportsIndex] = "cart
         They stay open and as they are. One graph may be both.
     kind : str or int
         "cartesian": a step in one of the graphs; "direct": in both (networkx's tensor_product); "strong": in one or both.
-        Or GB_BASIC's number: 0, an odd one, another even one.
+        Or GB_BASIC's number: 0, an odd one, another even one. An arc has the length of its step, of two steps the lesser one.
     directed : bool
         As for `gunion`.
 
     Returns
     -------
     Graph
-        Vertex u * len(second) + v is the pair of u and v, with a comma between the names.
+        Vertex u * len(second) + v is the pair of u and v, with a comma between the names. A loop is two arcs: where it meets
+        an edge there are two edges, direct or strong, and networkx has one. `gunion(g, g)` has one of each.
 
     Raises
     ------

@@ -4,7 +4,9 @@ from __future__ import annotations
 
 import contextlib
 import gc
-from typing import TYPE_CHECKING, Any, Iterable, Iterator, Sequence, Tuple
+from typing import TYPE_CHECKING, Any, Iterable, Iterator, List, Sequence, Tuple
+
+from . import _events
 
 if TYPE_CHECKING:
     import igraph
@@ -15,6 +17,7 @@ if TYPE_CHECKING:
 
 # (v, tip, length)
 Arc = Tuple[int, int, int]
+Columns = Tuple[List[int], List[int], List[int]]
 
 
 @contextlib.contextmanager
@@ -29,7 +32,7 @@ def _uncollected() -> Iterator[None]:
             gc.enable()
 
 
-def paired(arcs: Iterable[Arc]) -> list[Arc]:
+def paired(arcs: Iterable[Arc], advice: str = "say directed=True where arcs are meant") -> list[Arc]:
     """Of each edge the arc that comes first: the one of its first end, and the first of the two of a loop."""
     # waiting: the arcs that were met without one back so far, and how often each
     edges: list[Arc] = []
@@ -46,8 +49,50 @@ def paired(arcs: Iterable[Arc]) -> list[Arc]:
             del waiting[back]
     if waiting:
         said = "the arc from vertex %d to vertex %d, length %d, is no edge, since none leads back: "
-        raise ValueError(said % next(iter(waiting)) + "without undirected=True arcs are kept as they are")
+        raise ValueError(said % next(iter(waiting)) + advice)
     return edges
+
+
+def columns(graph: Graph, undirected: bool, advice: str = "without undirected=True arcs are kept as they are") -> Columns:
+    """Where the arcs begin, where they lead, and their lengths; or of each edge the arc that `paired` keeps."""
+    arrays = [_events.tails_of(graph.starts), graph.tips, graph.lengths]
+    if not undirected:
+        return _lists(arrays)
+    places = _places(*arrays) if all(map(_events.is_array, arrays)) else None
+    if places is None:
+        edges = paired(zip(*_lists(arrays)), advice)
+        return [v for v, _, _ in edges], [tip for _, tip, _ in edges], [length for _, _, length in edges]
+    return _lists([array[places] for array in arrays])
+
+
+def _lists(arrays: Iterable[Any]) -> Any:
+    return tuple(array if isinstance(array, list) else array.tolist() for array in arrays)
+
+
+def _places(tails: Any, tips: Any, lengths: Any) -> Any:
+    """The same by arrays of numpy: which arcs `paired` keeps, or None where they are no edges."""
+    numpy = _events.numpy
+    kept = tails < tips
+    # the arcs there and those back, in order of their ends, and then of their lengths
+    there, back = _sorted(tails, tips, lengths, kept), _sorted(tips, tails, lengths, tips < tails)
+    if len(there[0]) != len(back[0]) or not all((one == other).all() for one, other in zip(there, back)):
+        return None
+    # of the two arcs of a loop the first one, wherever that is
+    loops = (tails == tips).nonzero()[0]
+    if len(loops):
+        loops = loops[numpy.lexsort((lengths[loops], tails[loops]))]
+        first, second = loops[::2], loops[1::2]
+        if len(first) != len(second) or (tails[first] != tails[second]).any() or (lengths[first] != lengths[second]).any():
+            return None
+        kept[first] = True
+    return kept.nonzero()[0]
+
+
+def _sorted(small: Any, great: Any, lengths: Any, taken: Any) -> Any:
+    """Ends and lengths of the arcs that are taken, in order."""
+    parts = small[taken], great[taken], lengths[taken]
+    place = _events.numpy.lexsort(parts[::-1])
+    return [part[place] for part in parts]
 
 
 def to_scipy(graph: Graph) -> scipy.sparse.csr_array:
@@ -126,14 +171,15 @@ def _add_arcs(graph: Graph, made: Any, nodes: Sequence[Any]) -> None:
             else:
                 ends[tip] = entering[tip][v] = {0: {"weight": length}}
         if not multi and len(ends) != b - a:
-            raise ValueError("the graph has parallel arcs: multi=True keeps them")
+            said = "multi=True keeps them, and sgb.gunion(g, g, directed=True) has one of each"
+            raise ValueError(f"the graph has parallel arcs: {said}")
 
 
 def _add_edges(graph: Graph, made: Any, nodes: Sequence[Any]) -> None:
     multi = made.is_multigraph()
     # as in _add_arcs, what add_edges_from leaves
     near = made._adj
-    for v, tip, length in graph.edges():
+    for v, tip, length in zip(*columns(graph, True)):
         v, tip = nodes[v], nodes[tip]
         ends = near[v]
         if tip not in ends:
@@ -142,7 +188,7 @@ def _add_edges(graph: Graph, made: Any, nodes: Sequence[Any]) -> None:
         elif multi:
             ends[tip][len(ends[tip])] = {"weight": length}
         else:
-            raise ValueError("the graph has parallel edges: multi=True keeps them")
+            raise ValueError("the graph has parallel edges: multi=True keeps them, and sgb.gunion(g, g) has one of each")
 
 
 def to_igraph(graph: Graph, undirected: bool = False) -> igraph.Graph:
@@ -165,8 +211,8 @@ def to_igraph(graph: Graph, undirected: bool = False) -> igraph.Graph:
     """
     import igraph
 
-    arcs = graph.edges() if undirected else list(graph.arcs())
+    tails, tips, lengths = columns(graph, undirected)
     return igraph.Graph(
-        n=graph.n, edges=[(v, tip) for v, tip, _ in arcs], directed=not undirected, graph_attrs={"name": graph.id},
-        vertex_attrs={"name": list(graph.names())}, edge_attrs={"weight": [length for _, _, length in arcs]},
+        n=graph.n, edges=zip(tails, tips), directed=not undirected, graph_attrs={"name": graph.id},
+        vertex_attrs={"name": list(graph.names())}, edge_attrs={"weight": lengths},
     )

@@ -3,7 +3,7 @@
 from __future__ import annotations
 
 import operator
-from typing import TYPE_CHECKING, Any, Iterable, Optional, Sequence, SupportsIndex
+from typing import TYPE_CHECKING, Any, Iterable, Optional, Sequence, SupportsIndex, Union
 
 from . import _events, _files
 from ._graph import Graph
@@ -11,6 +11,10 @@ from ._graph import Graph
 if TYPE_CHECKING:
     import igraph
     import networkx
+    from numpy.typing import NDArray
+
+    # arrays of numpy are no sequences to a checker of types
+    Numbers = Union[Sequence[Any], NDArray[Any]]
 
 
 def _given(names: Optional[Iterable[str]], events: _events.Events, id: Optional[str]) -> Graph:  # noqa: A002
@@ -111,17 +115,17 @@ def _columns(columns: Sequence[Any], n: Optional[SupportsIndex], names: Optional
     return _events.Events(many, _events.ends(tails, many), _events.ends(tips, many), sizes, bool(directed))
 
 
-def from_arrays(tails: Sequence[Any], tips: Sequence[Any], lengths: Optional[Sequence[Any]] = None,
+def from_arrays(tails: Numbers, tips: Numbers, lengths: Optional[Numbers] = None,
                 n: Optional[int] = None, names: Optional[Sequence[str]] = None, directed: bool = False,
                 id: Optional[str] = None) -> Graph:  # noqa: A002
     """The graph that GraphBase makes of some edges or arcs, one after another: each comes first on the lists of its ends.
 
     Parameters
     ----------
-    tails, tips : sequences of int
+    tails, tips : sequences of int, or arrays of numpy
         Where each begins, and where it leads. Arrays of numpy of type uint32 that have their numbers one after another are
         handed to the library as they are, without a copy.
-    lengths : sequence of int
+    lengths : sequence of int, or array of numpy
         Their lengths, 1 if they are not said. So is an array of int64.
     n, names, directed, id
         As for `from_edges`.
@@ -171,17 +175,17 @@ def _numbered(edges: list[tuple[Any, ...]], names: Optional[Sequence[str]]) -> t
     return made, list(known)
 
 
-def from_csr(starts: Sequence[Any], tips: Sequence[Any], lengths: Optional[Sequence[Any]] = None,
+def from_csr(starts: Numbers, tips: Numbers, lengths: Optional[Numbers] = None,
              names: Optional[Sequence[str]] = None, id: Optional[str] = None) -> Graph:  # noqa: A002
     """The graph of some arrays, such as a graph has.
 
     Parameters
     ----------
-    starts : sequence of n + 1 int
+    starts : sequence of n + 1 int, or array of numpy
         Where the lists begin, and where the last one ends: starts[0] is 0.
-    tips : sequence of int
+    tips : sequence of int, or array of numpy
         Where the arcs lead. The list of vertex v is what stands from starts[v] up to starts[v + 1].
-    lengths : sequence of int
+    lengths : sequence of int, or array of numpy
         The lengths of the arcs, 1 if they are not said.
     names, id
         As for `from_edges`.
@@ -206,17 +210,28 @@ def from_csr(starts: Sequence[Any], tips: Sequence[Any], lengths: Optional[Seque
     return _given(names, _columns([_events.tails_of(places), ends, lengths], n, names, True), id)
 
 
-def from_networkx(graph: networkx.Graph, weight: str = "weight", id: Optional[str] = None) -> Graph:  # noqa: A002
+def _wanted(given: Any, part: str, what: str) -> None:
+    """TypeError where something has not the part by which it is known."""
+    if not hasattr(given, part):
+        kind = f"{type(given).__module__.partition('.')[0]}.{type(given).__name__}"
+        raise TypeError(f"{what} is wanted, and this is {kind.removeprefix('builtins.')}")
+
+
+def from_networkx(graph: networkx.Graph, weight: str = "weight", id: Optional[str] = None,  # noqa: A002
+                  names: bool = True) -> Graph:
     """A graph of networkx.
 
     Parameters
     ----------
     graph : networkx.Graph, DiGraph, MultiGraph or MultiDiGraph
-        Its nodes are the vertices, in its order, and their texts, as `str` has them, the names.
+        Its nodes are the vertices, in its order.
     weight : str
         The attribute of an edge that is its length, 1 where an edge has none.
     id : str
         As for `from_edges`. The name that the graph has in networkx is not taken for an official name.
+    names : bool
+        Whether the names of the vertices are the texts of the nodes, as `str` has them; otherwise they are their numbers, as
+        where nodes are not printable ASCII.
 
     Returns
     -------
@@ -227,23 +242,29 @@ def from_networkx(graph: networkx.Graph, weight: str = "weight", id: Optional[st
     ------
     ValueError
         As `from_edges`.
+    TypeError
+        Where it is no graph of networkx.
     """
+    _wanted(graph, "nbunch_iter", "a graph of networkx")
     place = {node: v for v, node in enumerate(graph)}
     edges = ((place[u], place[v], length) for u, v, length in graph.edges(data=weight, default=1))
-    return from_edges(edges, len(place), [str(node) for node in place], graph.is_directed(), id)
+    return from_edges(edges, len(place), [str(node) for node in place] if names else None, graph.is_directed(), id)
 
 
-def from_igraph(graph: igraph.Graph, weight: str = "weight", id: Optional[str] = None) -> Graph:  # noqa: A002
+def from_igraph(graph: igraph.Graph, weight: str = "weight", id: Optional[str] = None,  # noqa: A002
+                names: bool = True) -> Graph:
     """A graph of igraph.
 
     Parameters
     ----------
     graph : igraph.Graph
-        Its vertices are the vertices, with the names that the attribute `name` has, if there is one.
+        Its vertices are the vertices.
     weight : str
         The attribute of an edge that is its length, 1 where there is none.
     id : str
         As for `from_edges`. The name that the graph has in igraph is not taken for an official name.
+    names : bool
+        Whether the names are those that the attribute `name` has, if there is one; otherwise they are numbers.
 
     Returns
     -------
@@ -254,12 +275,15 @@ def from_igraph(graph: igraph.Graph, weight: str = "weight", id: Optional[str] =
     ------
     ValueError
         As `from_edges`.
+    TypeError
+        Where it is no graph of igraph.
     """
+    _wanted(graph, "get_edgelist", "a graph of igraph")
     ends = graph.get_edgelist()
     lengths = graph.es[weight] if weight in graph.es.attributes() else [1] * len(ends)
-    names = [str(name) for name in graph.vs["name"]] if "name" in graph.vs.attributes() else None
+    called = [str(name) for name in graph.vs["name"]] if names and "name" in graph.vs.attributes() else None
     edges = ((v, tip, length) for (v, tip), length in zip(ends, lengths))
-    return from_edges(edges, graph.vcount(), names, graph.is_directed(), id)
+    return from_edges(edges, graph.vcount(), called, graph.is_directed(), id)
 
 
 def from_scipy(matrix: Any, names: Optional[Sequence[str]] = None, directed: bool = True,
@@ -285,7 +309,10 @@ def from_scipy(matrix: Any, names: Optional[Sequence[str]] = None, directed: boo
     ------
     ValueError
         Where the matrix is not square, or not symmetric if it has to be, or as `from_edges`.
+    TypeError
+        Where it is no sparse matrix: scipy.sparse.csr_array makes one of an array of numpy.
     """
+    _wanted(matrix, "tocsr", "a sparse matrix of scipy")
     rows = matrix.tocsr()
     n = rows.shape[0]
     if rows.shape != (n, n):
