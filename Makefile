@@ -21,7 +21,7 @@
 # make wasm       makes the package for Node and browsers of the proved library, and tests it: dist/sgb-VERSION.tgz (wasm.mk)
 # make page       makes a page of that package, and tests it: dist/page, dist/sgb-page-VERSION.tar.gz (wasm.mk)
 # make install    puts what is built below $(PREFIX), with its manual page and completion for bash, zsh and fish, and the
-#                 library for C where it is there; it builds nothing
+#                 library for C with the package for Python where it is there; it builds nothing
 # make uninstall  takes them away again
 # make clean      removes what was built, and with it what is kept of proofs
 

@@ -4,8 +4,9 @@
 # make lib        proves the library for C, and leaves libsgb.a and libsgb.so beside include/sgb.h, and libgb.a
 # make archives   makes these of what `rt lib` left in crates/sgb_c/out, without a proof
 # make libgb.a    compiles graphbase/: the calls of include/graphbase, in C over sgb.h; nothing of it is proved
-# make install-lib, make uninstall-lib   put them below $(LIBDIR), the headers below $(INCLUDEDIR), sgb.pc and gb.pc, and take
-#                 them away again; nothing is built. make install does so too where the library is there.
+# make install-lib, make uninstall-lib   put them below $(LIBDIR), the headers below $(INCLUDEDIR), sgb.pc and gb.pc, and the
+#                 package for Python below $(PYTHONDIR), and take them away again; nothing is built. make install does so too
+#                 where the library is there.
 # make rows       what the arrays of boards and other graphs cost, beside a plain loop that fills them (bench/rows.c)
 
 # of the calls: that of include/sgb.h
@@ -13,6 +14,7 @@ LIB_VERSION = 1.2.0
 
 LIBDIR ?= $(PREFIX)/lib
 INCLUDEDIR ?= $(PREFIX)/include
+PYTHONDIR ?= $(LIBDIR)/python3/dist-packages
 
 # the name that a program keeps of the shared library: another one where a program of the first numbers runs no more
 SONAME = libsgb.so.$(firstword $(subst ., ,$(LIB_VERSION)))
@@ -48,6 +50,8 @@ libgb.a: $(wildcard graphbase/*.[ch]) $(GB_HEADERS) include/sgb.h
 	rm -f libgb.a && ar rcs libgb.a out_gb/*.o
 	rm -rf out_gb
 
+PYTHON_FILES = $(sort $(wildcard python/sgb/*.py)) python/sgb/py.typed
+
 comma = ,
 # a file of pkg-config: its name, what it is, and the two lines of flags
 pc = printf '%s\n' 'prefix=$(PREFIX)' 'libdir=$(subst $(PREFIX)/,$${prefix}/,$(LIBDIR))' \
@@ -69,6 +73,9 @@ install-lib:
 	done
 	install -D -m 644 libgb.a "$(DESTDIR)$(LIBDIR)/libgb.a"
 	$(call pc,gb,Calls of the Stanford GraphBase over sgb,-lgb -lsgb,/graphbase)
+	mkdir -p "$(DESTDIR)$(PYTHONDIR)/sgb"
+	install -m 644 $(PYTHON_FILES) "$(DESTDIR)$(PYTHONDIR)/sgb"
+	ln -sfr "$(DESTDIR)$(LIBDIR)/$(SONAME)" "$(DESTDIR)$(PYTHONDIR)/sgb/libsgb.so"
 
 uninstall-lib:
 	rm -f "$(DESTDIR)$(INCLUDEDIR)/sgb.h" "$(DESTDIR)$(INCLUDEDIR)/sgb.hpp"
@@ -76,6 +83,9 @@ uninstall-lib:
 	rm -f "$(DESTDIR)$(LIBDIR)/libgb.a" "$(DESTDIR)$(LIBDIR)/pkgconfig/sgb.pc" "$(DESTDIR)$(LIBDIR)/pkgconfig/gb.pc"
 	for header in $(GB_HEADERS); do rm -f "$(DESTDIR)$(INCLUDEDIR)/graphbase/$${header##*/}"; done
 	[ ! -d "$(DESTDIR)$(INCLUDEDIR)/graphbase" ] || rmdir --ignore-fail-on-non-empty "$(DESTDIR)$(INCLUDEDIR)/graphbase"
+	for file in $(notdir $(PYTHON_FILES)) libsgb.so; do rm -f "$(DESTDIR)$(PYTHONDIR)/sgb/$$file"; done
+	rm -rf "$(DESTDIR)$(PYTHONDIR)/sgb/__pycache__"
+	[ ! -d "$(DESTDIR)$(PYTHONDIR)/sgb" ] || rmdir --ignore-fail-on-non-empty "$(DESTDIR)$(PYTHONDIR)/sgb"
 
 # with BOARDS="EXPR .." those graphs alone
 rows: FORCE

@@ -330,7 +330,7 @@ def class_of_cpp(runs, tally):
 
 
 def installed(runs, tally):
-    """A program that finds the installed library by pkg-config; and all of it is taken away again."""
+    """A program that finds the installed library by pkg-config, Python's package; and all of it is taken away again."""
     source = os.path.join(runs.folder, "id.c")
     if not is_there(tally, *LIBRARIES):
         return
@@ -361,6 +361,9 @@ def installed_in(runs, tally, source, name, folder, *places):
             tally.same((path,), seen, (0, b"board(2,0,0,0,-1,0,0)\n", b""))
     else:
         print("  skipped, without pkg-config: a program on the installed library")
+    package = {"PYTHONPATH": os.path.join(libraries, "python3/dist-packages"), "SGB_LIBRARY": "", "PYTHONDONTWRITEBYTECODE": ""}
+    seen = ran(sys.executable, "-c", "import sgb; print(sgb.graph('complete(2)').id)", more=package)
+    tally.same("python3, installed", seen, (0, b"board(2,0,0,0,-1,0,0)\n", b""))
     tally.same("make uninstall-lib", ran("make", "-s", "-C", TOP, "uninstall-lib", *where), (0, b"", b""))
     left = [name for _, _, names in os.walk(prefix) for name in names]
     tally.check(not left, "make uninstall-lib leaves", left)
