@@ -26,9 +26,7 @@ mod FlatBoards
 pub mod GivenArcs
 -- how many lengths a piece moves at most
 pub mod MostLengths
--- by whatever displacement
-pub mod RideLengths
--- how many moves a board has at most
+-- how many moves a board of few displacements has at most
 pub mod MostMoves
 -- how many arcs the edges of a displacement make
 mod BoardListCounts
@@ -154,14 +152,8 @@ pub mod BoardCountsBoards
 pub mod BoardCountsSides
 -- the moves of all lengths together, by a displacement that at most one side stops
 pub mod BoardCountsTotals
--- sums over all vectors of a norm, by their first entries
+-- a row that is written from its first number on
 pub mod NormSums
--- from how many places steps lead to a place, by all vectors of a norm together
-pub mod NormCounts
--- the lengths at which riders are home again, by all vectors of a norm together
-pub mod HomeCounts
--- the moves of a board, by all displacements together
-pub mod NormTotals
 -- when a step around a side is back
 pub mod TimesAround
 pub mod WalkedArcs

@@ -36,10 +36,6 @@ pub mod Rows
 pub mod KeptCounts
 -- from how many places a piece moves by a displacement, at one length
 pub mod BoardCounts
--- the same by all vectors of a norm together
-pub mod NormCounts
--- the lengths at which riders are home again, by all vectors of a norm together
-pub mod HomeCounts
 -- from how many vectors of a simplex a unit goes from one place to another
 pub mod SimplexCounts
 -- how many moves subsets have, vector by vector

@@ -134,12 +134,19 @@ impl Model for DisplacementTable {
 }
 
 impl DisplacementTable {
+    /// How many displacements of so many entries a table has at most.
+    pub(crate) fn most(width: usize) -> usize
+        ensures { result ≤ 49152 }
+    {
+        MOST_ENTRIES / width.max(1)
+    }
+
     /// These displacements, each of so many entries. `None` where they have more than 49,152 entries, or out of memory.
     pub(crate) fn new(alloc: Global, width: usize, left: Displacements) -> Option<DisplacementTable>
         requires small { All (λ t. All (λ e. nat_abs e ≤ most_piece) t) left }
         ensures { IfSome result (λ d. d ≡ left) }
     {
-        let most = MOST_ENTRIES / width.max(1);
+        let most = DisplacementTable::most(width);
         let mut turned = Displacement::new();
         let mut parts = Parts::new();
         let mut turned_parts = Parts::new();

@@ -173,7 +173,7 @@ impl<'a> Listed<'a> for BoardLists<'a> {
     }
 
     fn arcs_count(&self, links: &Links) -> Result<u128, Panic> {
-        self.board.arcs_count(links.alloc())
+        self.board.arcs_count()
     }
 
     fn has_countable_arcs(&self) -> bool {
@@ -240,7 +240,7 @@ impl<'a> Listed<'a> for OrderedBoard<'a> {
     }
 
     fn arcs_count(&self, links: &Links) -> Result<u128, Panic> {
-        self.lists.board.arcs_count(links.alloc())
+        self.lists.board.arcs_count()
     }
 
     fn has_countable_arcs(&self) -> bool {

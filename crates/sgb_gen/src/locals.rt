@@ -74,7 +74,7 @@ impl Local {
         ensures memory { IsOkUnless result Panic.NoRoom }
     {
         match self {
-            Local::Board(board) => board.arcs_count(alloc),
+            Local::Board(board) => board.arcs_count(),
             Local::Simplex(simplex) => simplex.arcs_count(&Links::new(alloc)),
             Local::Subsets(subsets) => Ok(subsets.arcs_count(alloc)),
         }

@@ -213,7 +213,7 @@ fn arcs_counted(alloc: Global, local: &Local) -> Option<u128>
     ensures { IfSome result (λ m. m ≡ (graph_open (OpenGraph.Listed local.now)).m) }
 {
     match local {
-        Local::Board(board) => board.arcs_count(alloc).ok(),
+        Local::Board(board) => board.arcs_count().ok(),
         Local::Simplex(simplex) => simplex.arcs_count(&Links::new(alloc)).ok(),
         Local::Subsets(subsets) => subsets.arcs_by_table(alloc),
     }

@@ -19,12 +19,9 @@ mod counts;
 mod edges;
 mod flat_boards;
 mod given;
-mod home_counts;
 mod kept;
 mod list_counts;
 mod lists;
-mod most_moves;
-mod norm_counts;
 mod ordered_boards;
 mod orders;
 mod progressions;
@@ -190,7 +187,7 @@ impl Board {
     {
         let names = vector_names(alloc, &self.family)?;
         let mut graph = Graph::new(alloc, names)?;
-        graph.reserve(self.records_count(alloc)?)?;
+        graph.reserve(self.records_count()?)?;
         self.add_arcs(&mut graph)?;
         put_coordinates(alloc, &mut graph, &self.family)?;
         graph.set_id(self.id());
@@ -198,12 +195,12 @@ impl Board {
     }
 
     // How many arc records the board's graph has. `NoRoom` where no memory holds so many, and nothing else.
-    fn records_count(&self, alloc: Global) -> Result<usize, Panic>
+    fn records_count(&self) -> Result<usize, Panic>
         ensures count { IfOk result (λ m.
             m ≡ (graph_described (described_by (board_vector_graph self.now))).m) }
         ensures memory { IsOkUnless result Panic.NoRoom }
     {
-        let arcs = self.arcs_count(alloc)?;
+        let arcs = self.arcs_count()?;
         usize::try_from(arcs).map_err(|_great| Panic::NoRoom)
     }
 

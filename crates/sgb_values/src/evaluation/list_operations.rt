@@ -132,7 +132,7 @@ impl Operand {
     // So many arcs are on its lists at most, where that is known at once, and else 0. It is told for room alone.
     fn most_arcs(&self, alloc: Global) -> usize {
         match self {
-            Operand::Listed(Local::Board(board)) => counted(board.arcs_count(alloc)),
+            Operand::Listed(Local::Board(board)) => counted(board.arcs_count()),
             _ => 0,
         }
     }

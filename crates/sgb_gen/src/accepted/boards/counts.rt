@@ -3,12 +3,12 @@
 //! It goes by displacements. Where all sides that one moves on wrap around, each place has as many moves by it as there
 //! are lengths before a rider is home. Where one side does not, the places from which it moves so far fall by equal
 //! steps from length to length, and are added by a formula. Where two or more do not, it goes length by length, of
-//! which there are at most 31,622. Very many displacements are counted together, where they can be (`norm_counts`,
-//! `home_counts`).
+//! which there are at most 31,622.
 //!
 //! A board that wraps around in hundreds of dimensions has more arcs than 128 bits count. The answer is out of memory
 //! then, and exactly then (`great`): such a listing could never be written.
 ghost use Rattle.std.specs.Prelude.{◌≡◌, ◌≢◌, ◌≤◌, ◌<◌, ◌==◌, ℕ, ◌+◌, ◌-◌, ◌*◌, ◌%◌, ◌*ℤ◌, ◌^◌, true, false, length, min, pos, IfOk, IfErr, IfSome, IfNone, IsOkUnless};
+ghost use Rattle.std.specs.Bool.{OnTrue};
 ghost use Rattle.sgb_graph.specs.Made.{graph_described};
 ghost use Rattle.sgb_vec.specs.Boxes.{box, product_of};
 ghost use Rattle.sgb_vec.specs.Limits.{most_vertices};
@@ -20,51 +20,25 @@ ghost use Rattle.sgb_gen.specs.inner.BoardCounts.{starts_on, is_home_on, starts_
 ghost use Rattle.sgb_moves.specs.inner.Moves.{longest_move};
 
 use super::Board;
-use super::norm_counts::FEW_SIDES;
+use crate::displacement_tables::DisplacementTable;
 use sgb_moves::wraps;
 use sgb_vec::{Family, Panic};
-use std::alloc::Global;
-
-// On fewer sides there are few displacements, which are soon walked: at most some hundreds on two.
-const MANY_SIDES: usize = 3;
-
-// A row of counts with no more steps is sooner made than a walk ends: that of each leaper on up to four sides.
-const FEW_STEPS: u64 = 262_144;
-
-// Fewer displacements than these are all walked.
-const FEW_WALKED: u64 = 500;
-
-// A displacement takes as long as so many steps for each number up to the root of the piece.
-const STEPS_WALKED: u64 = 2;
-
-// On more sides than four it takes longer, and there are mostly far more displacements than steps.
-const STEPS_WALKED_ON_MORE: u64 = 64;
-
-// A piece that moves far has few displacements: so many times as many are walked, and a row with so many times as many
-// steps is not made at once.
-const FAR_TIMES: u64 = 8;
 
 impl Board {
-    /// The number of arcs of the board's graph (GB_BASIC, board), where an edge counts as two. It is found by
-    /// displacements, with no arc made: at once for each that moves on at most one side that does not wrap around, and
-    /// length by length for the others. Where they are very many they may be counted together, by a row of numbers, and
-    /// for a rider by a table of the lengths at which it is home, too. A row takes some two steps for each number up to
-    /// the piece on at most four sides, and on more, for each side more, up to the piece times its root: for a piece of
-    /// 131,071 on twelve sides up to a second. Where the piece is 64 or more, and at most 131,071, the row takes 16
-    /// bytes for each number up to the piece. The table has such a row for each divisor of the least common multiple of
-    /// the sizes that wrap around, at most two megabytes together, and beside it room for the places of these lengths,
-    /// which takes less. Where memory is refused, the count goes on without them.
+    /// The number of arcs of the board's graph (GB_BASIC, board), where an edge counts as two. It is found by one
+    /// displacement after another, with no arc made: at once for each that moves on at most one side that does not wrap
+    /// around, and length by length for the others.
     ///
     /// `NoRoom` where the number is 2^128 or more, and nothing else: only a board that wraps around in hundreds of
     /// dimensions has so many arcs, and no time would do to list them.
-    pub fn arcs_count(&self, alloc: Global) -> Result<u128, Panic>
+    pub fn arcs_count(&self) -> Result<u128, Panic>
         ensures count { IfOk result (λ m.
             m ≡ (graph_described (described_by (board_vector_graph self.now))).m) }
         ensures great { IfErr result (λ e.
             2 ^ 128 ≤ (graph_described (described_by (board_vector_graph self.now))).m) }
         ensures memory { IsOkUnless result Panic.NoRoom }
     {
-        let Some(moves) = self.moves_count(alloc) else {
+        let Some(moves) = self.moves_count() else {
             return Err(Panic::NoRoom);
         };
         if self.directed {
@@ -76,47 +50,29 @@ impl Board {
         Ok(arcs)
     }
 
-    // The number of moves, where 128 bits hold it: by a row of counts, where that is soon made, or else by a walk.
-    fn moves_count(&self, alloc: Global) -> Option<u128>
-        ensures some { IfSome result (λ n. n ≡ length (moves_of_board self.now)) }
-        ensures none { IfNone result (2 ^ 128 ≤ length (moves_of_board self.now)) }
+    /// Whether 128 bits are known to hold the number of arcs, since the displacements are as few as a table holds: so
+    /// `arcs_count` tells it. `false` tells nothing.
+    pub fn has_countable_arcs(&self) -> bool
+        ensures { OnTrue result
+            ((graph_described (described_by (board_vector_graph self.now))).m < 2 ^ 128) }
     {
-        if self.is_row_soon_made() {
-            if let Some(moves) = self.moves_by_norms(alloc) {
-                return Some(moves);
+        let mut left = self.displacements();
+        for _passed in 0..DisplacementTable::most(self.family.dims()) + 1 {
+            if !left.advance() {
+                return true;
             }
         }
-        self.moves_walked(alloc)
+        false
     }
 
-    // Whether a row takes so few steps that it is made at once. A rider on three sides has few displacements.
-    fn is_row_soon_made(&self) -> bool {
-        let sides = self.sizes().len();
-        let many = sides > MANY_SIDES || sides == MANY_SIDES && self.piece > 0;
-        let few = if self.moves_far() {
-            FEW_STEPS / FAR_TIMES
-        } else {
-            FEW_STEPS
-        };
-        many && self.row_steps() <= few
-    }
-
-    // The same by a walk over the displacements, or over the first of them, until the row is tried.
-    fn moves_walked(&self, alloc: Global) -> Option<u128>
+    // The number of moves, where 128 bits hold it: those by one displacement after another.
+    fn moves_count(&self) -> Option<u128>
         ensures some { IfSome result (λ n. n ≡ length (moves_of_board self.now)) }
         ensures none { IfNone result (2 ^ 128 ≤ length (moves_of_board self.now)) }
     {
         let mut counted: u128 = 0;
-        let mut walked: u64 = 0;
-        let most = self.most_walked();
         let mut left = self.displacements();
         while let Some(t) = left.front() {
-            if walked == most {
-                if let Some(moves) = self.moves_by_norms(alloc) {
-                    return Some(moves);
-                }
-            }
-            walked = walked.saturating_add(1);
             let Some(more) = self.count_by(t, counted) else {
                 return None;
             };
@@ -124,24 +80,6 @@ impl Board {
             let _some = left.advance();
         }
         Some(counted)
-    }
-
-    // After so many displacements the row is tried.
-    fn most_walked(&self) -> u64 {
-        if self.sizes().len() < MANY_SIDES {
-            return u64::MAX;
-        }
-        let steps = if self.sizes().len() > FEW_SIDES {
-            STEPS_WALKED_ON_MORE
-        } else {
-            STEPS_WALKED
-        };
-        let root = self.piece.unsigned_abs().isqrt();
-        let most = (self.row_steps() / (root * steps + 1)).max(FEW_WALKED);
-        if self.moves_far() {
-            return most.saturating_mul(FAR_TIMES);
-        }
-        most
     }
 
     // A number and that of the moves by the displacement `t` together, where 128 bits hold them: at once where at most

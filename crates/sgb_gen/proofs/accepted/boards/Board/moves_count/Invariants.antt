@@ -4,7 +4,7 @@ use Rattle.sgb_vec.specs.Boxes.{box}
 use Rattle.sgb_gen.specs.Boards.{moves_of_board}
 use Rattle.sgb_gen.specs.inner.LocalBoards.{moves_by}
 use Rattle.sgb_moves.specs.Moves.{sides_of}
-use Rattle.sgb_gen.proofs.accepted.boards.Board.moves_walked.Given as goal
+use Rattle.sgb_gen.proofs.accepted.boards.Board.moves_count.Given as goal
 
 -- the moves by the displacements that are left are still to be counted
 abbrev pub invariant-loop-t : goal.invariant-loop-t

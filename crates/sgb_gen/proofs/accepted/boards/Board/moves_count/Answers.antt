@@ -7,7 +7,7 @@ use Rattle.sgb_moves.specs.Moves.{sides_of}
 use Rattle.sgb_moves.specs.VectorMoves.{Move}
 use Rattle.sgb_gen.proofs.BoundedMoves.{moves_within}
 use Rattle.sgb_moves.proofs.DisplacementWalk.{first_and_others}
-use Rattle.sgb_gen.proofs.accepted.boards.Board.moves_walked.Goals as goal
+use Rattle.sgb_gen.proofs.accepted.boards.Board.moves_count.Goals as goal
 
 pub loop-t-init : goal.loop-t-init
 loop-t-init c = search (rules, moves_within)
