@@ -1,7 +1,7 @@
 -- A displacement with an entry above its bound leads to no place of a board, so the moves of a board are those by the
--- displacements within the bounds. So it is with the bounds of one vector, and what leads from there.
+-- displacements within the bounds.
 use Rattle.std.proofs.lemmas.Nat.{mul-le}
-use Rattle.std.proofs.Common.{◌≡◌, ℕ, zero, suc, ◌+◌, ◌-◌, ◌<◌, ◌≤◌, max, min, ℤ, pos, negsuc, ◌+ℤ◌, ◌*ℤ◌, nat_abs, Bool, true, false, true≢false, ◌&&◌, cond, eqb, ltb, List, [], ◌∷◌, ◌++◌, length, map, replicate, get_or, Option, None, refl, sym, ap, subst, ◌∙◌, inl, inr, arith}
+use Rattle.std.proofs.Common.{◌≡◌, ℕ, zero, suc, ◌+◌, ◌-◌, ◌<◌, ◌≤◌, min, ℤ, pos, negsuc, ◌+ℤ◌, ◌*ℤ◌, nat_abs, Bool, cond, eqb, ltb, List, [], ◌∷◌, ◌++◌, length, map, replicate, get_or, Option, None, refl, sym, ap, subst, ◌∙◌, inl, inr, arith}
 use Rattle.std.specs.List.{filter, flat_map, range_with_len}
 use Rattle.std.specs.Option.{option_map_or}
 use Rattle.std.proofs.lemmas.Bool.{cases_Bool, cases_lt, cond-false, le-ltb, eqb-true}
@@ -9,24 +9,22 @@ use Rattle.std.proofs.lemmas.Bool.Decides.{nat_tests}
 use Rattle.std.proofs.lemmas.Grind.{flat_map-append}
 use Rattle.std.proofs.lemmas.Int.{ints}
 use Rattle.std.proofs.lemmas.List.{get_or-map, get_or-replicate, length-map, length-replicate}
-use Rattle.std.proofs.lemmas.List.Elements.{AllZip-get_or, Contains-get_or}
+use Rattle.std.proofs.lemmas.List.Elements.{Contains-get_or}
 use Rattle.std.proofs.lemmas.List.Folds.{flat_map-map}
 use Rattle.sgb_vec.specs.Boxes.{box}
-use Rattle.sgb_vec.specs.Lexicographic.{IsBelow, IsWithin}
+use Rattle.sgb_vec.specs.Lexicographic.{IsBelow}
 use Rattle.sgb_vec.proofs.BoxPlaces.{IsBelow-from_Contains}
-use Rattle.sgb_vec.proofs.SumMembers.{IsWithin-length}
 use Rattle.sgb_gen.specs.Boards.{BoardData, moves_of_board}
 use Rattle.sgb_moves.specs.Displacements.{signings, sum_of_squares, vectors_of_norm, displacements}
-use Rattle.sgb_moves.specs.inner.EntryBounds.{entry_bound, entry_bounds, near_bound, near_bounds, vectors_within, displacements_within}
-use Rattle.sgb_moves.specs.Moves.{Side, is_bit_set, sides_from_bit, sides_of, within_size, coordinate_on, in_front, is_elsewhere, place, moves_from, board_moves}
-use Rattle.sgb_moves.specs.inner.LaterDisplacements.{is_signed}
+use Rattle.sgb_moves.specs.inner.EntryBounds.{entry_bound, entry_bounds, vectors_within, displacements_within}
+use Rattle.sgb_moves.specs.Moves.{Side, sides_of, within_size, coordinate_on, in_front, is_elsewhere, place, moves_from, board_moves}
 use Rattle.sgb_moves.specs.inner.Moves.{destination, longest_move}
 use Rattle.sgb_gen.specs.inner.LocalBoards.{moves_by}
 use Rattle.sgb_gen.specs.VectorGraphs.{event_among}
 use Rattle.sgb_moves.proofs.AllVectors.{flat_map-same, rows-cut}
 use Rattle.sgb_gen.proofs.BoardEvents.{events_by, events_by-moves, events_of}
 use Rattle.sgb_moves.proofs.Completions.{squares-cons}
-use Rattle.sgb_gen.proofs.DisplacementLengths.{signings-signed, signings-sizes}
+use Rattle.sgb_gen.proofs.DisplacementLengths.{signings-sizes}
 use Rattle.sgb_moves.proofs.NextSignings.{sizes_of}
 use Rattle.sgb_gen.proofs.Reaches.{sizes_of_sides, move, moves_until, moves_from-until}
 use Rattle.sgb_vec.proofs.Lists.{flat_map-none}
@@ -38,66 +36,25 @@ pub length-entry_bounds : (p : ℕ) (sizes : List ℕ) (wrap : ℤ) → length (
 length-entry_bounds p sizes wrap =
     cc (length-map (sides_of sizes wrap) (entry_bound p), length-map (sides_of sizes wrap) (λ s. s.size), sizes_of_sides 0 sizes wrap)
 
--- no entry of a vector's bounds is above that of all
-near_within : (up : Bool) (p k : ℕ) (sizes : List ℕ) (wrap : ℤ) (x : List ℕ) → IsBelow x sizes → IsWithin (near_bounds up p (sides_from_bit k sizes wrap) x) (entry_bounds p (sides_from_bit k sizes wrap))
-near_within up p k [] wrap [] below = tt
-near_within up p k (n ∷ sizes) wrap (z ∷ x) below =
-    (grind (arith, cond, cases_Bool), near_within (up && eqb (near_bound up p (record { size = n; wraps = is_bit_set wrap k }) z) 0) p (k + 1) sizes wrap x below.1)
-near_within up p k _ wrap _ below = absurd below
-
-pub length-near_bounds : (up : Bool) (p : ℕ) (sizes : List ℕ) (wrap : ℤ) (x : List ℕ) → IsBelow x sizes → length (near_bounds up p (sides_of sizes wrap) x) ≡ length sizes
-length-near_bounds up p sizes wrap x below = IsWithin-length _ _ (near_within up p 0 sizes wrap x below) ∙ length-entry_bounds p sizes wrap
-
 -- ---- off the board
 
--- a step longer than the room on both sides leads off it
-off_side : (n z : ℕ) (u : ℤ) → z < n → max z (n - 1 - z) < nat_abs u → within_size n (pos z +ℤ pos 1 *ℤ u) ≡ None
+-- a step as long as the side leads off it
+off_side : (n z : ℕ) (u : ℤ) → z < n → n - 1 < nat_abs u → within_size n (pos z +ℤ pos 1 *ℤ u) ≡ None
 off_side n z u h far = grind (arith, ints, negsuc, cond-false, ltb, le-ltb)
-
--- so does one up that is longer than the room above
-off_above : (n z u : ℕ) → z < n → n - 1 - z < u → within_size n (pos z +ℤ pos 1 *ℤ pos u) ≡ None
-off_above n z u h far = grind (arith, ints, negsuc, cond-false, ltb, le-ltb)
-
--- the first entry other than 0 is positive where the bounds ask for it
-abbrev IsUp : Bool → List ℤ → Type 0
-IsUp up t = up ≡ true → is_signed t ≡ true
-
--- an entry above its bound leads off its side
-entry-off : (up w : Bool) (p n z : ℕ) (u : ℤ) (t : List ℤ) → z < n → IsUp up (u ∷ t) → near_bound up p (record { size = n; wraps = w }) z < nat_abs u → (w ≡ true → nat_abs u ≤ p) → coordinate_on (record { size = n; wraps = w }) (pos z +ℤ pos 1 *ℤ u) ≡ None
-entry-off up true p n z u t below signed far small = absurd (omega (arith, far, small refl))
-entry-off false false p n z u t below signed far small = off_side n z u below far
-entry-off true false p n z (pos u) t below signed far small = off_above n z u below far
-entry-off true false p n z (negsuc u) t below signed far small = absurd (true≢false (sym (signed refl)))
 
 pub in_front-none : (o : Option ℕ) → in_front o None ≡ None
 in_front-none o = grind (arith)
 
--- where the bounds ask for it no more, or the first entry is 0, the others are as the bounds ask for
-up_next : (up : Bool) (p : ℕ) (s : Side) (z : ℕ) (t : List ℤ) → IsUp up (pos 0 ∷ t) → IsUp (up && eqb (near_bound up p s z) 0) t
-up_next true p s z t signed = λ next. signed refl
-up_next false p s z t signed = λ next. absurd (true≢false (sym next))
-
 -- an entry above its bound leads to no place
-place-off : (up : Bool) (p : ℕ) (sides : List Side) (x : List ℕ) (t : List ℤ) (k : ℕ) → IsBelow x (map (λ s. s.size) sides) → k < length sides → IsUp up t → get_or (near_bounds up p sides x) k 0 < nat_abs (get_or t k (pos 0)) → nat_abs (get_or t k (pos 0)) ≤ p → place sides x t 1 ≡ None
-place-off up p [] x t k b h signed far small = absurd (omega arith)
-place-off up p (s ∷ sides) [] t k b h signed far small = absurd b
-place-off up p (s ∷ sides) (z ∷ x) [] k b h signed far small = refl
-place-off up p (s ∷ sides) (z ∷ x) (u ∷ t) zero b h signed far small = ap (λ o. in_front o (place sides x t 1)) (entry-off up s.wraps p s.size z u t b.0 signed far (λ w. small))
-place-off up p (s ∷ sides) (z ∷ x) (pos zero ∷ t) (suc k) b h signed far small =
-    cc (place-off (up && eqb (near_bound up p s z) 0) p sides x t k b.1 (omega arith) (up_next up p s z t signed) far small, in_front-none (coordinate_on s (pos z +ℤ pos 1 *ℤ pos 0)))
-place-off up p (s ∷ sides) (z ∷ x) (u ∷ t) (suc k) b h signed far small =
-    of_next (up && eqb (near_bound up p s z) 0) refl (λ up_there. place-off (up && eqb (near_bound up p s z) 0) p sides x t k b.1 (omega arith) up_there far small)
-  where
-    of_next : (next : Bool) → (up && eqb (near_bound up p s z) 0) ≡ next → (IsUp (up && eqb (near_bound up p s z) 0) t → place sides x t 1 ≡ None) → place (s ∷ sides) (z ∷ x) (u ∷ t) 1 ≡ None
-    of_next false is off = cc (off (λ e. absurd (true≢false (sym e ∙ is))), in_front-none (coordinate_on s (pos z +ℤ pos 1 *ℤ u)))
-    of_next true is off =
-        let both : (up ≡ true) × (near_bound up p s z ≡ 0) = grind (arith, eqb-true, cases_Bool) in
-        elim (cases_lt 0 (nat_abs u)) [
-          | inl some ↦ ap (λ o. in_front o (place sides x t 1)) (entry-off up s.wraps p s.size z u t b.0 signed (omega (arith, both.1, some)) (λ w. absurd (omega (arith, small, far, both.1, ap (λ v. cond v p (cond up (s.size - 1 - z) (max z (s.size - 1 - z)))) w))))
-          | inr none ↦ absurd (omega (arith, none))
-        ]
+place-off : (p : ℕ) (sides : List Side) (x : List ℕ) (t : List ℤ) (k : ℕ) → IsBelow x (map (λ s. s.size) sides) → k < length sides → get_or (entry_bounds p sides) k 0 < nat_abs (get_or t k (pos 0)) → nat_abs (get_or t k (pos 0)) ≤ p → place sides x t 1 ≡ None
+place-off p [] x t k b h far small = absurd (omega arith)
+place-off p (s ∷ sides) [] t k b h far small = absurd b
+place-off p (s ∷ sides) (z ∷ x) [] k b h far small = refl
+place-off p (s ∷ sides) (z ∷ x) (u ∷ t) zero b h far small = grind (arith, off_side)
+place-off p (s ∷ sides) (z ∷ x) (u ∷ t) (suc k) b h far small =
+    cc (place-off p sides x t k b.1 (omega arith) far small, in_front-none (coordinate_on s (pos z +ℤ pos 1 *ℤ u)))
 
-pub until-none : (x : List ℕ) (g : ℕ → Option (List ℕ)) (n : ℕ) → g 1 ≡ None → moves_until x g (range_with_len 1 n) ≡ []
+until-none : (x : List ℕ) (g : ℕ → Option (List ℕ)) (n : ℕ) → g 1 ≡ None → moves_until x g (range_with_len 1 n) ≡ []
 until-none x g zero h = refl
 until-none x g (suc n) h = ap (λ o. option_map_or (λ y. move x 1 y ∷ moves_until x g (range_with_len 2 n)) o []) h
 
@@ -105,26 +62,12 @@ until-none x g (suc n) h = ap (λ o. option_map_or (λ y. move x 1 y ∷ moves_u
 abbrev pub bounds_of : BoardData → List ℕ
 bounds_of b = entry_bounds (nat_abs b.piece) (sides_of b.sizes b.wrap)
 
--- and of one vector's
-abbrev pub near_of : BoardData → List ℕ → List ℕ
-near_of b x = near_bounds b.directed (nat_abs b.piece) (sides_of b.sizes b.wrap) x
-
-pub near_fits : (b : BoardData) (x : List ℕ) → IsBelow x b.sizes → IsWithin (near_of b x) (bounds_of b)
-near_fits b x below = near_within b.directed (nat_abs b.piece) 0 b.sizes b.wrap x below
-
 -- nothing is made by a displacement of piece p with an entry above its bound
 abbrev pub IsOff : {X : Type 0} → ℕ → List ℕ → (List ℤ → List X) → Type 0
-IsOff p bs f = (t : List ℤ) (k : ℕ) → k < length bs → get_or bs k 0 < nat_abs (get_or t k (pos 0)) → nat_abs (get_or t k (pos 0)) ≤ p → is_signed t ≡ true → f t ≡ []
-
--- it leads to no place from the vector
-pub near-off : (b : BoardData) (x : List ℕ) → IsBelow x b.sizes → (t : List ℤ) (k : ℕ) → k < length (near_of b x) → get_or (near_of b x) k 0 < nat_abs (get_or t k (pos 0)) → nat_abs (get_or t k (pos 0)) ≤ nat_abs b.piece → IsUp b.directed t → place (sides_of b.sizes b.wrap) x t 1 ≡ None
-near-off b x below t k h far small signed =
-    let same = sizes_of_sides 0 b.sizes b.wrap in
-    place-off b.directed (nat_abs b.piece) (sides_of b.sizes b.wrap) x t k (subst (IsBelow x) (sym same) below)
-    (omega (arith, h, length-near_bounds b.directed (nat_abs b.piece) b.sizes b.wrap x below, length-map (sides_of b.sizes b.wrap) (λ s. s.size), ap length same)) signed far small
+IsOff p bs f = (t : List ℤ) (k : ℕ) → k < length bs → get_or bs k 0 < nat_abs (get_or t k (pos 0)) → nat_abs (get_or t k (pos 0)) ≤ p → f t ≡ []
 
 -- no move is made where the first step leads to no place
-pub moves-none : (sides : List Side) (piece : ℤ) (x : List ℕ) (t : List ℤ) → place sides x t 1 ≡ None → moves_from sides piece x t ≡ []
+moves-none : (sides : List Side) (piece : ℤ) (x : List ℕ) (t : List ℤ) → place sides x t 1 ≡ None → moves_from sides piece x t ≡ []
 moves-none sides piece x t off = moves_from-until sides piece x t ∙ until-none x (destination sides piece x t) (longest_move sides piece) (none_there piece)
   where
     none_there : (p : ℤ) → destination sides p x t 1 ≡ None
@@ -132,20 +75,19 @@ moves-none sides piece x t off = moves_from-until sides piece x t ∙ until-none
     none_there (negsuc p) = ap (λ o. cond (is_elsewhere x o) o None) off
 
 -- no move, and so no event
-pub moves-off : (b : BoardData) → IsOff (nat_abs b.piece) (bounds_of b) (moves_by (sides_of b.sizes b.wrap) b.piece (box b.sizes))
-moves-off b t k h far small signed =
-    flat_map-none (λ y. moves_from (sides_of b.sizes b.wrap) b.piece y t) (box b.sizes)
+moves-off : (b : BoardData) → IsOff (nat_abs b.piece) (bounds_of b) (moves_by (sides_of b.sizes b.wrap) b.piece (box b.sizes))
+moves-off b t k h far small =
+    let sides = sides_of b.sizes b.wrap in
+    flat_map-none (λ y. moves_from sides b.piece y t) (box b.sizes)
     (λ i d within.
     let y = get_or (box b.sizes) i d in
     let below : IsBelow y b.sizes = IsBelow-from_Contains b.sizes y (Contains-get_or (box b.sizes) i d within) in
-    let fits = near_fits b y below in
-    let inside : k < length (near_of b y) = omega (arith, h, IsWithin-length _ _ fits) in
-    moves-none (sides_of b.sizes b.wrap) b.piece y t
-    (near-off b y below t k inside (omega (arith, far, AllZip-get_or (λ z c. z ≤ c) (near_of b y) (bounds_of b) k 0 0 fits inside)) small (λ _. signed)))
+    moves-none sides b.piece y t
+    (place-off (nat_abs b.piece) sides y t k (subst (IsBelow y) (sym (sizes_of_sides 0 b.sizes b.wrap)) below) (omega (arith, h, length-map sides (entry_bound (nat_abs b.piece)))) far small))
 
 events-off : (b : BoardData) → IsOff (nat_abs b.piece) (bounds_of b) (events_by b)
-events-off b t k h far small signed =
-    events_by-moves b t ∙ ap (map (event_among (box b.sizes))) (moves-off b t k h far small signed)
+events-off b t k h far small =
+    events_by-moves b t ∙ ap (map (event_among (box b.sizes))) (moves-off b t k h far small)
 
 -- ---- all vectors, and those within the bounds
 
@@ -164,7 +106,7 @@ vector-off p bs f off v k h far small =
     (λ i d within.
     let t = get_or (signings v) i d in
     let size : nat_abs (get_or t k (pos 0)) ≡ get_or v k 0 = sym (size_at t k) ∙ ap (λ w. get_or w k 0) (signings-sizes v i d within) in
-    off t k h (omega (arith, far, size)) (omega (arith, small, size)) (signings-signed v i d within))
+    off t k h (omega (arith, far, size)) (omega (arith, small, size)))
 
 -- no entry is above the sum of the squares
 entry-le : (v : List ℕ) (k : ℕ) → get_or v k 0 ≤ sum_of_squares v

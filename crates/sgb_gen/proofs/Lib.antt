@@ -5,10 +5,6 @@ pub mod Norms
 -- a displacement has an entry for each dimension
 pub mod DisplacementLengths
 pub mod DisplacementsBefore
--- those before one that begin like it
-pub mod AlikeDisplacements
--- the vectors that begin like one, their signings, and the vector before the first of them
-pub mod AlikeVectors
 pub mod EarlierSignings
 pub mod EdgesInTurn
 pub mod EarlierVectors
@@ -40,8 +36,6 @@ pub mod Reaches
 mod Leaps
 -- displacements above the bounds lead nowhere
 pub mod BoundedMoves
--- the arcs of one vector, by displacements that may lead from it
-pub mod NearMoves
 -- what is known of an accepted board
 pub mod AcceptedBoards
 -- the texts of ids, parameter by parameter

@@ -18,8 +18,8 @@ pub use displacements::{
     put_opposite, put_positive, zeros,
 };
 pub use moves::{
-    destination, entry_bounds, first_off_board, is_inside, leads_onward, near_bounds, part_at,
-    put_parts, put_vector, reach, reach_from, steps_on, times_within, wraps,
+    destination, entry_bounds, is_inside, leads_onward, part_at, put_parts, put_vector, reach,
+    reach_from, steps_on, times_within, wraps,
 };
 pub use start_ranges::StartRange;
 pub use starts::Starts;

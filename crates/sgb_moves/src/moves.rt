@@ -1,7 +1,7 @@
 //! Where a piece moves from a place of a board.
 //!
 //! A coordinate within its side is taken as it is, and divided by the side's size only where it leaves it.
-ghost use Rattle.std.specs.Prelude.{◌≡◌, ℕ, ◌+◌, pos, ◌+ℤ◌, ◌*ℤ◌, ◌<◌, ◌≤◌, ◌/◌, min, get_or, length, nat_abs, true, false, is_some, All, IfSome, None, Some};
+ghost use Rattle.std.specs.Prelude.{◌≡◌, ℕ, ◌+◌, pos, ◌+ℤ◌, ◌*ℤ◌, ◌<◌, ◌≤◌, ◌/◌, min, length, nat_abs, true, false, is_some, All, None, Some};
 ghost use Rattle.std.specs.Int.{int_rem_euclid};
 ghost use Rattle.std.specs.Bool.{OnTrue, OnFalse};
 ghost use Rattle.sgb_vec.specs.Limits.{most_dimensions};
@@ -10,7 +10,9 @@ ghost use Rattle.sgb_moves.specs.inner.Moves.{destination, leads_onward};
 ghost use Rattle.sgb_moves.specs.Moves.{is_bit_set, coordinate_on, sides_of, place};
 ghost use Rattle.sgb_moves.specs.MovedCoordinates.{part_at, parts_put};
 ghost use Rattle.sgb_moves.specs.inner.MovedCoordinates.{IsInside, parts_stay};
-ghost use Rattle.sgb_moves.specs.inner.EntryBounds.{entry_bound, entry_bounds, near_bound, near_bounds};
+ghost use Rattle.sgb_moves.specs.inner.EntryBounds.{entry_bound, entry_bounds};
+// For the search alone.
+ghost use Rattle.std.specs.Prelude.{get_or, IfSome};
 
 use crate::displacements::EntrySizes;
 use crate::steps::{Part, Step};
@@ -285,51 +287,4 @@ pub fn entry_bounds(sizes: &[u32], wrap: i64, piece: u32) -> EntrySizes
         bounds.push(entry_bound(*size, wraps(wrap, k), piece));
     }
     bounds
-}
-
-// The greatest entry of a displacement on a side that leads from the coordinate `x` or to it: as much as there is room
-// for, up or down, where the side does not wrap around; up alone where `up` tells that the entry is not negative.
-fn near_bound(up: bool, size: u32, wraps: bool, piece: u32, x: u32) -> u32
-    ensures { result ≡ near_bound up piece (record { size = size; wraps = wraps }) x }
-{
-    if wraps {
-        return piece;
-    }
-    let above = size.saturating_sub(1).saturating_sub(x);
-    if up {
-        return above;
-    }
-    x.max(above)
-}
-
-/// The greatest entries of the displacements by which a piece can move from `x` (GB_BASIC, board), or to it, too, where `onward`
-/// does not tell that it moves from `x` alone: the first entry other than 0 is then positive, and those before it are 0.
-pub fn near_bounds(onward: bool, sizes: &[u32], wrap: i64, piece: u32, x: &[u32]) -> EntrySizes
-    requires few { length sizes.now ≤ most_dimensions }
-    requires below { IsBelow x.now sizes.now }
-    ensures { result.items ≡ near_bounds onward piece (sides_of sizes.now wrap) x.now }
-{
-    let mut bounds = ArrayVec::new();
-    let mut up = onward;
-    for (k, size) in sizes.iter().enumerate() {
-        let bound = near_bound(up, *size, wraps(wrap, k), piece, x[k]);
-        bounds.push(bound);
-        up &= bound == 0;
-    }
-    bounds
-}
-
-/// The first coordinate that the displacement `t` takes off the board in one step from `x`, if one is.
-pub fn first_off_board(sizes: &[u32], wrap: i64, x: &[u32], t: &[i32]) -> Option<usize>
-    requires below { IsBelow x.now sizes.now }
-    requires dimensions { length t.now ≡ length sizes.now }
-    ensures { IfSome result (λ k. (k < length sizes.now)
-        × (part_at sizes.now wrap x.now 1 (k, get_or t.now k (pos 0)) ≡ None)) }
-{
-    for (k, entry) in t.iter().enumerate() {
-        if part_at(sizes, wrap, x, 1, k, *entry).is_none() {
-            return Some(k);
-        }
-    }
-    None
 }

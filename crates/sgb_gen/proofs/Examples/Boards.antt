@@ -12,7 +12,7 @@ use Rattle.sgb_graph.specs.declared.fields.Kind.TheVariants.{Z, I}
 use Rattle.sgb_graph.specs.declared.fields.Util.TheVariants.{Nothing, Int}
 use Rattle.sgb_gen.specs.VectorGraphs.{family_graph}
 use Rattle.sgb_moves.specs.Displacements.{displacements, vectors_of_norm, signings}
-use Rattle.sgb_moves.specs.inner.EntryBounds.{entry_bounds, near_bounds, vectors_within, displacements_within}
+use Rattle.sgb_moves.specs.inner.EntryBounds.{entry_bounds, vectors_within, displacements_within}
 use Rattle.sgb_moves.specs.Moves.{is_bit_set, sides_of, place, reach, board_moves, opposite}
 use Rattle.sgb_gen.specs.declared.params.BoardParams.{BoardParams}
 use Rattle.sgb_gen.specs.Boards.{BoardData, accepted_board, board, board_id}
@@ -53,18 +53,6 @@ bounds_of_2_by_3 = refl
 
 pub bounds_of_wrapped : entry_bounds 5 (sides_of (2 ∷ 3 ∷ []) (pos 1)) ≡ 5 ∷ 2 ∷ []
 bounds_of_wrapped = refl
-
--- from (1, 0) there is room for one step of the first coordinate, and for two of the second
-pub near_bounds_of_2_by_3 : near_bounds false 5 (sides_of (2 ∷ 3 ∷ []) (pos 0)) (1 ∷ 0 ∷ []) ≡ 1 ∷ 2 ∷ []
-near_bounds_of_2_by_3 = refl
-
--- in the middle for one of each, up or down; a side that wraps around has room for all
-pub near_bounds_in_the_middle : near_bounds false 5 (sides_of (4 ∷ 3 ∷ 3 ∷ []) (pos 4)) (2 ∷ 1 ∷ 1 ∷ []) ≡ 2 ∷ 1 ∷ 5 ∷ []
-near_bounds_in_the_middle = refl
-
--- where the first entry other than 0 leads upwards, it is no greater than the room above, nor are those before it
-pub near_bounds_upwards : near_bounds true 5 (sides_of (4 ∷ 4 ∷ 4 ∷ []) (pos 0)) (3 ∷ 2 ∷ 2 ∷ []) ≡ 0 ∷ 1 ∷ 2 ∷ []
-near_bounds_upwards = refl
 
 -- a piece of 5 with a first entry of 1 at most, and with a second one
 pub within_2_by_3 : displacements_within 5 (1 ∷ 2 ∷ []) ≡ (pos 1 ∷ pos 2 ∷ []) ∷ (pos 1 ∷ negsuc 1 ∷ []) ∷ []

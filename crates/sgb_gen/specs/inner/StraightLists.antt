@@ -1,5 +1,5 @@
 -- The list of a board's vertex, of which the arcs by the last displacements are taken.
-use Rattle.std.specs.Prelude.{◌≡◌, ◌<◌, ◌++◌, ◌*◌, get_or, length, ℕ, ℤ, pos, nat_abs, true, false, List, [], reverse, map, take, if◌then◌else◌}
+use Rattle.std.specs.Prelude.{◌≡◌, ◌<◌, ◌++◌, ◌*◌, get_or, length, ℕ, ℤ, pos, nat_abs, true, false, List, [], reverse, map, if◌then◌else◌}
 use Rattle.std.specs.List.{All, flat_map}
 use Rattle.sgb_vec.specs.Boxes.{box}
 use Rattle.sgb_vec.specs.Lexicographic.{IsBelow}
@@ -13,11 +13,6 @@ use Rattle.sgb_moves.specs.inner.Moves.{destination, leads_onward}
 -- the arcs of x by these displacements, those by later moves first
 abbrev pub arcs_by_all : BoardData → List ℕ → List (List ℤ) → List LocalArc
 arcs_by_all b x ts = reverse (arcs_onward b.directed x (flat_map (moves_by (sides_of b.sizes b.wrap) b.piece (box b.sizes)) ts))
-
--- by no displacement that begins with the same n entries as t is there an arc of x
-abbrev pub LeadNowhere : BoardData → List ℕ → ℕ → List ℤ → Type 0
-LeadNowhere b x n t =
-    (u : List ℤ) → length u ≡ length b.sizes → take n u ≡ take n t → arcs_onward b.directed x (moves_by (sides_of b.sizes b.wrap) b.piece (box b.sizes) u) ≡ []
 
 -- the arcs of x by the moves from it by this displacement, the shortest first
 abbrev pub arcs_from : BoardData → List ℕ → List ℤ → List LocalArc

@@ -19,7 +19,6 @@ mod counts;
 mod edges;
 mod flat_boards;
 mod given;
-mod kept;
 mod list_counts;
 mod lists;
 mod ordered_boards;
@@ -31,8 +30,8 @@ mod skips;
 mod strided_boards;
 mod strides;
 mod turns;
-mod walks;
 
+use crate::falling_displacements::FallingDisplacements;
 use crate::params::BoardParams;
 use crate::vector_graphs::{put_coordinates, vector_names};
 pub use board_lists::BoardLists;
@@ -214,6 +213,18 @@ impl Board {
         let piece = self.piece.unsigned_abs() as u32;
         let bounds = entry_bounds(self.sizes(), self.wrap, piece);
         Displacements::new(piece, bounds)
+    }
+
+    // The same from the last on.
+    fn falling_displacements(&self) -> FallingDisplacements
+        ensures all { result ≡ displacements_within (nat_abs self.now.piece)
+            (entry_bounds (nat_abs self.now.piece) (sides_of self.now.sizes self.now.wrap)) }
+        ensures dimensions { All (λ t. length t ≡ length self.now.sizes) result }
+        ensures small { All (λ t. All (λ e. nat_abs e ≤ most_piece) t) result }
+    {
+        let piece = self.piece.unsigned_abs() as u32;
+        let bounds = entry_bounds(self.sizes(), self.wrap, piece);
+        FallingDisplacements::new(piece, bounds)
     }
 
     // The greatest length that a move may have.

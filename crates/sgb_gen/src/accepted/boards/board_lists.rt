@@ -1,13 +1,15 @@
 //! The lists of a board's vertices, one after another.
 //!
-//! They have their displacements in common, with their opposites. Where these are not kept (`kept`), or there
-//! is no memory, they are walked over for each vertex, from the last on. A body that built the whole graph would meet the contracts, which do
-//! not speak of room; the checks from outside see it (`great`).
-ghost use Rattle.std.specs.Prelude.{◌≡◌, ◌≤◌, ◌^◌, ◌⊎◌, [], length, pos, true, Contains, IfErr, IfNone, IfOk, IfSome, OnOk, OnErr, IsOkUnless};
+//! They have their displacements in common, with their opposites. Where these are too many for a table, or there is no
+//! memory, they are walked over for each vertex, from the last on. A body that built the whole graph would meet the
+//! contracts, which do not speak of room; the checks from outside see it (`great`).
+ghost use Rattle.std.specs.Prelude.{◌≡◌, ◌≤◌, ◌^◌, ◌⊎◌, [], length, nat_abs, pos, true, All, Contains, IfErr, IfNone, IfOk, IfSome, OnOk, OnErr, IsOkUnless};
 ghost use Rattle.sgb_vec.specs.Boxes.{box};
 ghost use Rattle.sgb_gen.specs.ArcSinks.{AreGiven};
 ghost use Rattle.sgb_gen.specs.Boards.{moves_of_board};
 ghost use Rattle.sgb_gen.specs.LocalLists.{list_at};
+ghost use Rattle.sgb_moves.specs.Moves.{sides_of};
+ghost use Rattle.sgb_moves.specs.inner.EntryBounds.{displacements_within, entry_bounds};
 
 use super::Board;
 use super::runs::{lead_onward, widest_of};
@@ -18,6 +20,7 @@ use crate::kept_arcs::KeptArcs;
 use crate::links::Links;
 use sgb_moves::Starts;
 use sgb_vec::{Family, Panic};
+use std::alloc::Global;
 use std::marker::Model;
 
 /// The lists of a board's vertices, one after another: what they have in common is found once (GB_BASIC, board).
@@ -77,6 +80,15 @@ impl Board {
         let mut lists = BoardLists::new(self);
         lists.prepare(links);
         lists
+    }
+
+    // The displacements by which the piece can move. `None` where they are too many for a table, or out of memory.
+    fn kept_displacements(&self, alloc: Global) -> Option<DisplacementTable>
+        ensures all { IfSome result (λ d. d ≡ displacements_within (nat_abs self.now.piece)
+            (entry_bounds (nat_abs self.now.piece) (sides_of self.now.sizes self.now.wrap))) }
+        ensures dimensions { IfSome result (All (λ t. length t ≡ length self.now.sizes)) }
+    {
+        DisplacementTable::new(alloc, self.family.dims(), self.displacements())
     }
 }
 

@@ -87,13 +87,9 @@ impl Board {
         let mut turned = Displacement::new();
         let mut parts = Parts::new();
         let mut turned_parts = Parts::new();
-        let mut left = self.displacements_near(x);
+        let mut left = self.falling_displacements();
         while let Some(t) = left.back() {
             put_opposite(t, &mut turned);
-            if let Some(count) = self.entries_to_stop(x, t, turned.as_slice()) {
-                left.leave_out(count);
-                continue;
-            }
             put_parts_of(t, &mut parts);
             put_parts_of(turned.as_slice(), &mut turned_parts);
             let ahead = Step::of(t, parts.as_slice());

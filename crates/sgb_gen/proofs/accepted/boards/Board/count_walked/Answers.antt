@@ -1,13 +1,13 @@
-use Rattle.std.proofs.Common.{◌≡◌, ◌≤◌, ◌∙◌, ℤ, List, All, length, nat_abs, ap, sym, subst, arith}
-use Rattle.std.specs.Prelude.{IfSome}
+use Rattle.std.proofs.Common.{◌≡◌, ◌≤◌, ◌∙◌, ℤ, List, All, length, nat_abs, ap, sym, subst, arith, rules}
 use Rattle.sgb_vec.proofs.BoxPlaces.{IsBelow-from_Contains}
 use Rattle.sgb_vec.specs.Boxes.{box}
 use Rattle.sgb_gen.specs.Boards.{moves_of_board}
 use Rattle.sgb_moves.specs.Limits.{most_piece}
 use Rattle.sgb_gen.specs.LocalLists.{list_at}
-use Rattle.sgb_gen.specs.inner.StraightLists.{LeadNowhere, NeedsNoSort, arcs_by_all}
-use Rattle.sgb_gen.proofs.NearMoves.{all_near, list_near}
-use Rattle.sgb_gen.proofs.WalkedArcs.{arcs_kept, counts_apart, kept_have, last_has, others_have}
+use Rattle.sgb_gen.specs.inner.StraightLists.{NeedsNoSort, arcs_by_all}
+use Rattle.sgb_gen.proofs.BoundedMoves.{moves_within}
+use Rattle.sgb_gen.proofs.ListsOfBoards.{list_of_board}
+use Rattle.sgb_gen.proofs.WalkedArcs.{counts_apart, last_has, others_have}
 use Rattle.sgb_gen.proofs.accepted.boards.Board.count_walked.Goals as goal
 
 abbrev IsSmall : List ℤ → Type 0
@@ -17,37 +17,12 @@ pub loop-t-init : goal.loop-t-init
 loop-t-init c =
     let b = c.args.self.now in
     let x = c.args.x.now in
-    let left = c.displacements_near-left in
-    let same : arcs_by_all b x left.result ≡ list_at b.directed (box b.sizes) (moves_of_board b) x = ap (arcs_by_all b x) left.ensures.all ∙ list_near b x c.requires.member in (
+    let left = c.falling_displacements-left in
+    let same : arcs_by_all b x left.result ≡ list_at b.directed (box b.sizes) (moves_of_board b) x = search (rules, moves_within, list_of_board) in (
       left.ensures.dimensions,
       left.ensures.small,
-      subst (All (NeedsNoSort b)) (sym left.ensures.all) (all_near (NeedsNoSort b) b x (IsBelow-from_Contains b.sizes x c.requires.member) c.requires.sorted),
+      subst (All (NeedsNoSort b)) (sym left.ensures.all) c.requires.sorted,
       omega (arith, ap length same),
-    )
-
-pub displacements_near-left-requires : goal.displacements_near-left-requires
-displacements_near-left-requires c = IsBelow-from_Contains c.args.self.now.sizes c.args.x.now c.requires.member
-
-pub entries_to_stop-requires-clause-below : goal.entries_to_stop-requires-clause-below
-entries_to_stop-requires-clause-below c = IsBelow-from_Contains c.args.self.now.sizes c.args.x.now c.requires.member
-
-pub entries_to_stop-requires-clause-dimensions : goal.entries_to_stop-requires-clause-dimensions
-entries_to_stop-requires-clause-dimensions c = last_has c.loop-t.left c.in-Some.t.now c.in-Some.ensures.last (λ u. length u ≡ length c.args.self.now.sizes) c.loop-t.invariant.0
-
-pub loop-t-preserved-in-Some-entries_to_stop : goal.loop-t-preserved-in-Some-entries_to_stop
-loop-t-preserved-in-Some-entries_to_stop c =
-    let b = c.args.self.now in
-    let x = c.args.x.now in
-    let ts = c.loop-t.left in
-    let us = c.leave_out.new.self in
-    let t = c.in-Some.t.now in
-    let n = c.in-Some-entries_to_stop.count in
-    let nowhere : LeadNowhere b x n t = subst (λ o. IfSome o (λ m. LeadNowhere b x m t)) c.in-Some-entries_to_stop.is c.entries_to_stop.ensures in
-    let out = c.leave_out.ensures t c.in-Some.ensures.last in (
-      kept_have ts us n t out (λ u. length u ≡ length b.sizes) c.loop-t.invariant.0,
-      kept_have ts us n t out IsSmall c.loop-t.invariant.1,
-      kept_have ts us n t out (NeedsNoSort b) c.loop-t.invariant.2,
-      omega (arith, c.loop-t.invariant.3, ap length (arcs_kept ts us n t out b x c.loop-t.invariant.0 nowhere)),
     )
 
 pub put_opposite-requires-clause-small : goal.put_opposite-requires-clause-small

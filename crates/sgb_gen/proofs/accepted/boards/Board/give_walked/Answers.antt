@@ -1,14 +1,14 @@
-use Rattle.std.proofs.Common.{◌≡◌, ◌≤◌, ◌∙◌, ◌++◌, ℤ, List, All, length, nat_abs, reverse, ap, sym, subst}
-use Rattle.std.specs.Prelude.{IfSome}
+use Rattle.std.proofs.Common.{◌≡◌, ◌≤◌, ◌∙◌, ◌++◌, ℤ, List, All, length, nat_abs, reverse, ap, sym, subst, rules}
 use Rattle.sgb_vec.proofs.BoxPlaces.{IsBelow-from_Contains}
 use Rattle.sgb_vec.specs.Boxes.{box}
 use Rattle.sgb_moves.specs.Limits.{most_piece}
 use Rattle.sgb_moves.specs.Moves.{sides_of}
 use Rattle.sgb_gen.specs.inner.LocalBoards.{arcs_onward, moves_by}
-use Rattle.sgb_gen.specs.inner.StraightLists.{LeadNowhere, arcs_by_all}
+use Rattle.sgb_gen.specs.inner.StraightLists.{arcs_by_all}
 use Rattle.sgb_gen.proofs.ArcsInTurn.{exit_part, so_far_begun, so_far_more}
-use Rattle.sgb_gen.proofs.NearMoves.{list_near}
-use Rattle.sgb_gen.proofs.WalkedArcs.{arcs_apart, arcs_kept, kept_have, last_has, others_have}
+use Rattle.sgb_gen.proofs.BoundedMoves.{moves_within}
+use Rattle.sgb_gen.proofs.ListsOfBoards.{list_of_board}
+use Rattle.sgb_gen.proofs.WalkedArcs.{arcs_apart, last_has, others_have}
 use Rattle.sgb_gen.proofs.accepted.boards.Board.give_walked.Goals as goal
 
 abbrev IsSmall : List ℤ → Type 0
@@ -16,37 +16,11 @@ IsSmall t = All (λ e. nat_abs e ≤ most_piece) t
 
 pub loop-t-init : goal.loop-t-init
 loop-t-init g c =
-    let left = c.displacements_near-left in (
+    let left = c.falling_displacements-left in (
       left.ensures.dimensions,
       left.ensures.small,
-      so_far_begun (g.met.K.ArcSink.laws c.args.sink.now) _ _ _ _ (ap (arcs_by_all c.args.self.now c.args.x.now) left.ensures.all ∙ list_near c.args.self.now c.args.x.now c.requires.member),
+      so_far_begun (g.met.K.ArcSink.laws c.args.sink.now) _ _ _ _ (search (rules, moves_within, list_of_board)),
       c.requires.ready,
-    )
-
-pub displacements_near-left-requires : goal.displacements_near-left-requires
-displacements_near-left-requires g c = IsBelow-from_Contains c.args.self.now.sizes c.args.x.now c.requires.member
-
-pub entries_to_stop-requires-clause-below : goal.entries_to_stop-requires-clause-below
-entries_to_stop-requires-clause-below g c = IsBelow-from_Contains c.args.self.now.sizes c.args.x.now c.requires.member
-
-pub entries_to_stop-requires-clause-dimensions : goal.entries_to_stop-requires-clause-dimensions
-entries_to_stop-requires-clause-dimensions g c = last_has c.loop-t.left c.in-Some.t.now c.in-Some.ensures.last (λ u. length u ≡ length c.args.self.now.sizes) c.loop-t.invariant.0
-
-pub loop-t-preserved-in-Some-entries_to_stop : goal.loop-t-preserved-in-Some-entries_to_stop
-loop-t-preserved-in-Some-entries_to_stop g c =
-    let b = c.args.self.now in
-    let x = c.args.x.now in
-    let ts = c.loop-t.left in
-    let us = c.leave_out.new.self in
-    let t = c.in-Some.t.now in
-    let n = c.in-Some-entries_to_stop.count in
-    let nowhere : LeadNowhere b x n t = subst (λ o. IfSome o (λ m. LeadNowhere b x m t)) c.in-Some-entries_to_stop.is c.entries_to_stop.ensures in
-    let out = c.leave_out.ensures t c.in-Some.ensures.last in
-    let so_far = c.loop-t.invariant.2 in (
-      kept_have ts us n t out (λ u. length u ≡ length b.sizes) c.loop-t.invariant.0,
-      kept_have ts us n t out IsSmall c.loop-t.invariant.1,
-      (so_far.0, ap (λ l. so_far.0 ++ l) (sym (arcs_kept ts us n t out b x c.loop-t.invariant.0 nowhere)) ∙ so_far.1, so_far.2),
-      c.loop-t.invariant.3,
     )
 
 pub put_opposite-requires-clause-small : goal.put_opposite-requires-clause-small
