@@ -1,5 +1,5 @@
 -- Moves from a vector, one length after another, and what is made of them.
-use Rattle.std.proofs.Common.{◌≡◌, ℕ, ◌+◌, ◌-◌, ◌<◌, ◌≤◌, ℤ, Bool, true, false, not, cond, List, [], ◌∷◌, ◌++◌, length, map, Option, Some, None, sym, ap, ◌∙◌, arith, append-nil, append_assoc}
+use Rattle.std.proofs.Common.{◌≡◌, ℕ, ◌+◌, ◌-◌, ◌<◌, ◌≤◌, ℤ, Bool, true, false, not, cond, List, [], ◌∷◌, ◌++◌, length, map, Option, Some, None, sym, ap, ◌∙◌, arith, append-nil, append_assoc, length-append}
 use Rattle.std.specs.Prelude.{◌==◌}
 use Rattle.std.specs.List.{filter, range_with_len}
 use Rattle.std.specs.Option.{option_map, option_map_or}
@@ -117,6 +117,16 @@ others_same b t x u l v few goes same =
     let led = led_to (vertex_among (box b.sizes)) (leads b x t l) v goes in
     let fails = ap (λ i. not (i == u)) led.2 ∙ ap not (eq-eqb v u same) in
     ap (map (λ (m : Move). (vertex_among (box b.sizes) m.to, m.len))) (sym (not_one far (move x l led.0) (moves_left b t x l) (moves_left b t x (l + 1)) (left-next b t x l led.0 few led.1) fails))
+
+-- where none are left, all are had
+pub others_ended : (b : BoardData) (t : List ℤ) (x : List ℕ) (u l : ℕ) (p : ℕ × ℕ → Bool) (done whole : List (ℕ × ℕ)) → moves_left b t x l ≡ [] → done ++ filter p (other_starts (box b.sizes) u (moves_left b t x l)) ≡ whole → done ≡ whole
+others_ended b t x u l p done whole none h = sym (append-nil done) ∙ sym (ap (λ ms. done ++ filter p (other_starts (box b.sizes) u ms)) none) ∙ h
+
+-- one that is there already, and one that is to come
+pub two_at_least : {X : Type 0} (done rest whole : List X) (c : Bool) (s : X) → c ≡ true → 0 < length done → (done ++ cond c (s ∷ []) []) ++ rest ≡ whole → 1 < length whole
+two_at_least done rest whole c s within some e =
+    let one : length (cond c (s ∷ []) []) ≡ 1 = ap (λ d. length (cond d (s ∷ []) [])) within in
+    omega (arith, some, one, length-append done (cond c (s ∷ []) []), length-append (done ++ cond c (s ∷ []) []) rest, ap length e)
 
 -- where the piece leads to has as many entries
 pub lands_width : (b : BoardData) (t : List ℤ) (x y : List ℕ) (l : ℕ) → IsBelow x b.sizes → leads b x t l ≡ Some y → length y ≡ length x

@@ -90,16 +90,10 @@ mod AroundStarts
 -- where they go around a side once at most
 mod FallingPlaces
 pub mod OnwardStarts
--- steps of a coordinate on a side, and whether they lead to others
-mod WaysAround
--- steps around a side that lead to one of some coordinates
-mod Progressions
 -- moves from a vector, length by length
 pub mod BoardWalks
 -- moves that never come home, at one look
 pub mod StraightMoves
--- lengths that lead to no vertex of a range
-mod SkippedLengths
 -- the lengths of the moves that start at a vector itself, within a range
 mod OwnLengths
 -- moves that no side stops

@@ -12,8 +12,6 @@ pub mod LocalArcs
 pub mod LocalBoards
 -- the starts of the edges that touch a vector, in ranges
 pub mod Starts
--- coordinates between which those of the vectors of a range are
-pub mod VertexBounds
 -- the list of a vector of a simplex, by pairs of places
 pub mod LocalSimplexes
 -- the list of a vector of subsets, by a walk
@@ -26,8 +24,6 @@ pub mod Simplexes
 pub mod Subsets
 -- a list that is had run by run
 pub mod StraightLists
--- numbers of steps one after another, and those that lead to one of some coordinates
-pub mod Progressions
 -- how far a displacement leads on among the vectors
 pub mod Strides
 -- moves from the vectors of a row

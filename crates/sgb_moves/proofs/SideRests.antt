@@ -32,8 +32,5 @@ module _ (n : ℕ) (a : ℤ) (some : 0 < n) (few : Fits w32 n) (is : a ≡ pos n
     pub rest_fits : T (non_neg (to_z w64 (of_z w64 r))) × Fits w32 (nat_abs (to_z w64 (of_z w64 r)))
     rest_fits = rw reads (tt, record { fits = omega (arith, below, few.fits) })
 
-    pub rest_small : nat_abs (to_z w64 (of_z w64 r)) < n
-    rest_small = rw reads below
-
     pub rest_is : nat_abs (to_z w64 (of_z w64 r)) ≡ nat_abs (int_rem_euclid z (pos n))
     rest_is = ap nat_abs reads ∙ ap nat_abs value ∙ ap₂ (λ u v. nat_abs (int_rem_euclid u v)) same itself

@@ -1,5 +1,5 @@
 -- Moves turned back: from where a move leads, the opposite displacement leads back through the same places.
-use Rattle.std.proofs.Common.{◌≡◌, ◌↔◌, ℕ, zero, suc, ◌+◌, ◌-◌, ◌*◌, ◌/◌, ◌%◌, ◌<◌, ◌≤◌, ◌≢◌, ℤ, pos, negsuc, ◌+ℤ◌, ◌*ℤ◌, neg_ℤ, nat_abs, Bool, true, false, not, cond, ltb, List, [], ◌∷◌, map, Option, Some, refl, sym, ap, ap₂, subst, ◌∙◌, arith, true≢false, rules}
+use Rattle.std.proofs.Common.{◌≡◌, ◌↔◌, ℕ, zero, suc, ◌+◌, ◌-◌, ◌*◌, ◌/◌, ◌<◌, ◌≤◌, ◌≢◌, ℤ, pos, negsuc, ◌+ℤ◌, ◌*ℤ◌, neg_ℤ, nat_abs, Bool, true, false, not, cond, ltb, List, [], ◌∷◌, map, Option, Some, refl, sym, ap, ap₂, subst, ◌∙◌, arith, true≢false, rules}
 use Rattle.std.proofs.Math.IntN.{+ℤ_idr, zero-*ℤ, neg_ℤ-neg_ℤ}
 use Rattle.std.proofs.Math.Nat.{mod-eq_of_lt}
 use Rattle.std.specs.Cmp.Lexicographic.{bytes_decides}
@@ -49,24 +49,6 @@ pub rem-moved : (n : ℕ) (z u : ℤ) → 0 < n → nat_abs (int_rem_euclid (pos
 rem-moved n z u h =
     let left = pos (nat_abs (int_rem_euclid z (pos n))) in
     ap nat_abs (alike-rem n (left +ℤ u) (z +ℤ u) h (alike-moved n left z u (alike-left n z h)))
-
--- i times what is left of a number leaves what i times the number leaves
-pub rem-times : (n y i s : ℕ) (t : ℤ) → 0 < n → (y + i * nat_abs (int_rem_euclid (pos s *ℤ t) (pos n))) % n ≡ nat_abs (int_rem_euclid (pos y +ℤ pos (i * s) *ℤ t) (pos n))
-rem-times n y i s t h =
-    let d = nat_abs (int_rem_euclid (pos s *ℤ t) (pos n)) in
-    let (p, q, e) = alike-left n (pos s *ℤ t) h in
-    let grouped : (u : ℕ) → i * (u * n) ≡ i * u * n = λ u. omega arith in
-    ap nat_abs (alike-rem n (pos (y + i * d)) (pos y +ℤ pos (i * s) *ℤ t) h (i * p, i * q, rw (sym (grouped p), sym (grouped q)) (times_alike i (p * n) (q * n) e)))
-  where
-    times_more : (a : ℕ) → pos (a + s) *ℤ t ≡ pos a *ℤ t +ℤ pos s *ℤ t
-    times_more a = grind (arith, ints)
-
-    times_alike : (i u v : ℕ) → pos (nat_abs (int_rem_euclid (pos s *ℤ t) (pos n))) +ℤ pos u ≡ pos s *ℤ t +ℤ pos v
-        → pos (y + i * nat_abs (int_rem_euclid (pos s *ℤ t) (pos n))) +ℤ pos (i * u) ≡ (pos y +ℤ pos (i * s) *ℤ t) +ℤ pos (i * v)
-    times_alike zero u v e = omega (arith, ints, zero-*ℤ t)
-    times_alike (suc i) u v e =
-        let next : pos (suc i * s) *ℤ t ≡ pos (i * s) *ℤ t +ℤ pos s *ℤ t = ap (λ m. pos m *ℤ t) {x = suc i * s} {y = i * s + s} (omega arith) ∙ times_more (i * s) in
-        omega (arith, ints, next, e, times_alike i u v e)
 
 -- b steps back of a + b
 pub back : (z u : ℤ) (a b : ℕ) → (z +ℤ pos (a + b) *ℤ u) +ℤ pos b *ℤ neg_ℤ u ≡ z +ℤ pos a *ℤ u

@@ -83,7 +83,7 @@ impl Board {
     }
 
     // The displacements by which the piece can move. `None` where they are too many for a table, or out of memory.
-    fn kept_displacements(&self, alloc: Global) -> Option<DisplacementTable>
+    pub(super) fn kept_displacements(&self, alloc: Global) -> Option<DisplacementTable>
         ensures all { IfSome result (λ d. d ≡ displacements_within (nat_abs self.now.piece)
             (entry_bounds (nat_abs self.now.piece) (sides_of self.now.sizes self.now.wrap))) }
         ensures dimensions { IfSome result (All (λ t. length t ≡ length self.now.sizes)) }

@@ -184,7 +184,7 @@ impl Board {
     }
 
     // From how many places `l` steps of the displacement `t` lead to a place of the board.
-    pub(super) fn starts_of_steps(&self, t: &[i32], l: u32) -> u64
+    fn starts_of_steps(&self, t: &[i32], l: u32) -> u64
         requires dimensions { length t.now ≡ length self.now.sizes }
         ensures { result ≡ starts_product (sides_of self.now.sizes self.now.wrap) t.now l }
     {
@@ -252,8 +252,8 @@ fn turns(size: u32, wraps: bool, t: i32, steps: u32) -> u32
     times_around(size, (step % u64::from(size)) as u32)
 }
 
-/// The least number of times `step`, above 0, that is some times `size`, found as their greatest common divisor is.
-pub(super) fn times_around(size: u32, step: u32) -> u32
+// The least number of times `step`, above 0, that is some times `size`, found as their greatest common divisor is.
+fn times_around(size: u32, step: u32) -> u32
     requires { step < size }
     ensures some { 0 < result }
     ensures small { result ≤ size }
@@ -308,8 +308,8 @@ fn step(t: i32, l: u32) -> i64
     i64::from(l) * i64::from(t)
 }
 
-/// From how many coordinates of a side a step of `u` stays on it: from all where it wraps around.
-pub(super) fn starts_on(size: u32, wraps: bool, u: i64) -> u64
+// From how many coordinates of a side a step of `u` stays on it: from all where it wraps around.
+fn starts_on(size: u32, wraps: bool, u: i64) -> u64
     ensures { result ≡ starts_on (record { size = size; wraps = wraps }) u }
 {
     if wraps {

@@ -170,26 +170,14 @@ impl Board {
         if range.is_of(u) {
             return true;
         }
-        let last = self.lengths_by(x, back);
-        let (mut least, mut greatest) = (Vector::new(), Vector::new());
-        let count = self.put_bounds(range, &mut least, &mut greatest);
-        let mut done = 0;
-        while done < last {
-            let l = done + 1;
-            let Some(v) = self.vertex_at(x, back, l, there) else {
+        for shorter in 0..self.longest_move() {
+            let Some(v) = self.vertex_at(x, back, shorter + 1, there) else {
                 return true;
             };
-            if !range.has_vertex(v) {
-                let (low, high) = (least.as_slice(), greatest.as_slice());
-                let steps = self.steps_between(x, back, l, count, low, high);
-                done += steps.min(last - done);
-                continue;
-            }
-            done = l;
             if v == u {
                 continue;
             }
-            if !starts.put(range, v, l) {
+            if !starts.put(range, v, shorter + 1) {
                 return false;
             }
         }

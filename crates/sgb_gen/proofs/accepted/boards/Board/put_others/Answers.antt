@@ -1,55 +1,30 @@
-use Rattle.std.proofs.Common.{◌≡◌, ◌++◌, ◌+◌, ◌∙◌, refl, sym, ap, append-nil, arith}
+use Rattle.std.proofs.Common.{◌++◌, ◌+◌, ◌∙◌, refl, sym, ap, append-nil, arith}
 use Rattle.std.specs.List.{filter}
 use Rattle.sgb_vec.specs.Boxes.{box}
 use Rattle.sgb_gen.specs.VectorGraphs.{vertex_among}
 use Rattle.sgb_gen.specs.inner.LocalBoards.{other_starts}
 use Rattle.sgb_moves.specs.inner.Starts.{is_within}
-use Rattle.sgb_gen.proofs.BoardWalks.{left-all, moves_of, others_next, others_same, leads, led_nowhere}
-use Rattle.sgb_gen.proofs.SkippedLengths.{jumped, leads_along, none_left, starts_left, two_at_least}
+use Rattle.sgb_gen.proofs.BoardWalks.{leads, led_nowhere, left-all, left-none, left-out, moves_of, others_ended, others_next, others_same, two_at_least}
 use Rattle.sgb_gen.proofs.StartRanges.{others_outside}
 use Rattle.sgb_gen.proofs.accepted.boards.Board.put_others.Goals as goal
 
-pub loop-done-init : goal.loop-done-init
-loop-done-init c = (
-  omega arith,
-  ap (λ ms. c.args.starts.now ++ filter (is_within c.args.range) (other_starts (box c.args.self.now.sizes) c.args.u ms)) (left-all c.args.self.now c.args.back.now c.args.x.now),
-)
+pub loop-shorter-init : goal.loop-shorter-init
+loop-shorter-init c = ap (λ ms. c.args.starts.now ++ filter (is_within c.args.range) (other_starts (box c.args.self.now.sizes) c.args.u ms)) (left-all c.args.self.now c.args.back.now c.args.x.now)
 
-pub loop-done-preserved-then-not-has_vertex : goal.loop-done-preserved-then-not-has_vertex
-loop-done-preserved-then-not-has_vertex c =
-    let b = c.args.self.now in
-    let back = c.args.back.now in
-    let x = c.args.x.now in
-    let last = c.lengths_by-last.result in
-    let d = c.min-done.result in
-    let l = c.loop-done.done + 1 in
-    let away = rw (c.as_slice-low.ensures.value, c.as_slice-high.ensures.value) at c.steps_between-steps.ensures.away in
-    let jump : starts_left b back x last c.lengths_by-last.ensures c.args.u c.args.range l ≡ starts_left b back x last c.lengths_by-last.ensures c.args.u c.args.range (l + d) =
-    jumped b back x last c.lengths_by-last.ensures c.args.u c.args.range l d c.in-Some.v c.put_bounds-count.result c.put_bounds-count.new.least.items c.put_bounds-count.new.greatest.items c.requires.below (omega arith) (omega (arith, c.min-done.ensures, c.loop-done-test.true)) c.put_bounds-count.ensures
-    (rw c.if-not-has_vertex.true at c.has_vertex.ensures) (sym c.vertex_at.ensures.vertex ∙ c.in-Some.is)
-    (λ j y some less there. away j y some (omega (arith, less, c.min-done.ensures)) there) in
-    let next : l + d ≡ c.loop-done.done + d + 1 = omega arith in
-    (omega (arith, c.min-done.ensures, c.loop-done-test.true), ap (λ ss. c.loop-done.starts ++ ss) (sym (jump ∙ ap (starts_left b back x last c.lengths_by-last.ensures c.args.u c.args.range) next)) ∙ c.loop-done.invariant.1)
+pub loop-shorter-preserved-then-v-u : goal.loop-shorter-preserved-then-v-u
+loop-shorter-preserved-then-v-u c =
+    ap (λ ss. c.loop-shorter.starts ++ filter (is_within c.args.range) ss) (others_same c.args.self.now c.args.back.now c.args.x.now c.args.u (c.loop-shorter.shorter + 1) c.in-Some.v (omega (arith, c.loop-shorter-test.true, c.longest_move-shorter-end.ensures)) (sym c.vertex_at.ensures.vertex ∙ c.in-Some.is) c.if-v-u.true)
+    ∙ c.loop-shorter.invariant
 
-pub loop-done-preserved-then-v-u : goal.loop-done-preserved-then-v-u
-loop-done-preserved-then-v-u c =
-    let few = leads_along c.args.self.now c.args.back.now c.args.x.now c.lengths_by-last.result c.lengths_by-last.ensures (c.loop-done.done + 1) (omega arith) (omega (arith, c.loop-done-test.true)) in (
-      omega (arith, c.loop-done-test.true),
-      ap (λ ss. c.loop-done.starts ++ filter (is_within c.args.range) ss) (others_same c.args.self.now c.args.back.now c.args.x.now c.args.u (c.loop-done.done + 1) c.in-Some.v few.0 (sym c.vertex_at.ensures.vertex ∙ c.in-Some.is) c.if-v-u.true)
-          ∙ c.loop-done.invariant.1,
-    )
-
-pub loop-done-preserved : goal.loop-done-preserved
-loop-done-preserved c =
-    let few = leads_along c.args.self.now c.args.back.now c.args.x.now c.lengths_by-last.result c.lengths_by-last.ensures (c.loop-done.done + 1) (omega arith) (omega (arith, c.loop-done-test.true)) in (
-      omega (arith, c.loop-done-test.true),
-      others_next c.args.self.now c.args.back.now c.args.x.now c.args.u (c.loop-done.done + 1) c.in-Some.v (is_within c.args.range) c.loop-done.starts c.put.new.self _ few.0 (sym c.vertex_at.ensures.vertex ∙ c.in-Some.is) c.if-v-u.false
-          c.loop-done.invariant.1 (rw c.if-not-put.false at c.put.ensures.put),
-    )
+pub loop-shorter-preserved : goal.loop-shorter-preserved
+loop-shorter-preserved c =
+    others_next c.args.self.now c.args.back.now c.args.x.now c.args.u (c.loop-shorter.shorter + 1) c.in-Some.v (is_within c.args.range) c.loop-shorter.starts c.put.new.self _ (omega (arith, c.loop-shorter-test.true, c.longest_move-shorter-end.ensures)) (sym c.vertex_at.ensures.vertex ∙ c.in-Some.is) c.if-v-u.false
+    c.loop-shorter.invariant (rw c.if-not-put.false at c.put.ensures.put)
 
 pub returns-clause-all : goal.returns-clause-all
 returns-clause-all c =
-    none_left c.args.self.now c.args.back.now c.args.x.now c.lengths_by-last.result c.lengths_by-last.ensures c.args.u c.args.range (c.loop-done.done + 1) c.loop-done.starts _ (omega (arith, c.loop-done.invariant.0, c.loop-done-test.false)) c.loop-done.invariant.1
+    others_ended c.args.self.now c.args.back.now c.args.x.now c.args.u (c.loop-shorter.shorter + 1) (is_within c.args.range) c.loop-shorter.starts _
+    (left-none c.args.self.now c.args.back.now c.args.x.now (c.loop-shorter.shorter + 1) (omega (arith, c.loop-shorter-test.false, c.longest_move-shorter-end.ensures))) c.loop-shorter.invariant
 
 pub returns-then-is_of-clause-all : goal.returns-then-is_of-clause-all
 returns-then-is_of-clause-all c =
@@ -57,13 +32,12 @@ returns-then-is_of-clause-all c =
 
 pub returns-in_default-clause-all : goal.returns-in_default-clause-all
 returns-in_default-clause-all c =
-    let few = leads_along c.args.self.now c.args.back.now c.args.x.now c.lengths_by-last.result c.lengths_by-last.ensures (c.loop-done.done + 1) (omega arith) (omega (arith, c.loop-done-test.true)) in
-    let none = led_nowhere (vertex_among (box c.args.self.now.sizes)) (leads c.args.self.now c.args.x.now c.args.back.now (c.loop-done.done + 1)) (sym c.vertex_at.ensures.vertex ∙ c.in_default.is) in
-    absurd (cc (few.1, none))
+    let none = led_nowhere (vertex_among (box c.args.self.now.sizes)) (leads c.args.self.now c.args.x.now c.args.back.now (c.loop-shorter.shorter + 1)) (sym c.vertex_at.ensures.vertex ∙ c.in_default.is) in
+    others_ended c.args.self.now c.args.back.now c.args.x.now c.args.u (c.loop-shorter.shorter + 1) (is_within c.args.range) c.loop-shorter.starts _
+    (left-out c.args.self.now c.args.back.now c.args.x.now (c.loop-shorter.shorter + 1) (omega (arith, c.loop-shorter-test.true, c.longest_move-shorter-end.ensures)) none) c.loop-shorter.invariant
 
 pub returns-then-not-put-clause-many : goal.returns-then-not-put-clause-many
 returns-then-not-put-clause-many c =
-    let few = leads_along c.args.self.now c.args.back.now c.args.x.now c.lengths_by-last.result c.lengths_by-last.ensures (c.loop-done.done + 1) (omega arith) (omega (arith, c.loop-done-test.true)) in
-    two_at_least c.loop-done.starts _ _ (is_within c.args.range (c.in-Some.v, c.loop-done.done + 1)) (c.in-Some.v, c.loop-done.done + 1) (rw c.if-not-put.true at c.put.ensures.within) (rw c.if-not-put.true at c.put.ensures.some)
-    (others_next c.args.self.now c.args.back.now c.args.x.now c.args.u (c.loop-done.done + 1) c.in-Some.v (is_within c.args.range) c.loop-done.starts _ _ few.0 (sym c.vertex_at.ensures.vertex ∙ c.in-Some.is) c.if-v-u.false
-    c.loop-done.invariant.1 refl)
+    two_at_least c.loop-shorter.starts _ _ (is_within c.args.range (c.in-Some.v, c.loop-shorter.shorter + 1)) (c.in-Some.v, c.loop-shorter.shorter + 1) (rw c.if-not-put.true at c.put.ensures.within) (rw c.if-not-put.true at c.put.ensures.some)
+    (others_next c.args.self.now c.args.back.now c.args.x.now c.args.u (c.loop-shorter.shorter + 1) c.in-Some.v (is_within c.args.range) c.loop-shorter.starts _ _ (omega (arith, c.loop-shorter-test.true, c.longest_move-shorter-end.ensures)) (sym c.vertex_at.ensures.vertex ∙ c.in-Some.is) c.if-v-u.false
+    c.loop-shorter.invariant refl)
