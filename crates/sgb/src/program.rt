@@ -24,7 +24,7 @@ use std::io::{self, ErrorKind};
 ///
 /// Words that could not be read are an invalid command line (2), or out of memory (1). `source` is standard input, left
 /// alone unless the request reads it.
-/// Where no request is run, `out` is left as it was, with no flush.
+/// Where no request is run, `out` is left as it was, with no flush; so it is where the exit status is 1.
 pub fn run_program<R: Source, W: Sink, E: Sink>(
     alloc: Global,
     words: io::Result<Vec<String>>,
@@ -46,6 +46,8 @@ pub fn run_program<R: Source, W: Sink, E: Sink>(
           err = change E.written E.has_failed errors.old errors.new;
           status = result;
         })) }
+    // A refusal leaves the output as it was, and so does want of memory.
+    ensures untouched { result ≡ 1 → out.new ≡ out.old }
     ensures flushed { result ≡ 0 → W.held out.new ≡ [] }
     ensures unread { MatchResult words
         (λ words. AskForNoInput (map string_bytes words.items) → source.new ≡ source.old)

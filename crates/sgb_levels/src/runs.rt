@@ -1,5 +1,5 @@
 //! The program: the graph of an expression, and the lines of its vertices.
-ghost use Rattle.std.specs.Prelude.{◌≡◌, ◌<◌, ◌+◌, [], false, length, map, Err, MatchResult};
+ghost use Rattle.std.specs.Prelude.{◌≡◌, ◌<◌, ◌+◌, [], false, length, map, Err, IfErr, MatchResult};
 ghost use Rattle.std.specs.IoError.{error_kind};
 ghost use Rattle.std.specs.String.{string_bytes};
 ghost use Rattle.sgb_file.specs.Devices.{AppendsUnlessFailed, change};
@@ -34,7 +34,8 @@ use std::io;
 ///
 /// Words that could not be read are an invalid command line (2), or out of memory (1). `source` is standard input. It is
 /// read only if the expression has `stdin`, before all else, and whole, but of more than 2^30 bytes only so many and one
-/// more. What is refused leaves `out` as it was, with no flush; an answer that is given in full ends with one.
+/// more. What is refused, or for which memory runs out, leaves `out` as it was, with no flush; an answer that is given in
+/// full ends with one.
 pub fn run_levels<R: Source, W: Sink, E: Sink>(
     alloc: Global,
     words: io::Result<Vec<String>>,
@@ -56,6 +57,8 @@ pub fn run_levels<R: Source, W: Sink, E: Sink>(
           err = change E.written E.has_failed errors.old errors.new;
           status = result;
         })) }
+    // A refusal leaves the output as it was, and so does want of memory.
+    ensures untouched { result ≡ 1 → out.new ≡ out.old }
     ensures flushed { result ≡ 0 → W.held out.new ≡ [] }
     ensures unread { MatchResult words
         (λ words. AskForNoStdin (map string_bytes words.items) → source.new ≡ source.old)
@@ -128,7 +131,7 @@ impl Answer for Levels {
 
     ghost certain = { λ l. ⊥ };
 
-    ghost prepared = { λ l. ⊥ };
+    ghost prepared = { λ _. Unit {0} };
 
     fn reads_input(&self) -> bool {
         self.expression.has_stdin()
@@ -145,8 +148,9 @@ impl Answer for Levels {
 fn write_lines<W: Sink>(graph: &Graph, distances: &[Option<u32>], out: &mut W) -> Result<(), Fault>
     requires size { length distances.now ≡ length graph.now.vertices }
     requires sound { W.has_failed out.old ≡ false }
-    ensures { IsWritten (level_lines (names_of graph.now) distances.now 0)
+    ensures written { IsWritten (level_lines (names_of graph.now) distances.now 0)
         (change W.written W.has_failed out.old out.new) result }
+    ensures fault { IfErr result (λ f. f ≡ Fault.Write) }
 {
     for v in 0..graph.n() {
         write_vertex(graph, distances, v, out)?;
@@ -164,8 +168,9 @@ fn write_vertex<W: Sink>(
     requires vertex { v < length graph.now.vertices }
     requires size { length distances.now ≡ length graph.now.vertices }
     requires sound { W.has_failed out.old ≡ false }
-    ensures { IsWritten (level_line (names_of graph.now) distances.now v)
+    ensures written { IsWritten (level_line (names_of graph.now) distances.now v)
         (change W.written W.has_failed out.old out.new) result }
+    ensures fault { IfErr result (λ f. f ≡ Fault.Write) }
 {
     write_line(graph.name(v).bytes(), distances[v as usize], out)
 }
@@ -173,8 +178,9 @@ fn write_vertex<W: Sink>(
 // Writes the line of a vertex with this name and distance.
 fn write_line<W: Sink>(name: &[u8], distance: Option<u32>, out: &mut W) -> Result<(), Fault>
     requires { W.has_failed out.old ≡ false }
-    ensures { IsWritten (line_of_level name.now distance)
+    ensures written { IsWritten (line_of_level name.now distance)
         (change W.written W.has_failed out.old out.new) result }
+    ensures fault { IfErr result (λ f. f ≡ Fault.Write) }
 {
     write_bytes(out, name)?;
     write_bytes(out, b" ")?;
@@ -185,8 +191,9 @@ fn write_line<W: Sink>(name: &[u8], distance: Option<u32>, out: &mut W) -> Resul
 // Writes a distance in decimal, or `-` where there is none.
 fn write_distance<W: Sink>(distance: Option<u32>, out: &mut W) -> Result<(), Fault>
     requires { W.has_failed out.old ≡ false }
-    ensures { IsWritten (distance_text distance)
+    ensures written { IsWritten (distance_text distance)
         (change W.written W.has_failed out.old out.new) result }
+    ensures fault { IfErr result (λ f. f ≡ Fault.Write) }
 {
     let mut digits = Buffer::new();
     match distance {

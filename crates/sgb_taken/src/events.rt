@@ -1,5 +1,5 @@
 //! The events of which the graph of an operation is made (GB_GRAPH, gb_new_arc and gb_new_edge).
-ghost use Rattle.std.specs.Prelude.{◌≡◌, ◌<◌, ◌==◌, ◌+◌, ◌^◌, [], ◌∷◌, length, OnOk, IsOkUnless};
+ghost use Rattle.std.specs.Prelude.{◌≡◌, ◌<◌, ◌==◌, ◌+◌, ◌^◌, [], ◌∷◌, length, OnErr, OnOk, IsOkUnless};
 ghost use Rattle.sgb_graph.specs.Events.{HasEndsBelow};
 ghost use Rattle.sgb_graph.specs.Growth.{AddsEvents, HasPlainArcs};
 ghost use Rattle.sgb_taken.specs.inner.Ends.{bit_place, ends_key, link_of, shortened};
@@ -92,12 +92,13 @@ impl Event {
     /// Adds it to a graph, as an arc where the graph is `directed`, and else as an edge. Its ends are vertices of the graph, whose
     /// records have no utility fields yet.
     ///
-    /// `NoRoom` when out of memory, and nothing else.
+    /// `NoRoom` when out of memory, and nothing else; the graph is then as it was.
     #[inline(always)]
     pub fn add_to(self, directed: bool, built: &mut Graph) -> Result<(), Panic>
         requires within { HasEndsBelow (length built.old.vertices) self }
         requires plain { HasPlainArcs built.old }
         ensures ok { OnOk result (AddsEvents directed built.old built.new (self ∷ [])) }
+        ensures err { OnErr result (built.new ≡ built.old) }
         ensures memory { IsOkUnless result Panic.NoRoom }
     {
         built.add_event(directed, self.from, self.to, self.len)

@@ -17,3 +17,6 @@ returns-in-Err-clause-read g c =
 
 pub returns-in-Err-clause-flushed : goal.returns-in-Err-clause-flushed
 returns-in-Err-clause-flushed g c = λ none. absurd (fault_status c.in-Err.fault (sym c.report_refusal.ensures.status ∙ none))
+
+pub returns-in-Ok-clause-untouched : goal.returns-in-Ok-clause-untouched
+returns-in-Ok-clause-untouched g c = c.run_answer.ensures.untouched tt
