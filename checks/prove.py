@@ -90,8 +90,9 @@ class Progress:
         spent = {name: work.spent() for name, work in running.items()}
         rest = sum(max(0, self.known.get(name, 0) - spent.get(name, 0)) for name in [*running, *left])
         said = [f"{name} {spent[name]:.0f} s" + (f" of some {self.known[name]}" if name in self.known else "") for name in sorted(running)]
-        more = f", then {len(left)} more; some {rest / 60:.0f} minutes of a processor are left" if self.known else ""
-        print(f"  by second {passed:.0f}: {', '.join(said)}{more}", flush=True)
+        then = f", then {len(left)} more" if left else ""
+        of_all = f"; some {rest / 60:.0f} minutes of a processor are left" if self.known else ""
+        print(f"  by second {passed:.0f}: {', '.join(said)}{then}{of_all}", flush=True)
 
     def ended(self, running, left=()):
         """The name of what has ended, once something has."""
