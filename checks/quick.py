@@ -267,10 +267,10 @@ def sum_of(paths, *texts):
     return total.hexdigest()
 
 
-def sums(kit):
+def sums():
     """Of what is built, the sum of all that it is built of."""
-    own = [os.path.abspath(__file__), os.path.join(TOP, "crates.txt"), os.path.join(kit, "KIT-ID")]
-    found = {name: sum_of([*own, *sources(TOP, crate)]) for name, crate in CRATES.items()}
+    own, kit = [os.path.abspath(__file__), os.path.join(TOP, "crates.txt")], ran(["rt", "version"], TOP).stdout
+    found = {name: sum_of([*own, *sources(TOP, crate)], kit) for name, crate in CRATES.items()}
     forms = [os.path.join(TOP, form) for form in ("include/**/*.h", "graphbase/*.[ch]", "lib.mk")]
     of_archives = [path for form in forms for path in glob.glob(form, recursive=True)]
     return {**found, ARCHIVES: sum_of(of_archives, found[LIBRARY])}
@@ -340,7 +340,7 @@ def main():
     with open(os.path.join(PLACE, "lock"), "w", encoding="ascii") as lock:
         # a second run in this tree waits, and finds what the first one built
         fcntl.flock(lock, fcntl.LOCK_EX)
-        if not build_all(kit, sums(kit)):
+        if not build_all(kit, sums()):
             sys.exit("quick.py: not built")
         shutil.rmtree(WORK, ignore_errors=True)
     made = [*(name for name in CRATES if name != LIBRARY), *sorted(map(os.path.basename, made_archives(PLACE)))]
