@@ -43,7 +43,7 @@ meaning() {
         "sgb: no such vertex") echo "no vertex has that name; the first ones are:"; "${SGB:-sgb}" names "$expression" < "$kept" 2> /dev/null | head -n 3 ;;
         "sgb: read fault") echo "standard input is closed, a folder, or fails" ;;
         "sgb: write fault") echo "standard output is closed, full, or nobody reads it any more" ;;
-        *"(panic code 1)!") echo "out of memory: what was written is a prefix of the answer" ;;
+        *"(panic code 1)!") echo "out of memory: nothing was written" ;;
         *"(panic code 10)!") echo "standard input is no .gb file: its first line, '* GraphBase graph (util_types ..', is not there" ;;
         *"(panic code 11)!") echo "the last line, '* Checksum ..', is missing or wrong: '* Checksum -1' is not compared" ;;
         *"(panic code 20)!") echo "a record of the file is wrong or not finished, or a list of arcs does not end" ;;
