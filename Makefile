@@ -53,6 +53,7 @@ examples: sgb
 	python3 examples/tests/convert_test.py ./sgb
 	python3 examples/tests/sgb_graph_test.py
 	examples/tests/to_gb_test.py ./sgb
+	examples/tests/edges_test.py ./sgb
 	examples/tests/cookbook_test.py ./sgb
 	examples/tests/course_test.py ./sgb
 	examples/tests/shards_test.sh

@@ -56,17 +56,7 @@ REFUSED = [
 ]
 
 # the same of edges alone
-NO_SUCH_NAME = "to=edges has no name that is empty or has a space at an end"
-
 REFUSED_OF_EDGES = [
-    (f"sgb list {given}", options, f'{NO_SUCH_NAME}, as "{name}" is: {line}')
-    for given, options, name, line in [
-        ("stdin < empty.gb", "", "", "say -v numbers=1"),
-        ("stdin < before.gb", "", " b", "say -v numbers=1"),
-        ("stdin < behind.gb", "-v directed=1", "b ", "say -v numbers=1"),
-        ("stdin --skip 1 < behind.gb", "-v resumed=1", "b ", "other forms have it"),
-    ]
-] + [
     ('sgb list "petersen()" --skip 1', "-v numbers=1 -v resumed=1", "a resumed listing has not all vertices, and n"),
     ('sgb list "petersen()" --skip 1', "-v numbers=1", NO_HEAD),
 ]
@@ -128,10 +118,11 @@ def agreed(program):
             "names = [name for name, _ in listing()]\n"
             "met = {end for edge in edges for end in edge[:2]}\n"
             "is_long = any(length != 1 for _, _, length in edges)\n"
+            "def shown(name): return name if name and name[0] not in '#%' and ' ' not in name else f'\"{name}\"'\n"
             "for name in names:\n"
-            "    if name not in met: print(name)\n"
+            "    if name not in met: print(f'\"{name}\"')\n"
             "    for edge in edges:\n"
-            "        if edge[0] == name: print(*edge[:3 if is_long else 2], sep='\\t')\n",
+            "        if edge[0] == name: print(*map(shown, edge[:2]), *edge[2:3 if is_long else 2], sep='\\t')\n",
         )
         for expression, directed in AGREED:
             words = expression.split(" ", 1)
@@ -150,7 +141,10 @@ def agreed(program):
                 ('"circuit(4)" --skip 2', "-v resumed=1", "2\t3\n2\t1\n3\t0\n"),
                 ('"circuit(4)" --skip 4', "-v resumed=1", ""),
                 ('"cycle(4)" --after 1', "-v resumed=1 -v directed=1", "2\t3\n3\t0\n"),
-                ("stdin < signs.gb", "", "#a\tb # c\t5\nb # c\t#\t7\n# d\n"),
+                ("stdin < signs.gb", "", '"#a"\t"b # c"\t5\n"b # c"\t"#"\t7\n"# d"\n'),
+                ("stdin < empty.gb", "", '"a"\n""\tc\n'), ("stdin < before.gb", "", 'a\t" b"\n'),
+                ("stdin < behind.gb", "-v directed=1", 'a\t"b "\n"b "\ta\n'),
+                ("stdin --skip 1 < behind.gb", "-v resumed=1", '"b "\ta\n'),
                 ("stdin < signs.gb", "-v numbers=1", "1\t2\t5\n2\t3\t7\n4\n"),
                 ("stdin < empty.gb", "-v numbers=1", "1\n2\t3\n"),
                 ("stdin < behind.gb", "-v numbers=1 -v directed=1", "1\t2\n2\t1\n"),

@@ -5,12 +5,14 @@
 #   sgb list "cycle(4)" | awk -v to=dot -v directed=1 -f examples/listings/convert.awk | dot -Tsvg > cycle.svg
 #
 #   to=dot      Graphviz's DOT. The label of an edge is its length.
-#   to=edges    A line for each edge: two names and its length with tabs between them; an isolated vertex alone on a line.
-#               networkx leaves that out, and reads the others by
-#                 read_edgelist("petersen.tsv", delimiter="\t", comments=None, create_using=networkx.MultiGraph)
+#   to=edges    A line for each edge: two names and its length with tabs between them; an isolated vertex alone on a line,
+#               in quotes. A name that is empty, has a space, or begins with # or % is in quotes, too, as CSV has them.
+#               Where the first line could be the head of a table, its first name stands alone before it.
+#               examples/files/to_gb.py reads all that; networkx leaves isolated vertices out, and reads the others by
+#                 read_edgelist("petersen.tsv", delimiter="\t", comments=None, nodetype=lambda name: name.strip('"'),
+#                               create_using=networkx.MultiGraph)
 #               with data=[("weight", int)] where there are lengths, as networkx.MultiDiGraph where arcs are. (Without
-#               comments=None a name ends at a "#".) Names that are empty or have a space at an end are refused, since
-#               readers drop such spaces; numbers=1 writes numbers in the place of names.
+#               comments=None a name ends at a "#".)
 #   to=dimacs   DIMACS: "p edge" with a line "e 1 2" for each edge where all lengths are 1; else, and with directed=1,
 #               "p sp" with a line "a 1 2 LENGTH" for each arc, two for an edge.
 #   to=metis    METIS: a line with the neighbours of each vertex. It has no arcs, loops, parallel edges, or lengths below 1.
@@ -39,8 +41,8 @@
 #               is not in it is written once. Whether vertices are missing, or arcs at its end, or whether what leads
 #               out of it is an edge or an arc, cannot be seen.
 #
-# It keeps the graph: mawk takes some 400 bytes for each vertex and 100 for each arc. Of a million and a half arcs it takes some
-# twenty seconds: the package sgb for Python, where it is, writes the same texts of arrays in two (sgb.convert).
+# It keeps the graph: mawk takes some 150 bytes for each vertex and 20 for each arc, and five seconds for a million and a half
+# arcs. The package sgb for Python, where it is, writes the same texts of arrays (sgb.convert).
 
 BEGIN {
     if (to !~ /^(dot|edges|dimacs|metis|mtx|graphml|graph6)$/)
@@ -53,6 +55,7 @@ BEGIN {
         fail("a resumed listing has not all vertices, and numbers=1 needs them")
     else if (directed && (to == "metis" || to == "graph6"))
         fail("to=" to " has no arcs")
+    has_both = to ~ /^(dimacs|metis|graph6)$/
     # Records end at ">" and not at the end of a line: so a last line that has no end is seen.
     RS = ">"
 }
@@ -61,8 +64,14 @@ failed { next }
 
 {
     last = split((NR > 1 ? rest ">" : "") $0, lines, "\n")
-    for (i = 1; i < last && !failed; i++)
-        take(lines[i] "")
+    for (i = 1; i < last && !failed; i++) {
+        line = lines[i] ""
+        # most lines are so, and are looked at no further
+        if (vertices && substr(line, 1, 5) == "  -> " && substr(line, at = length(line) - 9) == ", length 1")
+            take_arc(substr(line, 6, at - 6), "")
+        else
+            take(line)
+    }
     rest = lines[last]
 }
 
@@ -86,21 +95,34 @@ function fail(text) {
     failed = 1
 }
 
-# ---- reading: vertices and tips get numbers as they are met; order[i] is that of the vertex in place i, from 1
+# ---- reading: names[i] is the vertex in place i, from 1, and lists[i] has its arcs, each with its end: the tip, and below
+# a tab its length, if that is not 1. Of an edge the arc that comes first stands there; forms that want the other one,
+# too, have it with a carriage return before it.
 
 function take(line,    at) {
-    if (is_title(line))
+    if (taken < 4 && is_head(line))
         return
-    if (++taken <= 4 && !resumed)
-        head[taken] = line
-    else if (vertices && substr(line, 1, 5) == "  -> " && (at = match(line, /, length -?[0-9]+$/)))
-        take_arc(number(substr(line, 6, at - 6)), substr(line, at + 9))
-    else
+    if (!vertices || substr(line, 1, 5) != "  -> ")
         take_vertex(line)
-    if (taken == 4 && !resumed)
-        take_head()
-    if (taken == 1 && resumed && (titles || line == "  The graph whose official name is"))
+    else if (at = match(line, /, length -?[0-9]+$/)) {
+        take_arc(substr(line, 6, at - 6), "\t" substr(line, at + 9))
+        lengths = 1
+    } else
+        take_vertex(line)
+}
+
+# Whether the line stands before the vertices.
+function is_head(line) {
+    if (is_title(line))
+        return 1
+    if (++taken == 1 && resumed && (titles || line == "  The graph whose official name is"))
         fail("the listing has its head: leave resumed=1 out")
+    if (resumed)
+        return 0
+    head[taken] = line
+    if (taken == 4)
+        take_head()
+    return 1
 }
 
 # Whether the line is the title that stands before the head of the queens' listing, or the empty line after it.
@@ -119,45 +141,81 @@ function take_head(    words) {
     head_arcs = words[5] + 0
 }
 
-function take_vertex(name) {
-    vertex = number(name)
-    if (vertex in place)
+# waiting[v] has the arcs to v, each with its end, that came before v and so wait for one back; back[arc] says how many
+# of them the list of v has still to have, and open how many in all. Of loops every second is the one back.
+function take_vertex(name,    i, arcs_to) {
+    end_list()
+    if (name in place)
         fail("two vertices have the name " name ", and a listing has names alone")
-    place[vertex] = ++vertices
-    order[vertices] = vertex
-    first[vertices] = arcs + 1
-}
-
-function take_arc(tip, len) {
-    tips[++arcs] = tip
-    if (len != "1") {
-        lens[arcs] = len
-        lengths = 1
+    vertex = names[++vertices] = name
+    place[name] = vertices
+    if (!is_plain(name))
+        is_quoted = 1
+    if (is_waited = is_used = name in waiting) {
+        open = split(waiting[name], arcs_to, "\n") - 1
+        for (i = 1; i <= open; i++)
+            back[arcs_to[i]]++
+        delete waiting[name]
     }
-    if (!directed)
-        match_up(vertex, tip, len)
 }
 
-function number(name) {
-    if (!(name in number_of)) {
-        number_of[name] = ++known
-        names[known] = name
+function take_arc(tip, len,    arc) {
+    arcs++
+    arc = tip len
+    if (directed)
+        list = list arc "\n"
+    else if (open && back[arc]) {
+        back[arc]--
+        open--
+        if (has_both)
+            list = list "\r" arc "\n"
+    } else {
+        list = list arc "\n"
+        if (tip != vertex)
+            waiting[tip] = waiting[tip] vertex len "\n"
+        else {
+            back[arc]++
+            is_used = ++open
+        }
     }
-    return number_of[name]
 }
 
-# single[u, v, len] is how many more arcs there are from u to v than back; of loops, whether one is left over
-function match_up(u, v, len,    key) {
-    key = u < v ? u SUBSEP v SUBSEP len : v SUBSEP u SUBSEP len
-    single[key] += u < v || (u == v && !single[key]) ? 1 : -1
-    if (!single[key])
-        delete single[key]
+function end_list(    arc) {
+    if (vertices)
+        lists[vertices] = list
+    if (list == "" && is_waited)
+        is_tip[vertex] = 1
+    list = ""
+    if (open)
+        for (arc in back)
+            if (back[arc])
+                note(arc, vertex)
+    open = 0
+    if (is_used)
+        split("", back)
+}
+
+# Notes the arc to `tip`, whose tail and length are `arc`, as one without an arc back: the first of them in the listing is told.
+function note(arc, tip,    at, tail, len, i) {
+    at = index(arc, "\t")
+    tail = at ? substr(arc, 1, at - 1) : arc
+    len = at ? substr(arc, at) : ""
+    i = place[tail]
+    if (single && i > single)
+        return
+    at = index("\n" lists[i], "\n" tip len "\n")
+    if (i == single && at > single_at)
+        return
+    single = i
+    single_at = at
+    single_tip = tip
+    single_len = len == "" ? "1" : substr(len, 2)
 }
 
 # ---- whether all of it was read, and is right
 
 function check() {
-    first[vertices + 1] = arcs + 1
+    end_list()
     if (rest != "")
         fail("the listing is cut off in the middle of a line")
     else if (!resumed && taken < 4)
@@ -171,146 +229,161 @@ function check() {
         check_arcs()
     if (!failed && (to == "metis" || to == "mtx" || to == "graph6"))
         check_form()
-    if (!failed && to == "edges" && !numbers)
-        check_names()
 }
 
-function check_arcs(    i, k, u, v, key) {
-    for (i = 1; i <= vertices; i++)
-        for (k = first[i]; k < first[i + 1]; k++) {
-            u = order[i]
-            v = tips[k]
-            if (!(v in place)) {
-                if (!resumed)
-                    return fail("no vertex has the name " names[v] ", but an arc leads there from " names[u])
-                continue
-            }
-            if (directed)
-                continue
-            key = (u < v ? u SUBSEP v : v SUBSEP u) SUBSEP len_of(k)
-            if (key in single && (u == v || (u < v) == (single[key] > 0)))
-                return fail("the arc from " names[u] " to " names[v] ", length " len_of(k) \
-                    ", is no edge, since none leads back: say -v directed=1 where arcs are meant")
+# Whether each arc leads to a vertex, and is one of an edge if it has to be.
+function check_arcs(    i, k, count, tip, arc) {
+    for (tip in waiting)
+        if (!resumed || tip in place) {
+            count = split(waiting[tip], arc, "\n")
+            for (k = 1; k < count; k++)
+                note(arc[k], tip)
         }
+    for (i = 1; directed && !single && i <= vertices; i++) {
+        count = split(lists[i], arc, "\n")
+        for (k = 1; k < count && !single; k++) {
+            is_tip[tip = tip_of(arc[k])] = 1
+            if (!resumed && !(tip in place))
+                note(names[i] substr(arc[k], length(tip) + 1), tip)
+        }
+    }
+    if (single && single_tip in place)
+        fail("the arc from " names[single] " to " single_tip ", length " single_len \
+            ", is no edge, since none leads back: say -v directed=1 where arcs are meant")
+    else if (single)
+        fail("no vertex has the name " single_tip ", but an arc leads there from " names[single])
 }
 
-# Whether the format has such a graph: a loop stands twice on its vertex's list, of arcs once.
-function check_form(    i, k, loops, met) {
+# Whether the format has such a graph.
+function check_form(    i, k, count, arc, tip, met) {
     for (i = 1; i <= vertices; i++) {
-        loops = 0
-        for (k = first[i]; k < first[i + 1]; k++) {
-            if (to == "metis" && len_of(k) < 1)
-                return fail("to=metis has no lengths below 1, and there is one at " names[order[i]])
-            if (tips[k] == order[i] && to != "mtx")
-                return fail("to=" to " has no loops, and there is one at " names[order[i]])
-            if (tips[k] == order[i] ? ++loops > 2 - directed : met[tips[k]] == i)
-                return fail("to=" to " has no parallel edges, and there are some from " names[order[i]] \
-                    " to " names[tips[k]])
-            met[tips[k]] = i
+        count = split(lists[i], arc, "\n")
+        split("", met)
+        for (k = 1; k < count; k++) {
+            tip = tip_of(arc[k])
+            if (to == "metis" && len_of(arc[k]) < 1)
+                return fail("to=metis has no lengths below 1, and there is one at " names[i])
+            if (tip == names[i] && to != "mtx")
+                return fail("to=" to " has no loops, and there is one at " names[i])
+            if (met[tip]++)
+                return fail("to=" to " has no parallel edges, and there are some from " names[i] " to " tip)
         }
     }
 }
 
-# Whether the names can stand between tabs: readers drop spaces at the ends of a line.
-function check_names(    k) {
-    for (k = 1; k <= known && !failed; k++)
-        if (names[k] == "" || names[k] ~ /^ / || names[k] ~ / $/)
-            fail("to=edges has no name that is empty or has a space at an end, as \"" names[k] \
-                "\" is: " (resumed ? "other forms have it" : "say -v numbers=1"))
-}
-
 # ---- what the formats have in common
 
-function len_of(k) { return k in lens ? lens[k] : "1" }
+function is_back(arc) { return substr(arc, 1, 1) == "\r" }
 
-# Whether arc k, which stands in the block of place i, is to be written: each arc, or each edge in the block that comes
-# first; of the loops of one length every second, so that when all were asked for the next pass begins anew.
-function is_written(i, k,    tip, key) {
-    tip = tips[k]
-    if (directed || !(tip in place))
-        return 1
-    if (place[tip] != i)
-        return place[tip] > i
-    key = tip SUBSEP len_of(k)
-    return half[key] = !half[key]
+function tip_of(arc,    at) {
+    if (is_back(arc))
+        arc = substr(arc, 2)
+    at = index(arc, "\t")
+    return at ? substr(arc, 1, at - 1) : arc
+}
+
+function len_of(arc,    at) {
+    at = index(arc, "\t")
+    return at ? substr(arc, at + 1) : "1"
 }
 
 # ---- the formats
 
 # Names have no quotes and no backslashes, so they stand in quotes as they are.
-function write_dot(    i, k) {
+function write_dot(    i, k, count, arc) {
     print (directed ? "digraph" : "graph") " \"" head[2] "\" {"
     for (i = 1; i <= vertices; i++) {
-        print "  \"" names[order[i]] "\";"
-        for (k = first[i]; k < first[i + 1]; k++)
-            if (is_written(i, k))
-                print "  \"" names[order[i]] (directed ? "\" -> \"" : "\" -- \"") names[tips[k]] \
-                    "\"" (lengths ? " [label=\"" len_of(k) "\"]" : "") ";"
+        print "  \"" names[i] "\";"
+        count = split(lists[i], arc, "\n")
+        for (k = 1; k < count; k++)
+            print "  \"" names[i] (directed ? "\" -> \"" : "\" -- \"") tip_of(arc[k]) \
+                "\"" (lengths ? " [label=\"" len_of(arc[k]) "\"]" : "") ";"
     }
     print "}"
 }
 
-function write_edges(    i, k, is_tip) {
-    for (k = 1; k <= arcs; k++)
-        is_tip[tips[k]] = 1
+function write_edges(    i, k, count, arc, is_begun, is_changed) {
+    is_changed = numbers || lengths || resumed || is_quoted
     for (i = 1; i <= vertices; i++) {
-        if (first[i] == first[i + 1] && !(order[i] in is_tip))
-            print in_edges(order[i])
-        for (k = first[i]; k < first[i + 1]; k++)
-            if (is_written(i, k))
-                print in_edges(order[i]) "\t" in_edges(tips[k]) (lengths ? "\t" len_of(k) : "")
+        count = split(lists[i], arc, "\n")
+        if (count ? !is_begun && is_like_head(i, arc[1]) : !(names[i] in is_tip))
+            print numbers ? i : "\"" names[i] "\""
+        is_begun = is_begun || count || !(names[i] in is_tip)
+        for (k = 1; k < count; k++)
+            if (is_changed)
+                print in_edges(names[i]) "\t" in_edges(tip_of(arc[k])) (lengths ? "\t" len_of(arc[k]) : "")
+            else
+                print names[i] "\t" arc[k]
     }
 }
 
-function in_edges(vertex) { return numbers ? place[vertex] : names[vertex] }
+function in_edges(name) { return numbers ? place[name] : is_plain(name) ? name : "\"" name "\"" }
+
+# Whether a name can be taken for nothing else, between tabs: others are in quotes, which are in none.
+function is_plain(name) { return name ~ /^[^#% ][^ ]*$/ }
+
+# Whether the first line, of these two names, can be taken for the head of a table: neither stands in another line.
+function is_like_head(i, tip,    j) {
+    if (numbers || lengths || vertices < 3 || names[i] ~ /^-?[0-9]+$/ || tip ~ /^-?[0-9]+$/ || lists[i] != tip "\n" || lists[place[tip]] != "")
+        return 0
+    for (j = i + 1; j <= vertices; j++)
+        if (index("\n" lists[j], "\n" tip "\n") || index("\n" lists[j], "\n" names[i] "\n"))
+            return 0
+    return 1
+}
 
 # A comment for each vertex: the name of its number, from 1.
 function write_names(sign,    i) {
     print sign " " head[2]
     for (i = 1; i <= vertices; i++)
-        print sign " vertex " i " is " names[order[i]]
+        print sign " vertex " i " is " names[i]
 }
 
 # Edges of length 1 as in the problems of colouring, else arcs as in those of shortest paths: for an edge one each way.
-function write_dimacs(    i, k, is_edges) {
+function write_dimacs(    i, k, count, arc, is_edges) {
     is_edges = !directed && !lengths
     write_names("c")
     print is_edges ? "p edge " vertices + 0 " " arcs / 2 : "p sp " vertices + 0 " " arcs + 0
-    for (i = 1; i <= vertices; i++)
-        for (k = first[i]; k < first[i + 1]; k++)
+    for (i = 1; i <= vertices; i++) {
+        count = split(lists[i], arc, "\n")
+        for (k = 1; k < count; k++)
             if (!is_edges)
-                print "a " i " " place[tips[k]] " " len_of(k)
-            else if (is_written(i, k))
-                print "e " i " " place[tips[k]]
+                print "a " i " " place[tip_of(arc[k])] " " len_of(arc[k])
+            else if (!is_back(arc[k]))
+                print "e " i " " place[tip_of(arc[k])]
+    }
 }
 
 # A line for each vertex: its neighbours, each with the length of the edge where there are lengths.
-function write_metis(    i, k, line) {
+function write_metis(    i, k, count, arc, line) {
     write_names("%")
     print vertices + 0 " " arcs / 2 (lengths ? " 001" : "")
     for (i = 1; i <= vertices; i++) {
         line = ""
-        for (k = first[i]; k < first[i + 1]; k++)
-            line = line (line == "" ? "" : " ") place[tips[k]] (lengths ? " " len_of(k) : "")
+        count = split(lists[i], arc, "\n")
+        for (k = 1; k < count; k++)
+            line = line (line == "" ? "" : " ") place[tip_of(arc[k])] (lengths ? " " len_of(arc[k]) : "")
         print line
     }
 }
 
 # A line for each entry, row and column and length; of a symmetric matrix those that are not above the diagonal.
-function write_mtx(    i, k, entries) {
+function write_mtx(    i, k, count, arc, tip, entries) {
     for (i = 1; i <= vertices; i++)
-        for (k = first[i]; k < first[i + 1]; k++)
-            entries += is_written(i, k)
+        entries += gsub(/\n/, "\n", lists[i])
     print "%%MatrixMarket matrix coordinate " (lengths ? "integer " : "pattern ") (directed ? "general" : "symmetric")
     write_names("%")
     print vertices + 0 " " vertices + 0 " " entries + 0
-    for (i = 1; i <= vertices; i++)
-        for (k = first[i]; k < first[i + 1]; k++)
-            if (is_written(i, k))
-                print (directed ? i " " place[tips[k]] : place[tips[k]] " " i) (lengths ? " " len_of(k) : "")
+    for (i = 1; i <= vertices; i++) {
+        count = split(lists[i], arc, "\n")
+        for (k = 1; k < count; k++) {
+            tip = place[tip_of(arc[k])]
+            print (directed ? i " " tip : tip " " i) (lengths ? " " len_of(arc[k]) : "")
+        }
+    }
 }
 
-function write_graphml(    i, k) {
+function write_graphml(    i, k, count, arc) {
     print "<?xml version=\"1.0\" encoding=\"UTF-8\"?>"
     print "<graphml xmlns=\"http://graphml.graphdrawing.org/xmlns\">"
     print "  <key id=\"id\" for=\"graph\" attr.name=\"name\" attr.type=\"string\"/>"
@@ -320,12 +393,13 @@ function write_graphml(    i, k) {
     print "  <graph edgedefault=\"" (directed ? "directed" : "undirected") "\">"
     print "    <data key=\"id\">" escaped(head[2]) "</data>"
     for (i = 1; i <= vertices; i++)
-        print "    <node id=\"n" i - 1 "\"><data key=\"name\">" escaped(names[order[i]]) "</data></node>"
-    for (i = 1; i <= vertices; i++)
-        for (k = first[i]; k < first[i + 1]; k++)
-            if (is_written(i, k))
-                print "    <edge source=\"n" i - 1 "\" target=\"n" place[tips[k]] - 1 "\"" \
-                    (lengths ? "><data key=\"weight\">" len_of(k) "</data></edge>" : "/>")
+        print "    <node id=\"n" i - 1 "\"><data key=\"name\">" escaped(names[i]) "</data></node>"
+    for (i = 1; i <= vertices; i++) {
+        count = split(lists[i], arc, "\n")
+        for (k = 1; k < count; k++)
+            print "    <edge source=\"n" i - 1 "\" target=\"n" place[tip_of(arc[k])] - 1 "\"" \
+                (lengths ? "><data key=\"weight\">" len_of(arc[k]) "</data></edge>" : "/>")
+    }
     print "  </graph>"
     print "</graphml>"
 }
@@ -338,14 +412,15 @@ function escaped(text) {
 }
 
 # The number of vertices, then a bit for each pair, those of (1, 2), (1, 3), (2, 3), (1, 4), ..; six bits a byte.
-function write_graph6(    i, j, k, is_tip, bits, value) {
+function write_graph6(    i, j, k, count, arc, is_tip, bits, value) {
     if (vertices > 62)
         printf "%s", (vertices > 258047 ? "~~" : "~")
     write_bits(vertices + 0, vertices > 258047 ? 6 : vertices > 62 ? 3 : 1)
     for (j = 2; j <= vertices; j++) {
         split("", is_tip)
-        for (k = first[j]; k < first[j + 1]; k++)
-            is_tip[place[tips[k]]] = 1
+        count = split(lists[j], arc, "\n")
+        for (k = 1; k < count; k++)
+            is_tip[place[tip_of(arc[k])]] = 1
         for (i = 1; i < j; i++) {
             value = 2 * value + (i in is_tip)
             if (++bits == 6) {

@@ -92,8 +92,6 @@ def fits(graph, form, directed):
         return False
     if form in ("metis", "graph6") and (directed or any(u == v for u, v in pairs)):
         return False
-    if form == "edges" and not all(name and name == name.strip() for name in graph.names):
-        return False
     return form != "metis" or all(length > 0 for _, _, length in graph.edges)
 
 
@@ -131,8 +129,9 @@ def read_dot(text, graph, directed):
 def read_edges(text, graph, directed):
     place, met, edges = {name: at for at, name in enumerate(graph.names)}, set(), []
     for line in text.splitlines():
-        ends, length = line.split("\t")[:2], (line.split("\t") + ["1"])[2:3]
-        assert len(ends) == 2 or not met & {place[line]}, line
+        words = [word.strip('"') for word in line.split("\t")]
+        ends, length = words[:2], (words + ["1"])[2:3]
+        assert len(ends) == 2 or line[0] == line[-1] == '"' and not met & {place[ends[0]]}, line
         met |= {place[end] for end in ends}
         if len(ends) == 2:
             edges.append((place[ends[0]], place[ends[1]], int(length[0])))
@@ -215,17 +214,17 @@ def is_same(form, seen, graph, directed):
 # ---- the reader of edges that the head of convert.awk names, by the call that stands there
 
 
-def called(read_edgelist, kinds, path, graph, directed, **more):
+def called(read_edgelist, kinds, path, graph, directed):
     """What the call gives, where `read_edgelist` has these kinds of graphs."""
     with open(SCRIPT, encoding="utf-8") as file:
         head = file.read().partition("\nBEGIN")[0]
-    call = re.search(r"^#\s+(read_edgelist\(.*\))$", head, re.M)[1].replace('"petersen.tsv"', "path")
+    call = re.search(r"^#\s+(read_edgelist\(.*\))\n#\s+with data", head, re.M | re.S)[1]
+    call = re.sub(r"\n#\s+", " ", call).replace('"petersen.tsv"', "path")
     if any(length != 1 for _, _, length in graph.edges):
         call = call[:-1] + ", " + re.search(r"with (data=\[.*\]) where there are lengths", head)[1] + ")"
     if directed:
         call = call.replace("networkx.MultiGraph", re.search(r"as (networkx\.\w+) where arcs are", head)[1])
-    names = {"read_edgelist": read_edgelist, "networkx": kinds, "path": path, "more": more}
-    return eval(call[:-1] + ", **more)", names)
+    return eval(call, {"read_edgelist": read_edgelist, "networkx": kinds, "path": path})
 
 
 class Kinds:
@@ -236,7 +235,7 @@ class Kinds:
 def edgelist(is_stripped):
     """How networkx reads lines of edges: before 3.0 spaces and tabs at both ends of a line were dropped first."""
 
-    def read_edgelist(path, comments="#", delimiter=None, create_using=None, data=()):
+    def read_edgelist(path, comments="#", delimiter=None, create_using=None, nodetype=str, data=()):
         edges = []
         with open(path, encoding="utf-8") as file:
             for line in file:
@@ -244,7 +243,7 @@ def edgelist(is_stripped):
                 words = (line.strip() if is_stripped else line.rstrip("\n")).split(delimiter)
                 if len(words) > 1:
                     assert len(words) == 2 + len(data), line
-                    edges.append((*words[:2], *(kind(word) for (_, kind), word in zip(data, words[2:]))))
+                    edges.append((*map(nodetype, words[:2]), *(kind(word) for (_, kind), word in zip(data, words[2:]))))
         return create_using, edges
 
     def read(path, graph, directed):
@@ -270,8 +269,8 @@ def networkx_readers(networkx):
         return of(called(networkx.read_edgelist, networkx, path, graph, directed), graph, directed, graph.names)
 
     def numbers(path, graph, directed):
-        found = called(networkx.read_edgelist, networkx, path, graph, directed, nodetype=int)
-        return of(networkx.relabel_nodes(found, lambda number: graph.names[number - 1]), graph, directed, graph.names)
+        found = called(networkx.read_edgelist, networkx, path, graph, directed)
+        return of(networkx.relabel_nodes(found, lambda number: graph.names[int(number) - 1]), graph, directed, graph.names)
 
     def graphml(path, graph, directed):
         found = networkx.read_graphml(path)

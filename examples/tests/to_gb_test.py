@@ -18,7 +18,7 @@ sys.path.insert(0, LISTINGS)
 sys.dont_write_bytecode = True
 import sgb_graph  # noqa: E402
 
-FORMS = ["edges", "dimacs", "mtx", "graph6"]
+FORMS = ["edges", "dimacs", "metis", "mtx", "graph6"]
 # expressions, and whether their arcs are arcs
 GRAPHS = [
     ("petersen()", False), ("board(3,4,0,0,1,0,0)", False), ("board(5,0,0,0,-1,0,0)", False), ("empty(3)", False),
@@ -37,7 +37,29 @@ TEXTS = [
      [(u, v, 1) for a, b in [(0, 1), (0, 2), (1, 2), (5, 6)] for u, v in [(a, b), (b, a)]]),
     ("sparse6", ">>sparse6<<:An", [], "01", [(0, 1, 1), (1, 0, 1)]),
     ("edges", "# of two\na b\nb a -7\nc\n", [], "abc", [(0, 1, 1), (0, 1, -7), (1, 0, 1), (1, 0, -7)]),
-    ("edges", "a\tb\t5\n#\ta\n\n", ["--directed"], "ab#", [(0, 1, 5), (2, 0, 1)]), ("edges", "", [], "", []),
+    ("edges", 'a\tb\t5\n"#"\ta\n\n', ["--directed"], "ab#", [(0, 1, 5), (2, 0, 1)]), ("edges", "", [], "", []),
+    # heads of collections, tables, and lines that can be read in two ways, with the option that says which is meant
+    ("edges", "# FromNodeId\tToNodeId\n1\t2\n", ["--directed"], "12", [(0, 1, 1)]),
+    ("edges", "% asym positive\n% 1 2 2\n1 2\n", ["--directed"], "12", [(0, 1, 1)]),
+    ("edges", "source,target\na,b\n", ["--header", "--directed"], "ab", [(0, 1, 1)]),
+    ("edges", "a,b\nc,d\n", ["--no-header", "--directed"], "abcd", [(0, 1, 1), (2, 3, 1)]),
+    ("edges", "a, b, 3\n", ["--directed"], "ab", [(0, 1, 3)]), ("edges", "a;b;3\n", ["--directed"], "ab", [(0, 1, 3)]),
+    ("edges", "a b\t5\n", ["--sep", "blank", "--directed"], "ab", [(0, 1, 5)]),
+    ("edges", "a b\t5\n", ["--sep", "tab", "--directed"], ["a b", "5"], [(0, 1, 1)]),
+    ("edges", "#a\tb\n", ["--comments", "", "--directed"], ["#a", "b"], [(0, 1, 1)]), ("edges", "#a\tb\n", ["--comments", "#"], "", []),
+    ("edges", "1 2 7 99\n", ["--columns", "2,1", "--directed"], "21", [(0, 1, 1)]),
+    ("edges", '"New York"\n"a, b"\tc\n', ["--directed"], ["New York", "a, b", "c"], [(1, 2, 1)]),
+    # one rule for numbers, ends of lines, and other letters
+    ("edges", "a b 5.0\na b 1e2\na b 1.0000e+00\n", ["--directed"], "ab", [(0, 1, 5), (0, 1, 100), (0, 1, 1)]),
+    ("edges", "\ufeffa\tb\r\nb\tc\r\n", ["--directed"], "abc", [(0, 1, 1), (1, 2, 1)]),
+    ("edges", "M\u00fc b\n", ["--names", "escape", "--directed"], ["M%C3%BC", "b"], [(0, 1, 1)]),
+    ("edges", "M\u00fc b\n", ["--names", "numbers", "--directed"], "01", [(0, 1, 1)]),
+    ("dimacs", "p sp 2 1\r\na 1 2 7.00\r\n", [], "01", [(0, 1, 7)]), ("graph6", "A_\r\n", ["--directed"], "01", [(0, 1, 1)]),
+    # several graphs, and the other forms
+    ("graph6", "A?\nA_\n", ["--graph", "2", "--directed"], "01", [(0, 1, 1)]),
+    ("digraph6", "&DI?AO?\n", [], "01234", [(0, 2, 1), (0, 4, 1), (3, 1, 1), (3, 4, 1)]),
+    ("metis", "% three\n3 2 001\n2 5 3 7\n1 5\n1 7\n", [], "012", [(0, 1, 5), (0, 2, 7), (1, 0, 5), (2, 0, 7)]),
+    ("metis", "3 1\n3\n\n1\n", [], "012", [(0, 2, 1), (2, 0, 1)]),
     ("edges", "x y\r\ny x 2\r\n", ["--directed"], "xy", [(0, 1, 1), (1, 0, 2)]),
     ("dimacs", "c of three\np edge 3 2\ne 1 2\ne 3 3\n", [], "012", [(0, 1, 1), (1, 0, 1), (2, 2, 1), (2, 2, 1)]),
     ("dimacs", "p sp 2 2\na 1 2 7\na 1 2 0\n", [], "01", [(0, 1, 7), (0, 1, 0)]),
@@ -47,12 +69,20 @@ TEXTS = [
     ("mtx", "%%MatrixMarket matrix coordinate real general\n2 2 1\n2 1 5.0\n", [], "01", [(1, 0, 5)]),
 ]
 REFUSED = [
-    ("edges", "a b 1.5\n", "is no integer"), ("edges", "a b 1 2\n", "two names and a length"), ("edges", 'a b"\n', "quotation mark"),
-    ("edges", "a b " + "9" * 30, "64 bits"), ("edges", "a \u00e9\n", "ASCII"), ("edges", f"a {'b' * 5000}\n", "at most 4095"),
-    ("dimacs", "e 1 2\n", "head"), ("dimacs", "p edge 2 1\ne 1 3\n", "there are 2 vertices"), ("dimacs", "", "no line p"),
-    ("dimacs", "p edge 2 1\ne 0 1\n", "there are 2 vertices"), ("dimacs", "p edge 2 1\nx 1 2\n", "no line of DIMACS"),
-    ("graph6", "D\n", "letters"), ("graph6", "", "is no graph6"), ("graph6", ":An\n", "is no graph6"),
-    ("graph6", "A_\nA_\n", "more than one"), ("sparse6", "A_\n", "is no sparse6"),
+    ("edges", "a b\nb a 1.5\n", "line 2: a length is no integer: 1.5"), ("edges", "a b 1_000\n", "is no integer"),
+    ("edges", "source,target\na,b\n", "line 1: the head of a table"), ("edges", "a b\t5\n", "line 1: words with tabs and blanks"),
+    ("edges", "# x\n#a\tb\n", "line 2: a comment"), ("edges", "a\tb\nNew York\n", "line 2: there is a blank"),
+    ("edges", "0,1 1,1\n", "line 1: there are words with a comma"), ("edges", "a\t\tb\n", "line 1: a word is missing"),
+    ("edges", 'a\t"b\n', "line 1: a quotation mark"), ("edges", "a\x0cb c\n", "line 1: a name has printable"),
+    ("dimacs", "p edge 3 5\ne 1 2\n", "the head says 5"), ("dimacs", "p edge 3 1\ne 1 4\n", "line 2: there are 3 vertices, 1 to 3, and here is vertex 4"),
+    ("mtx", "%%MatrixMarket matrix coordinate pattern general\n2 2 1\n0 1\n", "line 3: there are 2 vertices, 1 to 2, and here is vertex 0"),
+    ("metis", "2 1\n2\n\n", "line 2: vertex 1 has vertex 2"), ("digraph6", "A_\n", "is no digraph6"),
+ ("edges", "a b 1 2\n", "two names and a length"), ("edges", 'a b"\n', "quotation mark"),
+    ("edges", "a b " + "9" * 30, "64 bits"), ("edges", "a b\nb \u00e9\n", "line 2: a name has printable ASCII"), ("edges", f"a {'b' * 5000}\n", "at most 4095"),
+    ("dimacs", "e 1 2\n", "line 1: no line of an edge"), ("dimacs", "p edge 2 1\ne 1 3\n", "there are 2 vertices"), ("dimacs", "", "no line p"),
+    ("dimacs", "p edge 2 1\ne 0 1\n", "there are 2 vertices"), ("dimacs", "p edge 2 1\nx 1 2\n", "line 2: no line of DIMACS"),
+    ("graph6", "D\n", "letters"), ("graph6", "", "no graph6"), ("graph6", ":An\n", "is no graph6"),
+    ("graph6", "A_\nA_\n", "line 2: there are 2 graphs"), ("sparse6", "A_\n", "is no sparse6"),
     ("mtx", "1 1 0\n", "first line"), ("mtx", "%%MatrixMarket matrix array real general\n", "first line"),
     ("mtx", "%%MatrixMarket matrix coordinate real general\n2 3 0\n", "2 rows, 3 columns"),
     ("mtx", "%%MatrixMarket matrix coordinate real general\n2 2 2\n1 1 1\n", "2 entries"),

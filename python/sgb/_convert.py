@@ -2,6 +2,7 @@
 
 from __future__ import annotations
 
+import re
 from typing import TYPE_CHECKING, Iterator, Sequence
 
 from ._others import Arc, _uncollected, paired
@@ -67,18 +68,30 @@ def _dot(lists: _Lists) -> Iterator[str]:
     yield "}\n"
 
 
+def _in_quotes(name: str) -> str:
+    """The name, in quotes where it could be taken for something else."""
+    return name if re.fullmatch("[^#% ][^ ]*", name) else f'"{name}"'
+
+
+def _is_like_head(lists: _Lists) -> bool:
+    """Whether the first line can be taken for the head of a table: its names stand in no other, and are no numbers."""
+    v, tip, _ = lists.edges[0]
+    ends = [end for u, w, _ in lists.edges for end in (u, w)]
+    is_alone = v != tip and ends.count(v) == ends.count(tip) == 1
+    return is_alone and not any(re.fullmatch("-?[0-9]+", lists.names[end]) for end in (v, tip))
+
+
 def _edges(lists: _Lists, numbers: bool) -> Iterator[str]:
-    shown = [str(number) for number in range(1, lists.n + 1)] if numbers else lists.names
-    if not numbers:
-        for name in shown:
-            if name == "" or name != name.strip(" "):
-                raise ValueError(f'edges has no name that is empty or has a space at an end, as "{name}" is: numbers=True has it')
-        if len(set(shown)) < lists.n:
-            raise ValueError("two vertices have one name: numbers=True tells them apart")
+    if not numbers and len(set(lists.names)) < lists.n:
+        raise ValueError("two vertices have one name: numbers=True tells them apart")
+    shown = [str(number) for number in range(1, lists.n + 1)] if numbers else [_in_quotes(name) for name in lists.names]
     met = {tip for _, tip, _ in lists.arcs} | {v for v, _, _ in lists.arcs}
+    is_begun = numbers or lists.lengths or lists.n < 3 or not lists.edges or not _is_like_head(lists)
     for v, edges in lists.by_vertex(lists.edges):
-        if v not in met:
-            yield f"{shown[v]}\n"
+        alone = f"{v + 1}\n" if numbers else f'"{lists.names[v]}"\n'
+        if v not in met or edges and not is_begun:
+            yield alone
+            is_begun = True
         for _, tip, length in edges:
             yield f"{shown[v]}\t{shown[tip]}\t{length}\n" if lists.lengths else f"{shown[v]}\t{shown[tip]}\n"
 

@@ -6,21 +6,22 @@ on one list. """
 
 from __future__ import annotations
 
+import itertools
 import operator
 import re
-from typing import Any, Iterator, Optional, Sequence
+from typing import Any, Sequence
 
 MOST_VERTICES = 1_000_000_000
 LONGEST_ID = 160
 LONGEST_STRING = 4095
 LONGEST_LINE = 79
 MODULUS = 2**30 - 83
+NONE = -1  # the number of no record
 # what bytes count for in the checksum, from 0 on (GB_IO, imap)
 _COUNTED = (
     b"0123456789ABCDEFGHIJKLMNOPQRSTUVWXYZabcdefghijklmnopqrstuvwxyz_^~&@,;.:?!%#$+-*/|\\<=>()[]{}`'\" \n"
 )
-# for each bit of what a byte counts for, which bytes have it: as digits, so that a text becomes a number
-_BITS = [bytes(48 + (max(_COUNTED.find(byte), 0) >> bit & 1) for byte in range(256)) for bit in range(7)]
+_VALUES = bytes(max(_COUNTED.find(byte), 0) for byte in range(256))
 
 
 def text_of(text: object, longest: int, what: str) -> str:
@@ -58,17 +59,17 @@ class Arcs:
             raise ValueError(f"a graph has at most {MOST_VERTICES} vertices, and there are {n}")
         self.tips: list[int] = []
         self.lengths: list[int] = []
-        self.following: list[Optional[int]] = []  # the record that comes next on its list
-        self.firsts: list[Optional[int]] = [None] * n
-        self._lasts: list[Optional[int]] = [None] * n
+        self.following: list[int] = []  # the record that comes next on its list, or NONE
+        self.firsts = [NONE] * n
+        self._lasts = [NONE] * n
 
     def _add(self, v: int, tip: int, length: int) -> None:
         place = len(self.tips)
         self.tips.append(tip)
         self.lengths.append(length)
-        self.following.append(None)
+        self.following.append(NONE)
         last = self._lasts[v]
-        if last is None:
+        if last == NONE:
             self.firsts[v] = place
         else:
             self.following[last] = place
@@ -91,14 +92,36 @@ class Arcs:
         self._add(small, great, number)
         self._add(great, small, number)
 
+    def fill(self, tails: Sequence[int], tips: Sequence[int], lengths: Sequence[int], directed: bool) -> None:
+        """What `arc` or `edge` does of each in turn, where all are known to be right, and the only ones."""
+        firsts, following, leads, place = self.firsts, self.following, self.tips, len(tips) * (1 if directed else 2)
+        for v, tip in zip(reversed(tails), reversed(tips)):
+            if not directed:
+                if v > tip:
+                    v, tip = tip, v
+                place -= 1
+                leads.append(v)
+                following.append(firsts[tip])
+                firsts[tip] = place
+            place -= 1
+            leads.append(tip)
+            following.append(firsts[v])
+            firsts[v] = place
+        leads.reverse()
+        following.reverse()
+        self.lengths += lengths if directed else [length for length in lengths for _ in (0, 1)]
+
 
 def checksum(data: bytes) -> int:
     """The checksum of lines (GB_IO, new_checksum): the value at 2 of the polynomial of what its bytes count for."""
     found = 0
     for at in range(0, len(data), 65536):
-        part = data[at : at + 65536]
-        value = sum(int(part.translate(bits), 2) << bit for bit, bits in enumerate(_BITS))
-        found = (found * pow(2, len(part), MODULUS) + value) % MODULUS
+        part = data[at : at + 65536].translate(_VALUES)
+        power = pow(2, len(part), MODULUS)
+        # every eighth byte, from each of the first eight on: the digits of a number to base 2^8
+        part = bytes(-len(part) % 8) + part
+        value = sum(int.from_bytes(part[place::8], "big") << 7 - place for place in range(8))
+        found = (found * power + value) % MODULUS
     return found
 
 
@@ -121,24 +144,42 @@ def _lines(fields: Sequence[str]) -> str:
     return "".join(line + "\n" for line in [*lines, current])
 
 
-def _place(letter: str, number: Optional[int]) -> str:
-    return "0" if number is None else f"{letter}{number}"
 
 
-def _counted_lines(names: Sequence[str], arcs: Arcs) -> Iterator[str]:
-    yield "* Vertices\n"
-    for name, first in zip(names, arcs.firsts):
-        yield _lines([_text(name, LONGEST_STRING, "a name"), _place("A", first)])
-    yield "* Arcs\n"
-    for tip, following, length in zip(arcs.tips, arcs.following, arcs.lengths):
-        yield _lines([f"V{tip}", _place("A", following), str(length)])
+def _vertex_lines(names: Sequence[str], arcs: Arcs) -> str:
+    return "".join([_lines([_text(name, LONGEST_STRING, "a name"), "0" if first == NONE else f"A{first}"])
+                    for name, first in zip(names, arcs.firsts)])
+
+
+def _arc_lines(arcs: Arcs) -> str:
+    """Records of arcs, each of which is one line."""
+    records = zip(arcs.tips, arcs.following, arcs.lengths)
+    parts = []
+    while some := tuple(itertools.chain.from_iterable(itertools.islice(records, 10000))):
+        parts.append(("V%d,A%d,%d\n" * (len(some) // 3) % some).replace(f",A{NONE},", ",0,"))
+    return "".join(parts)
+
+
+class File:
+    """The file of a graph, with a name for each vertex, but for its id."""
+
+    def __init__(self, names: Sequence[str], arcs: Arcs) -> None:
+        self.n, self.m = len(arcs.firsts), len(arcs.tips)
+        vertices, records = _vertex_lines(names, arcs), _arc_lines(arcs)
+        self.text = f"* Vertices\n{vertices}* Arcs\n{records}".encode()
+        # a line that begins so is left out, also where a string that was broken goes on with a star
+        counted = (re.sub(r"^\*.*\n", "", vertices, flags=re.MULTILINE) + records).encode()
+        self._size, self._sum = len(counted), checksum(counted)
+
+    def of(self, id: str) -> bytes:  # noqa: A002
+        """The file of the graph that has this id."""
+        title = _lines([_text(id, LONGEST_ID, "an id"), str(self.n), str(self.m)])
+        first = checksum(re.sub(r"^\*.*\n", "", title, flags=re.MULTILINE).encode())
+        summed = (first * pow(2, self._size, MODULUS) + self._sum) % MODULUS
+        head = f"* GraphBase graph (util_types {'Z' * 14},{self.n}V,{self.m}A)\n{title}".encode()
+        return b"".join([head, self.text, f"* Checksum {summed}\n".encode()])
 
 
 def gb_file(names: Sequence[str], arcs: Arcs, id: str) -> bytes:  # noqa: A002
     """The file of a graph, with a name for each vertex."""
-    n, m = len(arcs.firsts), len(arcs.tips)
-    text = _lines([_text(id, LONGEST_ID, "an id"), str(n), str(m)]) + "".join(_counted_lines(names, arcs))
-    # a line that begins so is left out, also where a string that was broken goes on with a star
-    summed = checksum(re.sub(r"^\*.*\n", "", text, flags=re.MULTILINE).encode())
-    head = f"* GraphBase graph (util_types {'Z' * 14},{n}V,{m}A)\n"
-    return f"{head}{text}* Checksum {summed}\n".encode()
+    return File(names, arcs).of(id)
