@@ -31,8 +31,8 @@
  * rows and tips may take some while they run, and sgb_file and sgb_file_size build the graph for that time. All other
  * calls never take any, sgb_names_size among them. Where memory is refused the answer is SGB_NO_ROOM, and all is as it
  * was before the call. A handle that is not open, a run that is not there and `starts` of a wrong length are told
- * before memory is taken, and so are a handle that is open already, a text that is too large, and what is wrong with
- * the arrays of sgb_make.
+ * before memory is taken, and so are a handle that is open already, a text that is too large, what is wrong with the
+ * arrays of sgb_make, a product of too many pairs, and entries that sgb_induced_by refuses: no operand is built then.
  *
  * Stack. A generator's call is opened with at most 64 KB of stack, any other expression with at most 96 KB and 36 KB
  * more for each pair of parentheses in one another, of which there may be 64. All other calls take at most 64 KB.

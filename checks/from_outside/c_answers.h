@@ -183,11 +183,25 @@ static void making(void) {
     sgb_close(&graph);
 }
 
-/* What is told before memory is taken: handles that are open or not, and what is wrong with the arrays of sgb_make. */
+/* Sizes that no graph may have: of operands, none of which is built. */
+static void too_large_without_memory(sgb_graph *small, sgb_graph *large) {
+    sgb_entries none = SGB_NO_ENTRIES;
+    for (int type = 0; type < 3; type++) {
+        must(sgb_product(large, small, type, false, &graph), SGB_VERY_BAD_SPECS, "sgb_product without memory");
+        must(sgb_product(small, large, type, false, &graph), SGB_VERY_BAD_SPECS, "sgb_product without memory");
+        must(sgb_product(large, large, type, false, &graph), SGB_VERY_BAD_SPECS, "sgb_product without memory");
+    }
+    must(sgb_induced_by(large, &none, false, false, false, &graph), SGB_BAD_SPECS, "sgb_induced_by without memory");
+    must(sgb_wheel_around(small, 999999991, false, &graph), SGB_VERY_BAD_SPECS, "sgb_wheel_around without memory");
+    must(sgb_wheel_around(large, INT64_MAX, true, &graph), SGB_VERY_BAD_SPECS, "sgb_wheel_around without memory");
+}
+
+/* What is told before memory is taken: handles that are open or not, sizes, and what is wrong with the arrays of sgb_make. */
 static void without_memory(void) {
-    sgb_graph is_open = SGB_NO_GRAPH, none = SGB_NO_GRAPH;
+    sgb_graph is_open = SGB_NO_GRAPH, large = SGB_NO_GRAPH, none = SGB_NO_GRAPH;
     sgb_entries list = SGB_NO_ENTRIES;
     must(sgb_open("petersen()", 10, "", 0, &is_open), SGB_OK, "sgb_open");
+    must(sgb_open("board(31622,31622,0,0,1,0,0)", 28, "", 0, &large), SGB_OK, "sgb_open");
     must(sgb_open("circuit(3)", 10, "", 0, &graph), SGB_OK, "sgb_open");
     count_from(1, SIZE_MAX);
     must(sgb_lines(&is_open, false, &graph), SGB_ALREADY_OPEN, "sgb_lines without memory");
@@ -200,7 +214,7 @@ static void without_memory(void) {
     must(sgb_entries_graph(&list, &none), SGB_NOT_OPEN, "sgb_entries_graph without memory");
     must(sgb_bi_complete(-1, 1, false, &graph), SGB_BAD_SPECS, "sgb_bi_complete without memory");
     must(sgb_wheel(3, -1, false, &graph), SGB_BAD_SPECS, "sgb_wheel without memory");
-    must(sgb_wheel_around(&is_open, 999999991, false, &graph), SGB_VERY_BAD_SPECS, "sgb_wheel_around without memory");
+    too_large_without_memory(&is_open, &large);
     lens[2] = 1;
     must_make(SGB_WRONG_LENGTH, "sgb_make without memory");
     lens[2] = 2, from_of[1] = 3;
@@ -212,6 +226,7 @@ static void without_memory(void) {
     must_make(SGB_NO_ROOM, "sgb_make without memory");
     counting = 0;
     sgb_close(&is_open);
+    sgb_close(&large);
 }
 
 /* More vertices than a graph may have, each with an empty name: told before an end that is no vertex, and an id that is no text. It

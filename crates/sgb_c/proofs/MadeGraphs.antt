@@ -1,11 +1,15 @@
 -- What calls answer that make a graph.
 use Rattle.std.proofs.Common.{◌≡◌, ◌∙◌, ℕ, [], true, false, Option, None, Some, is_some, Result, Ok, Err, refl, ap, subst, inl, inr, arith}
-use Rattle.std.specs.Prelude.{IsSomeAnd}
+use Rattle.std.specs.Prelude.{Bool, IsSomeAnd, List, is_err}
 use Rattle.std.specs.Option.{option_map, option_map_or}
 use Rattle.sgb_vec.specs.declared.panics.Panic.{Panic}
 use Rattle.sgb_vec.specs.declared.panics.Panic.TheVariants.{NoRoom}
 use Rattle.sgb_graph.specs.Graphs.{GraphData}
 use Rattle.sgb_graph.specs.Descriptions.{Description, IsAnswerOf}
+use Rattle.sgb_graph.specs.Vertices.{order_of}
+use Rattle.sgb_ops.specs.Entries.{accepted_entries}
+use Rattle.sgb_ops.specs.Induced.{induced_of}
+use Rattle.sgb_ops.specs.declared.induced_graphs.entries.Entry.{Entry}
 use Rattle.sgb_arrays.specs.OpenGraphs.{IsListed, graph_open}
 use Rattle.sgb_arrays.specs.Given.{IsUnmade}
 use Rattle.sgb_arrays.specs.declared.given.Unmade.{Unmade}
@@ -25,6 +29,24 @@ graph_of h = graph_open h.graph
 pub memory_answer : (v : Result Description Panic) (p : Panic) → p ≡ NoRoom → IsAnswerOf v (Err p)
 memory_answer (Ok d) p is = is
 memory_answer (Err f) p is = inr is
+
+-- what is refused is answered so, and with nothing else
+pub refused_answer : (v : Result Description Panic) (p : Panic) → v ≡ Err p → IsAnswerOf v (Err p)
+refused_answer v p is = rw is (inl refl)
+
+pub induced_refused : (g : GraphData) (entries : List Entry) (self multi directed : Bool) (p : Panic) → accepted_entries (order_of g) entries ≡ Err p
+    → IsAnswerOf (induced_of g entries self multi directed) (Err p)
+induced_refused g entries self multi directed p is = rw is (inl refl)
+
+pub refused_same : {T S : Type 0} (v : Result T Panic) (f p : Panic) → v ≡ Err f → v ≡ Err p → ◌≡◌ {A = Result S Panic} (Err f) (Err p)
+refused_same v f p is also = cc
+
+pub accepted_not : {T : Type 0} (v : Result T Panic) (p : Panic) → is_err v ≡ false → v ≡ Err p → ⊥
+accepted_not (Ok x) p ok is = absurd cc
+accepted_not (Err f) p ok is = absurd (grind (arith, ok))
+
+pub ok_refused : {T : Type 0} (v : Result T Panic) (x : T) (p : Panic) → v ≡ Ok x → v ≡ Err p → ⊥
+ok_refused v x p ok is = cc
 
 -- and where what is made is held
 no_room : (v : Result Description Panic) (g : GraphData) → IsAnswerOf v (Ok g) → IsAnswerOf v (Err NoRoom)
@@ -105,14 +127,11 @@ module _ (d : GraphData → GraphData → Result Description Panic) (first secon
 
 -- what is refused whatever memory there is
 pub two_refused : (d : GraphData → GraphData → Result Description Panic) (first second : Option Held) (h k : Held) → first ≡ Some h → second ≡ Some k → (made : Result GraphData Panic)
-    → ((p : Panic) → (IsListed h.graph → ⊥) → (IsListed k.graph → ⊥) → d (graph_of h) (graph_of k) ≡ Err p → made ≡ Err p) → (old new : Option Held) (number : ℕ) → IsPut made old new number
-    → (p : Panic) → (IsSomeAnd first (λ x. IsListed x.graph) → ⊥) → (IsSomeAnd second (λ x. IsListed x.graph) → ⊥)
-    → of_both d (option_map graph_of first) (option_map graph_of second) ≡ Some (Err p) → number ≡ number_of (answer.Panic p)
-two_refused d first second h k is same made refused old new number put p one other value =
-    let built : IsListed h.graph → ⊥ = subst (λ x. IsSomeAnd x (λ y. IsListed y.graph) → ⊥) is one in
-    let built' : IsListed k.graph → ⊥ = subst (λ x. IsSomeAnd x (λ y. IsListed y.graph) → ⊥) same other in
+    → ((p : Panic) → d (graph_of h) (graph_of k) ≡ Err p → made ≡ Err p) → (old new : Option Held) (number : ℕ) → IsPut made old new number
+    → (p : Panic) → of_both d (option_map graph_of first) (option_map graph_of second) ≡ Some (Err p) → number ≡ number_of (answer.Panic p)
+two_refused d first second h k is same made refused old new number put p value =
     let said : Some (d (graph_of h) (graph_of k)) ≡ Some (Err p) = rw is at (rw same at value) in
-    put_refused made old new number p (refused p built built' (some_same _ _ said)) put
+    put_refused made old new number p (refused p (some_same _ _ said)) put
 
 -- a graph of arrays
 pub given_made : (fault : Option Unmade) (told g : GraphData) (old new : Option Held) (number : ℕ) → fault ≡ None → g ≡ told → is_some old ≡ false → IsPut (Ok g) old new number

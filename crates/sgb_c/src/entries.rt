@@ -142,7 +142,7 @@ pub extern "C" fn sgb_induced_by(
     ensures made { IsMade (option_map
         (λ g. induced_of g (entries_in entries.old) self_loops multi directed)
         (graph_in graph.old)) (graph_in made.old) (graph_in made.new) result }
-    ensures refused { (p : Panic) → graph_in made.old ≡ None → (IsListedIn graph.old → ⊥)
+    ensures refused { (p : Panic) → graph_in made.old ≡ None
         → option_map (λ g. accepted_entries (order_of g) (entries_in entries.old))
         (graph_in graph.old) ≡ Some (Err p) → result ≡ number_of (answer.Panic p) }
     ensures left { (result ≡ number_of answer.Done → ⊥)

@@ -83,7 +83,6 @@ impl GraphHandle {
             (of_both (of_graphs operation) (graph_in first.old) (graph_in second.old))
             (graph_in self.old) (graph_in self.new) result }
         ensures refused { (p : Panic) → graph_in self.old ≡ None
-            → (IsListedIn first.old → ⊥) → (IsListedIn second.old → ⊥)
             → of_both (of_graphs operation) (graph_in first.old) (graph_in second.old)
             ≡ Some (Err p) → result ≡ number_of (answer.Panic p) }
         ensures left { (result ≡ number_of answer.Done → ⊥)
@@ -117,7 +116,7 @@ impl GraphHandle {
         ensures made { IsMade
             (of_both (of_graphs operation) (graph_in graph.old) (graph_in graph.old))
             (graph_in self.old) (graph_in self.new) result }
-        ensures refused { (p : Panic) → graph_in self.old ≡ None → (IsListedIn graph.old → ⊥)
+        ensures refused { (p : Panic) → graph_in self.old ≡ None
             → of_both (of_graphs operation) (graph_in graph.old) (graph_in graph.old)
             ≡ Some (Err p) → result ≡ number_of (answer.Panic p) }
         ensures left { (result ≡ number_of answer.Done → ⊥)

@@ -170,7 +170,6 @@ pub extern "C" fn sgb_product_of(
         (graph_in first.old) (graph_in second.old))
         (graph_in made.old) (graph_in made.new) result }
     ensures refused { (p : Panic) → graph_in made.old ≡ None
-        → (IsListedIn first.old → ⊥) → (IsListedIn second.old → ⊥)
         → of_both (λ g h. product_graph_of g h kind directed)
         (graph_in first.old) (graph_in second.old)
         ≡ Some (Err p) → result ≡ number_of (Answer.Panic p) }
@@ -198,7 +197,6 @@ pub extern "C" fn sgb_product_self(
         (graph_in graph.old) (graph_in graph.old))
         (graph_in made.old) (graph_in made.new) result }
     ensures refused { (p : Panic) → graph_in made.old ≡ None
-        → (IsListedIn graph.old → ⊥)
         → of_both (λ g h. product_graph_of g h kind directed)
         (graph_in graph.old) (graph_in graph.old)
         ≡ Some (Err p) → result ≡ number_of (Answer.Panic p) }

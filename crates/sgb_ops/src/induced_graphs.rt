@@ -1,5 +1,5 @@
 //! Induced graphs: vertices dropped, kept, repeated, merged, or with a graph put in their place (GB_BASIC, induced).
-ghost use Rattle.std.specs.Prelude.{◌≡◌, ◌≤◌, ◌++◌, Err, true, false, length, map, All, OnOk, IfOk, IsOkUnless};
+ghost use Rattle.std.specs.Prelude.{◌≡◌, ◌≤◌, ◌++◌, Err, true, false, length, map, All, Ok, OnOk, IfErr, IfOk, IsOkUnless};
 ghost use Rattle.std.specs.List.{list_any};
 ghost use Rattle.sgb_vec.specs.Limits.{most_vertices};
 ghost use Rattle.sgb_graph.specs.Descriptions.{IsAnswerOf};
@@ -85,6 +85,19 @@ pub fn induced(
     let merged = accept_entries(source.n(), &slots)?;
     let begun = begun_by(alloc, &source, &slots, merged, flags)?;
     finished(alloc, &source, begun, flags)
+}
+
+/// Refuses the entries that `induced` refuses of a graph of `n` vertices.
+///
+/// `Bad` and `VeryBad`, as there.
+pub fn check_entries(n: u32, entries: &[Entry]) -> Result<(), Panic>
+    ensures ok { OnOk result (accepted_entries n entries.now ≡ Ok entries.now) }
+    ensures refused { IfErr result (λ e. accepted_entries n entries.now ≡ Err e) }
+{
+    match accept_entries(n, &Slots::lent(entries)) {
+        Ok(_merged) => Ok(()),
+        Err(panic) => Err(panic),
+    }
 }
 
 /// The graph that `induced` gives, of small entries that are given up: the graphs that they put in are dropped as soon as

@@ -41,13 +41,13 @@ mod wheels;
 pub use bipartite_graphs::bi_complete;
 pub use complements::{complement, complement_of};
 pub use gunions::{gunion, gunion_of};
-pub use induced_graphs::{Entry, KeptEntry, induced, induced_from, induced_of};
+pub use induced_graphs::{Entry, KeptEntry, check_entries, induced, induced_from, induced_of};
 pub use intersections::{intersection, intersection_of};
 pub use laws::{
     compound_ids_law, copies_law, lines_law, merged_are_apart, merging_law, taken_lead_up,
     taking_law,
 };
 pub use line_graphs::{directed_lines_of, lines};
-pub use products::{product, product_of};
+pub use products::{have_too_many_pairs, product, product_of};
 pub use sources::Source;
 pub use wheels::wheel;

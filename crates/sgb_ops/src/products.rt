@@ -1,5 +1,5 @@
 //! The products of two graphs, on the pairs of their vertices (GB_BASIC, product).
-ghost use Rattle.std.specs.Prelude.{◌≡◌, ◌≤◌, ◌*◌, [], ◌∷◌, length, decimal, Ok, Err, OnOk, IfOk, IsOkUnless};
+ghost use Rattle.std.specs.Prelude.{◌≡◌, ◌≤◌, ◌*◌, [], ◌∷◌, length, decimal, nat_lt, Ok, Err, OnOk, IfOk, IsOkUnless};
 ghost use Rattle.sgb_vec.specs.Limits.{most_vertices};
 ghost use Rattle.sgb_graph.specs.Descriptions.{IsAnswerOf};
 ghost use Rattle.sgb_graph.specs.Growth.{AddsEvents};
@@ -67,10 +67,17 @@ pub fn product_of(
     ensures refused { (e : Panic)
         → product_graph_of first.now second.now kind directed ≡ Err e → result ≡ Err e }
 {
-    if u64::from(first.n()) * u64::from(second.n()) > u64::from(MOST_VERTICES) {
+    if have_too_many_pairs(first.n(), second.n()) {
         return Err(Panic::VeryBad);
     }
     product_of_few(alloc, first, second, ProductType::of(kind), directed)
+}
+
+/// Whether graphs of so many vertices have more than 1,000,000,000 pairs of them, so that `product` is refused.
+pub fn have_too_many_pairs(first: u32, second: u32) -> bool
+    ensures { result ≡ nat_lt most_vertices (first * second) }
+{
+    u64::from(first) * u64::from(second) > u64::from(MOST_VERTICES)
 }
 
 // The product of this type of two graphs that have not too many pairs of vertices.

@@ -17,5 +17,5 @@ product_of_few-requires c = search (rules, pairs, order_of)
 pub returns : goal.returns
 returns c = search (rules, pairs, order_of, has_too_many_pairs, le-ltb, most_vertices, IsAnswerOf, product_graph, product_type, to_z-of_z, few_not_refused)
 
-pub returns-then-from-clause-refused : goal.returns-then-from-clause-refused
-returns-then-from-clause-refused c = search (rules, pairs, order_of, most_vertices, many_refused, lt-ltb)
+pub returns-then-have_too_many_pairs-clause-refused : goal.returns-then-have_too_many_pairs-clause-refused
+returns-then-have_too_many_pairs-clause-refused c = search (rules, pairs, order_of, most_vertices, many_refused, lt-ltb)
