@@ -318,10 +318,10 @@ def build_all(kit, wanted):
     edits.lay(TREE)
     kept = {name: one for name, one in kept.items() if name not in left}
     keep_sums(kept)
-    for name in left:
-        # what is there is of other sources
-        if os.path.exists(os.path.join(PLACE, name)):
-            os.remove(os.path.join(PLACE, name))
+    # what is there is of other sources
+    for path in [os.path.join(PLACE, name) for name in left] + (made_archives(PLACE) if ARCHIVES in left else []):
+        if os.path.lexists(path):
+            os.remove(path)
     with concurrent.futures.ThreadPoolExecutor(os.cpu_count() or 1) as pool:
         running = {name: pool.submit(build, kit, name) for name in CRATES if name in left}
         kept.update({name: wanted[name] for name, one in running.items() if one.result()})
