@@ -7,6 +7,7 @@ What it adds below the line of sgb is compared; output, line and status have to 
 import os
 import subprocess
 import sys
+import tempfile
 
 HERE = os.path.dirname(os.path.abspath(__file__))
 SCRIPT = os.path.join(HERE, "..", "listings", "explain.sh")
@@ -66,6 +67,18 @@ def main():
         failed += seen != wanted
         if seen != wanted:
             print("explain.sh", *words, "gave", seen, "and not", wanted)
+    # a program that is out of memory
+    with tempfile.TemporaryDirectory() as folder:
+        program = os.path.join(folder, "sgb")
+        with open(program, "w", encoding="ascii") as file:
+            file.write("#!/bin/sh\necho 'Something went wrong (panic code 1)!' >&2\nexit 1\n")
+        os.chmod(program, 0o755)
+        got = subprocess.run([SCRIPT, "list", "petersen()"], capture_output=True, env={**os.environ, "SGB": program})
+        is_right = got.stderr.endswith(b"!\n  out of memory: nothing was written\n")
+        passed += is_right
+        failed += not is_right
+        if not is_right:
+            print("explain.sh of code 1 gave", got)
     print(f"{passed} passed, {failed} failed")
     return int(failed > 0)
 
