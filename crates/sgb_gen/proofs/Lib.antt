@@ -157,18 +157,12 @@ pub mod SubsetsCounts
 pub mod SubsetsPairs
 -- their table, and its cells
 pub mod SubsetsPairTables
--- the same by the places where the one vector has more
-pub mod SubsetsRows
 -- the moves of subsets as pairs of vectors
 pub mod SubsetsMovePairs
--- pairs of at most three bounds, with no table
-mod SubsetsFewBounds
 -- the arcs on the list of one vector of subsets counted
 pub mod SubsetsListCounts
 -- sums over the numbers below one
 pub mod AddedSums
--- pairs of subsets by the places where the one has more
-pub mod SubsetsSurpluses
 -- pairs of subsets by what they leave of the bounds
 pub mod SubsetsLeftOver
 -- the place of a vector of a sum, by counts that are kept

@@ -39,7 +39,6 @@ pub mod SubsetsCounts
 -- how many pairs of subsets have a wanted size in common, by a table
 pub mod SubsetsPairs
 -- the same by the places where the one vector has more
-pub mod SubsetsSurpluses
 -- the coordinates of vectors, put into a graph
 pub mod VectorGraphs
 -- what the lists of a graph have in common

@@ -14,16 +14,13 @@ ghost use Rattle.std.specs.Simd.Lanes.{sum_l, zip2};
 
 mod counts;
 mod descents;
-mod few_bounds;
 mod gaps;
 mod last_entries;
 mod left_over;
 mod list_counts;
 mod lists;
-mod pair_rows;
 mod pair_sums;
 mod pairs;
-mod row_sums;
 mod sizes;
 mod wide;
 

@@ -1,8 +1,8 @@
-//! The number of arcs of the subsets' graph, with no list made. Where pairs of vectors are counted sooner than the
-//! vectors are walked, they are (`pairs`); else, or when out of memory, the descent of the lists hands the arcs from
-//! each vector down to the first to a counter. So each edge is found once, from the later one of its ends.
+//! The number of arcs of the subsets' graph, with no list made. Pairs of many vectors are counted in a table, where it
+//! has room (`pairs`); else, or when out of memory, the descent of the lists hands the arcs from each vector down to the
+//! first to a counter. So each edge is found once, from the later one of its ends.
 //!
-//! A walk takes minutes for a thousand million vectors, a count of pairs a few tenths of a second at most.
+//! A walk takes minutes for a thousand million vectors, a table a tenth of a second at most.
 ghost use Rattle.std.specs.Prelude.{◌≡◌, length, Contains, IfSome};
 ghost use Rattle.sgb_graph.specs.Made.{graph_described};
 ghost use Rattle.sgb_gen.specs.Subsets.{moves_of_subsets, subsets_vector_graph, subsets_vectors};
@@ -20,13 +20,11 @@ use std::alloc::Global;
 
 impl Subsets {
     /// The number of arcs of the graph of the subsets (GB_BASIC, subsets), where an edge counts as two. No arc is made.
-    /// Of many vectors the pairs with a wanted size in common are counted, where that is estimated to be quicker than a
-    /// walk: of the vectors, or of what they leave of the bounds, where that adds to less. With n this sum, and c the
-    /// greatest wanted size, but no more than n: of at most three bounds they are counted with no table, where c is
-    /// below n; of at most ten bounds by rows, one for each bound and three more, of (n + 1)(c + 1) numbers of 8 bytes
-    /// each, where all rows take three megabytes at most; and of any bounds in a table of two megabytes at most, where
-    /// (n + 1)²(c + 1) is at most 262,144, so always where n is below 64. Else, or where memory is refused, the vectors
-    /// are walked, and of each the joined ones up to it are counted, by their beginnings.
+    /// Of more than 2,000 vectors the pairs with a wanted size in common are counted in a table: of the vectors, or of
+    /// what they leave of the bounds, where that adds to less. With n this sum, and c the greatest wanted size, but no
+    /// more than n, that has room where (n + 1)²(c + 1) is at most 262,144, so always where n is below 64; it takes two
+    /// megabytes at most. Else, or where memory is refused, the vectors are walked, and of each the joined ones up to it
+    /// are counted, by their beginnings.
     pub fn arcs_count(&self, alloc: Global) -> u128
         ensures { result ≡ (graph_described (described_by (subsets_vector_graph self.now))).m }
     {
