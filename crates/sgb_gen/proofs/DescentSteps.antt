@@ -53,13 +53,6 @@ module _ (sb left c h : ℕ) (front bounds x : List ℕ) where
       parts_of low after end more within
       ∙ ap (λ l. l ++ arcs_of low (after - low)) (none_of after (end - after) (λ e from to. none e from (omega arith)))
 
-  -- those in a gap too
-  pub none-between : (low n from to : ℕ) → low ≤ from → from ≤ to → to ≤ low + n → ((e : ℕ) → from ≤ e → e < to → HasNone e) → arcs_of low n ≡ arcs_of to (low + n - to) ++ arcs_of low (from - low)
-  none-between low n from to more order within none =
-      ap (arcs_of low) {y = low + n - low} (omega arith)
-      ∙ parts_of low from (low + n) more (omega arith)
-      ∙ ap (λ l. l ++ arcs_of low (from - low)) (none-below from to (low + n) order within none)
-
   -- so the arcs by some entries are those by the wanted ones
   pub wanted-among : (at count least after : ℕ) → at ≤ least → least ≤ at + count → ((e : ℕ) → at ≤ e → e < least → HasNone e)
       → least ≤ after → after ≤ at + count → ((e : ℕ) → after ≤ e → e < at + count → HasNone e)

@@ -118,8 +118,6 @@ pub mod Descents
 pub mod DescentArcs
 -- entries with which no size in common is wanted, and a vector made entry by entry
 pub mod DescentSteps
--- entries between which none does, since few elements are in common
-mod DescentGaps
 -- the arcs where a single 1 is left to be placed
 pub mod LastEntries
 -- sizes below the least wanted one

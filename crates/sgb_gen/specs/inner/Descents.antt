@@ -54,19 +54,3 @@ abbrev pub HasNoArcs : ℕ → ℕ → ℕ → ℕ → ℕ → ℕ → ℕ → �
 HasNoArcs size_bits room shared left common bound own entry =
     (front bounds x : List ℕ) → IsBegun (bound ∷ bounds) (own ∷ x) room shared left common
     → arcs_under size_bits front common (own ∷ x) (row left bounds entry) ≡ []
-
--- where so many elements are in common, none of the sizes with more than `most` further ones is wanted
-abbrev pub HasNoneBeyond : ℕ → ℕ → ℕ → Type 0
-HasNoneBeyond size_bits common most = (k : ℕ) → most < k → is_wanted_size size_bits (k + common) ≡ false
-
--- what the bounds leave beyond x, where its entries are not above `most`
-abbrev pub slack : ℕ → List ℕ → List ℕ → ℕ
-slack most [] x = 0
-slack most (b ∷ bounds) [] = 0
-slack most (b ∷ bounds) (x ∷ xs) = (if nat_le x most then b - x else 0) + slack most bounds xs
-
--- no vector that goes on with this entry and within these other bounds has a wanted size in common with x, which goes on
--- with its own entry and these
-abbrev pub IsUnjoined : ℕ → ℕ → ℕ → List ℕ → ℕ → List ℕ → ℕ → Type 0
-IsUnjoined size_bits common own x left bounds entry =
-    (front : List ℕ) → arcs_under size_bits front common (own ∷ x) (row left bounds entry) ≡ []

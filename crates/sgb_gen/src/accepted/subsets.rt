@@ -14,7 +14,6 @@ ghost use Rattle.std.specs.Simd.Lanes.{sum_l, zip2};
 
 mod counts;
 mod descents;
-mod gaps;
 mod last_entries;
 mod left_over;
 mod list_counts;
@@ -22,7 +21,6 @@ mod lists;
 mod pair_sums;
 mod pairs;
 mod sizes;
-mod wide;
 
 use crate::counted_places::CountedPlaces;
 use crate::params::SubsetsParams;

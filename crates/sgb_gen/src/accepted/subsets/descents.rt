@@ -13,7 +13,6 @@ ghost use Rattle.sgb_gen.specs.inner.Descents.{AreBetween, IsBegun, arcs_under, 
 use super::Subsets;
 use super::last_entries::{push_last, push_zeros};
 use super::sizes::{WantedSizes, may_be_among, wanted_entries};
-use super::wide::push_entries;
 use crate::arc_sinks::ArcSink;
 
 // What is known where some entries of a vector are placed: which sizes are wanted, what the bounds of the other entries
@@ -88,7 +87,7 @@ pub(super) fn push_to<K: ArcSink<R, S>, R, S>(
     };
     let end = begun.left.min(*bound) + 1;
     let entries = with_room(begun.left, begun.room - u64::from(*bound), *own + 1, end);
-    push_entries(
+    push_rows(
         sizes, begun, *bound, *own, bounds, x, entries, tip, sink, room, out,
     )?;
     tip[place] = *own;
@@ -146,7 +145,7 @@ pub(super) fn push_from<K: ArcSink<R, S>, R, S>(
         out,
     )?;
     let entries = with_room(begun.left, begun.room - u64::from(*bound), 0, *own);
-    push_entries(
+    push_rows(
         sizes, begun, *bound, *own, bounds, x, entries, tip, sink, room, out,
     )
 }
@@ -250,7 +249,7 @@ fn push_greater<K: ArcSink<R, S>, R, S>(
 
 // Hands out the arcs to the vectors that go on with one of these entries.
 #[cycle(descent)]
-pub(super) fn push_rows<K: ArcSink<R, S>, R, S>(
+fn push_rows<K: ArcSink<R, S>, R, S>(
     sizes: &WantedSizes,
     begun: Begun,
     bound: u32,

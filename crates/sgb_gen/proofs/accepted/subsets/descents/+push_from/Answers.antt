@@ -71,4 +71,4 @@ returns-clause-given g t c =
     let rest = ap₂ (λ f r. arcs_under b.size_bits f b.common (s.own.now ∷ s.x.now) r) (ap (front_of mid) (sym x_is) ∙ kept) (sym entries) in
     given_last (g.met.K.ArcSink.laws c.args.sink.now) _ _ _ _ _ _ _ _ _
     (so_far_more (g.met.K.ArcSink.laws c.args.sink.now) _ _ _ _ _ _ _ _ _ _ (whole ∙ ap₂ (λ l m. l ++ m) (sym part) (sym rest)) (so_far_begun (g.met.K.ArcSink.laws c.args.sink.now) _ _ _ _ refl) c.in_ok-push_from.ensures.given)
-    c.push_entries.ensures.given
+    c.push_rows.ensures.given

@@ -33,8 +33,8 @@ returns-in_default-clause-given g t c =
 pub returns-clause-same : goal.returns-clause-same
 returns-clause-same g t c = grind (arith, length-set, on_ok_weaker, front-shorter, set, front-kept)
 
-pub returns-in_err-push_entries-clause-given : goal.returns-in_err-push_entries-clause-given
-returns-in_err-push_entries-clause-given g t c =
+pub returns-in_err-push_rows-clause-given : goal.returns-in_err-push_rows-clause-given
+returns-in_err-push_rows-clause-given g t c =
     let b = c.args.begun in
     let s = c.in-Some-Some in
     let x = c.args.x.now in
@@ -46,7 +46,7 @@ returns-in_err-push_entries-clause-given g t c =
     let part = ap₂ (λ f r. arcs_under b.size_bits f b.common (s.own.now ∷ s.x.now) r) (ap (front_of tip) (sym x_is)) (sym entries) in
     exit_part (g.met.K.ArcSink.laws c.args.sink.now) _ _ _ _ _ _ _ _ _ _ _ _ c.from_residual.ensures.1
     (whole ∙ ap (λ l. l ++ arcs_under b.size_bits (front_of tip x ++ s.own.now ∷ []) (b.common + min s.own.now s.own.now) s.x.now (down_to s.bounds.now s.x.now)) (sym part)) (so_far_begun (g.met.K.ArcSink.laws c.args.sink.now) _ _ _ _ refl)
-    c.in_err-push_entries.ensures.given
+    c.in_err-push_rows.ensures.given
 
 pub returns-clause-given : goal.returns-clause-given
 returns-clause-given g t c =
@@ -59,12 +59,12 @@ returns-clause-given g t c =
     let entries = c.with_room-entries.ensures.same s.bounds.now (adds ∙ ap (λ n. b.room - n) (sym c.from.ensures)) in
     let whole = to-more b.size_bits (front_of tip x) b.common b.left s.bound.now s.own.now c.min-end.result s.bounds.now s.x.now c.args.bounds.now x s.ensures.cases.0 x_is c.requires.all c.min-end.ensures in
     let part = ap₂ (λ f r. arcs_under b.size_bits f b.common (s.own.now ∷ s.x.now) r) (ap (front_of tip) (sym x_is)) (sym entries) in
-    let mid = c.push_entries.new.tip in
+    let mid = c.push_rows.new.tip in
     let place = length tip - length x in
-    let kept : front_of mid x ≡ front_of tip x = ap (front_of mid) x_is ∙ c.in_ok-push_entries.ensures.same ∙ ap (front_of tip) (sym x_is) in
+    let kept : front_of mid x ≡ front_of tip x = ap (front_of mid) x_is ∙ c.in_ok-push_rows.ensures.same ∙ ap (front_of tip) (sym x_is) in
     let front : front_of (set mid place s.own.now) s.x.now ≡ front_of tip x ++ s.own.now ∷ [] =
     front-placed mid x s.x.now s.own.now s.own.now place x_is (omega (arith, c.requires.place)) (omega arith) ∙ ap (λ f. f ++ s.own.now ∷ []) kept in
     let rest = ap₂ (λ q f. arcs_under q.size_bits f q.common s.x.now (down_to s.bounds.now s.x.now)) c.placed.ensures front in
     given_last (g.met.K.ArcSink.laws c.args.sink.now) _ _ _ _ _ _ _ _ _
-    (so_far_more (g.met.K.ArcSink.laws c.args.sink.now) _ _ _ _ _ _ _ _ _ _ (whole ∙ ap₂ (λ l m. l ++ m) (sym part) (sym rest)) (so_far_begun (g.met.K.ArcSink.laws c.args.sink.now) _ _ _ _ refl) c.in_ok-push_entries.ensures.given)
+    (so_far_more (g.met.K.ArcSink.laws c.args.sink.now) _ _ _ _ _ _ _ _ _ _ (whole ∙ ap₂ (λ l m. l ++ m) (sym part) (sym rest)) (so_far_begun (g.met.K.ArcSink.laws c.args.sink.now) _ _ _ _ refl) c.in_ok-push_rows.ensures.given)
     c.push_to.ensures.given
