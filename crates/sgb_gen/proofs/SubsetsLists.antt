@@ -208,7 +208,7 @@ module _ (vectors : List (List ℕ)) (p : ℕ) (x : List ℕ) (rise : IsRising v
   later_differ k d within = grind (arith, get_or-drop, differs_after, length-drop)
 
 -- the vectors up to a place are vectors
-taken : (n : ℕ) (vectors : List (List ℕ)) → All (Contains vectors) (take n vectors)
+pub taken : (n : ℕ) (vectors : List (List ℕ)) → All (Contains vectors) (take n vectors)
 taken n vectors k d within =
     let less : k < min n (length vectors) = omega (arith, length-take n vectors, within) in
     subst (Contains vectors) (sym (get_or-take n vectors k d (omega (arith, less)))) (All-contains_itself vectors k d (omega (arith, less)))

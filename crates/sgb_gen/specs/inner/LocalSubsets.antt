@@ -1,5 +1,6 @@
--- The list of one vector of subsets, by a walk over the vectors from the last one back.
+-- The list of one vector of subsets, by a walk over the vectors from the last one back, and the events of such arcs.
 use Rattle.std.specs.Prelude.{ℕ, ◌+◌, pos, Bool, true, false, List, ◌++◌, map, filter, reverse, take, drop}
+use Rattle.sgb_graph.specs.Events.{Event}
 use Rattle.sgb_gen.specs.LocalLists.{LocalArc}
 use Rattle.sgb_gen.specs.Subsets.{common_size, is_wanted_size}
 use Rattle.sgb_gen.specs.VectorGraphs.{vertex_among}
@@ -16,3 +17,8 @@ arcs_by_walk true size_bits vectors x = arcs_to size_bits x (reverse (drop (vert
 arcs_by_walk false size_bits vectors x =
     arcs_to size_bits x (reverse (drop (vertex_among vectors x) vectors))
     ++ arcs_to size_bits x (reverse (take (vertex_among vectors x + 1) vectors))
+
+-- the events to vertex v from the vertices of some arcs, the last one first
+abbrev pub events_onto : List (List ℕ) → ℕ → List LocalArc → List Event
+events_onto vectors v arcs =
+    map (λ arc. record { from = vertex_among vectors arc.tip; to = v; len = pos 1 }) (reverse arcs)

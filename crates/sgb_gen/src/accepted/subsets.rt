@@ -1,15 +1,16 @@
 //! Subsets, and what two of them have in common.
 //!
-//! In a graph that is built the subsets that are joined with a vertex are found by a walk from the first vertex:
-//! `common` takes the lesser entries of eight at a time.
-ghost use Rattle.std.specs.Prelude.{IfOk, IfSome, ◌≡◌, ◌⊎◌, Err, ◌<◌, ◌+◌, [], ◌∷◌, pos, length, map, min, slice_get, Some, Ok, OnOk, IsOkUnless, if◌then◌else◌, ◌≤◌, ◌^◌};
-ghost use Rattle.sgb_gen.specs.Subsets.{accepted_subsets, subsets_id, is_wanted_size, moves_to_place, subsets_vectors, moves_of_subsets, subsets_vector_graph, common_size};
+//! Where a graph is built, the arcs from each vertex down to the first one are found as for its list, and are added from the
+//! last one on.
+ghost use Rattle.std.specs.Prelude.{All, Contains, IfOk, IfSome, ◌≡◌, ◌⊎◌, Err, ◌<◌, ◌+◌, length, map, min, slice_get, Some, Ok, OnOk, IsOkUnless, ◌≤◌, ◌^◌};
+ghost use Rattle.sgb_gen.specs.Subsets.{accepted_subsets, subsets_id, is_wanted_size, subsets_vectors, moves_of_subsets, subsets_vector_graph, common_size};
 ghost use Rattle.sgb_vec.specs.Bounds.{simplex_of};
 ghost use Rattle.sgb_vec.specs.Limits.{most_dimensions, most_vertices};
 ghost use Rattle.sgb_vec.specs.Names.{name_of_vector};
 ghost use Rattle.sgb_graph.specs.Descriptions.{IsAnswerOf};
 ghost use Rattle.sgb_graph.specs.Growth.{AddsEvents, HasPlainArcs};
 ghost use Rattle.sgb_gen.specs.VectorGraphs.{described_by, event_among};
+ghost use Rattle.sgb_gen.specs.inner.LocalSubsets.{events_onto};
 ghost use Rattle.std.specs.Simd.Lanes.{sum_l, zip2};
 
 mod counts;
@@ -23,6 +24,7 @@ mod pairs;
 mod sizes;
 
 use crate::counted_places::CountedPlaces;
+use crate::links::Links;
 use crate::params::SubsetsParams;
 use crate::vector_graphs::{put_coordinates, vector_names};
 use sgb_graph::{Graph, Id, IdWriter, Names};
@@ -143,6 +145,13 @@ impl Subsets {
         CountedPlaces::new(alloc, &self.family, self.sizes(), false)
     }
 
+    // The same for a graph that is built, for which more counts are kept.
+    fn places_of_graph(&self, alloc: Global) -> Option<CountedPlaces<'_>>
+        ensures { IfSome result (λ p. p ≡ subsets_vectors self.now) }
+    {
+        CountedPlaces::new(alloc, &self.family, self.sizes(), true)
+    }
+
     // The bounds of its vectors.
     #[inline(always)]
     fn sizes(&self) -> &[u32]
@@ -192,66 +201,75 @@ impl Subsets {
     {
         let names = vector_names(alloc, &self.family)?;
         let mut graph = Graph::new(alloc, names)?;
-        self.add_arcs(&mut graph)?;
+        let places = self.places_of_graph(alloc);
+        self.add_arcs(alloc, &mut graph, &places)?;
         put_coordinates(alloc, &mut graph, &self.family)?;
         graph.set_id(self.id());
         Ok(graph)
     }
 
     // Adds the arcs of the subsets, or their edges: for each vertex in order those to it.
-    fn add_arcs(&self, graph: &mut Graph) -> Result<(), Panic>
+    fn add_arcs(
+        &self,
+        alloc: Global,
+        graph: &mut Graph,
+        places: &Option<CountedPlaces<'_>>,
+    ) -> Result<(), Panic>
+        requires places { IfSome places.now (λ p. p ≡ subsets_vectors self.now) }
         requires vertices { length graph.old.vertices ≡ length (subsets_vectors self.now) }
         requires plain { HasPlainArcs graph.old }
         ensures ok { OnOk result (AddsEvents self.now.directed graph.old graph.new
             (map (event_among (subsets_vectors self.now)) (moves_of_subsets self.now))) }
         ensures memory { IsOkUnless result Panic.NoRoom }
     {
+        let mut links = Links::new(alloc);
         let mut left = Vectors::all(&self.family);
         for v in 0..self.family.size() {
-            let Some(to) = left.front() else {
+            let Some(x) = left.front() else {
                 return Ok(());
             };
-            self.add_moves_to(graph, v, to)?;
+            self.put_earlier(x, &mut links)?;
+            self.add_moves_to(graph, places, v, &links)?;
             let _some = left.advance();
         }
         Ok(())
     }
 
-    // Adds the moves to vertex `v`, which is the vector `to`: from each vertex up to it, in order.
-    fn add_moves_to(&self, graph: &mut Graph, v: u32, to: &[u32]) -> Result<(), Panic>
-        requires vertex { slice_get (subsets_vectors self.now) v ≡ Some to.now }
+    // Adds the moves to vertex `v` from the vertices of these arcs, the last one first.
+    fn add_moves_to(
+        &self,
+        graph: &mut Graph,
+        places: &Option<CountedPlaces<'_>>,
+        v: u32,
+        links: &Links,
+    ) -> Result<(), Panic>
+        requires places { IfSome places.now (λ p. p ≡ subsets_vectors self.now) }
+        requires vertex { v < length (subsets_vectors self.now) }
+        requires tips { All (λ arc. Contains (subsets_vectors self.now) arc.tip) links.now.arcs }
         requires vertices { length graph.old.vertices ≡ length (subsets_vectors self.now) }
         requires plain { HasPlainArcs graph.old }
         ensures ok { OnOk result (AddsEvents self.now.directed graph.old graph.new
-            (map (event_among (subsets_vectors self.now))
-            (moves_to_place self.now.size_bits (subsets_vectors self.now) v))) }
+            (events_onto (subsets_vectors self.now) v links.now.arcs)) }
         ensures memory { IsOkUnless result Panic.NoRoom }
     {
-        let mut left = Vectors::all(&self.family);
-        for u in 0..=v {
-            let Some(from) = left.front() else {
-                return Ok(());
-            };
-            self.add_move(graph, u, v, common(from, to))?;
-            let _some = left.advance();
+        for k in (0..links.len()).rev() {
+            let u = self.vertex_of(places, links.get(k).tip);
+            graph.add_event(self.directed, u, v, 1)?;
         }
         Ok(())
     }
 
-    // Adds the move from vertex `u` to vertex `v` where they may have `c` elements in common.
-    fn add_move(&self, graph: &mut Graph, u: u32, v: u32, c: u64) -> Result<(), Panic>
-        requires from { u < length graph.old.vertices }
-        requires to { v < length graph.old.vertices }
-        requires plain { HasPlainArcs graph.old }
-        ensures ok { OnOk result (AddsEvents self.now.directed graph.old graph.new
-            (if is_wanted_size self.now.size_bits c then record { from = u; to = v; len = pos 1 }
-            ∷ [] else [])) }
-        ensures memory { IsOkUnless result Panic.NoRoom }
+    // The vertex of a vector: by the counts that are kept, where there are some.
+    #[inline(always)]
+    fn vertex_of(&self, places: &Option<CountedPlaces<'_>>, x: &[u32]) -> u32
+        requires places { IfSome places.now (λ p. p ≡ subsets_vectors self.now) }
+        requires member { Contains (subsets_vectors self.now) x.now }
+        ensures { slice_get (subsets_vectors self.now) result ≡ Some x.now }
     {
-        if is_wanted(self.size_bits, c) {
-            return graph.add_event(self.directed, u, v, 1);
+        match places {
+            Some(places) => places.place_of(x),
+            None => self.family.place_of(x),
         }
-        Ok(())
     }
 }
 

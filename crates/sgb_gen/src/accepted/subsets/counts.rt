@@ -11,10 +11,7 @@ ghost use Rattle.sgb_gen.specs.inner.Descents.{down_from};
 ghost use Rattle.sgb_gen.specs.inner.SubsetsCounts.{wanted_among};
 
 use super::Subsets;
-use super::descents::push_from;
-use super::sizes::WantedSizes;
 use crate::arc_sinks::ArcSink;
-use crate::shifts::copy_of;
 use sgb_vec::{Family, Vectors};
 use std::alloc::Global;
 
@@ -77,20 +74,8 @@ impl Subsets {
     {
         // There are few vectors, so the count does not wrap.
         let _size = self.family.size();
-        let sizes = WantedSizes::of(self.size_bits);
-        let bounds = self.sizes();
-        let mut tip = copy_of(x);
         let mut counted: u64 = 0;
-        let _all = push_from(
-            &sizes,
-            self.begun(),
-            bounds,
-            x,
-            tip.as_mut_slice(),
-            &ArcCounter::of(x.len()),
-            &mut counted,
-            &mut (),
-        );
+        let _all = self.push_earlier(x, &ArcCounter::of(x.len()), &mut counted, &mut ());
         counted
     }
 }

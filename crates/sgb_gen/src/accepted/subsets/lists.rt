@@ -3,7 +3,7 @@ ghost use Rattle.std.specs.Prelude.{◌≡◌, [], length, sum, Contains, OnOk, 
 ghost use Rattle.sgb_vec.specs.Sums.{bounded_sums};
 ghost use Rattle.sgb_gen.specs.ArcSinks.{AreGiven};
 ghost use Rattle.sgb_gen.specs.LocalLists.{list_at};
-ghost use Rattle.sgb_gen.specs.inner.Descents.{IsBegun};
+ghost use Rattle.sgb_gen.specs.inner.Descents.{IsBegun, arcs_under, down_from};
 ghost use Rattle.sgb_gen.specs.inner.LocalSubsets.{arcs_by_walk};
 ghost use Rattle.sgb_gen.specs.Subsets.{subsets_vectors, moves_of_subsets};
 
@@ -33,6 +33,48 @@ impl Subsets {
         links.clear(x.len());
         let put = self.push_all(x, &KeptArcs::of(x.len()), links, &mut ());
         links.ended(put)
+    }
+
+    // Puts the arcs from the vertex of `x` down to the first one into `links`. What these held before is dropped.
+    pub(super) fn put_earlier(&self, x: &[u32], links: &mut Links) -> Result<(), Panic>
+        requires { Contains (subsets_vectors self.now) x.now }
+        ensures ok { OnOk result (links.new.arcs
+            ≡ arcs_under self.now.size_bits [] 0 x.now (down_from self.now.sum.bounds x.now)) }
+        ensures memory { IsOkUnless result Panic.NoRoom }
+    {
+        links.clear(x.len());
+        self.push_earlier(x, &KeptArcs::of(x.len()), links, &mut ())
+    }
+
+    // Hands the arcs from the vertex of `x` down to the first one to a sink.
+    pub(super) fn push_earlier<K: ArcSink<R, S>, R, S>(
+        &self,
+        x: &[u32],
+        sink: &K,
+        room: &mut R,
+        out: &mut S,
+    ) -> Result<(), K::Fault>
+        requires member { Contains (subsets_vectors self.now) x.now }
+        requires width { K.width sink.now ≡ length x.now }
+        requires ready { K.ready sink.now room.old out.old }
+        ensures given { AreGiven (K.took sink.now) (K.cut sink.now) room.old out.old
+            (arcs_under self.now.size_bits [] 0 x.now (down_from self.now.sum.bounds x.now)) room.new
+            out.new result }
+        ensures ready { OnOk result (K.ready sink.now room.new out.new) }
+    {
+        let sizes = WantedSizes::of(self.size_bits);
+        let bounds = self.sizes();
+        let mut tip = copy_of(x);
+        push_from(
+            &sizes,
+            self.begun(),
+            bounds,
+            x,
+            tip.as_mut_slice(),
+            sink,
+            room,
+            out,
+        )
     }
 
     // Hands the arcs of `x` to a sink.
