@@ -27,8 +27,8 @@ pub mod NameEntries
 pub mod WrittenDigits
 -- names of vectors of which some entries are moved
 pub mod MovedNames
--- lines of arcs, run by run
-pub mod RunLines
+-- lines of the arcs of a span
+pub mod SpanLines
 -- the first vertex of a name
 pub mod Named
 -- members of a family by their names

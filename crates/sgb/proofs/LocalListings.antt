@@ -12,7 +12,7 @@ use Rattle.sgb_graph.specs.Descriptions.{Description}
 use Rattle.sgb_graph.specs.Events.{list_of}
 use Rattle.sgb_graph.specs.Graphs.{GraphData, chain_of}
 use Rattle.sgb_graph.specs.Made.{graph_described}
-use Rattle.sgb_gen.specs.LocalLists.{LocalArc, list_at, local_arc}
+use Rattle.sgb_gen.specs.LocalLists.{LocalArc, list_at, list_in, local_arc}
 use Rattle.sgb_gen.proofs.FamilyWalks.{first_in_drop}
 use Rattle.sgb_moves.specs.VectorMoves.{Move}
 use Rattle.sgb_gen.specs.VectorGraphs.{HasEnds, VectorGraph, described_by, event_among, family_graph}
@@ -108,3 +108,8 @@ module _ (g : VectorGraph) (rise : IsRising g.vectors) (ends : All (HasEnds g.ve
       let there : slice_get g.vectors k ≡ Some x = sym (first_in_drop k g.vectors) ∙ ap (λ xs. slice_get xs 0) (sym left) in
       let after : rest ≡ drop (k + 1) g.vectors = ap (drop 1) left ∙ drop-drop 1 k g.vectors in
       grind (arith, slice_get_within, names_count, blocks-first, block_of_vector, blocks_of_rest (k + 1) rest after)
+
+-- a block in parts, by the vector whose name is kept
+pub parts-named : (g : VectorGraph) (x name : List ℕ) (arcs : List LocalArc) → arcs ≡ list_in g x → name ≡ x → local_block g x ≡ name_line (name_of_vector name) ++ flat_map local_line arcs
+unfolding local_block
+parts-named g x name arcs same named = grind (arith)

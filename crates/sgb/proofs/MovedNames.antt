@@ -5,7 +5,7 @@ use Rattle.std.specs.List.{All}
 use Rattle.std.proofs.lemmas.List.Elements.{All-drop, All-take}
 use Rattle.sgb_vec.specs.Names.{name_of_vector}
 use Rattle.sgb_moves.specs.MovedCoordinates.{parts_from}
-use Rattle.sgb_gen.specs.Runs.{AreMoved}
+use Rattle.sgb_gen.specs.Spans.{AreMoved}
 use Rattle.sgb.specs.inner.Texts.{entries_text, entry_text}
 use Rattle.sgb.proofs.KeptNames.{name-back}
 use Rattle.sgb.proofs.NameEntries.{entries-parts, length-entries, name-more, name-parts}

@@ -147,6 +147,14 @@ pub first_ok : {T : Type 0} (A B : Type 0) (r : Result T Fault) → OnOk r (A ×
 first_ok A B (Ok x) both = both.0
 first_ok A B (Err f) both = tt
 
+-- a page took the lines of arcs, or a write's fault came before: so of the arcs alone
+pub page_given : {S T : Type 0} (written : S → Option (List ℕ)) (failed : S → Bool) (page after : List ℕ) (old new : S) (arcs : List LocalArc) (r : Result T Fault)
+    → IsPaged page (flat_map local_line arcs) after (change written failed old new) r → IfErr r (λ f. f ≡ fault.Write)
+    → AreGiven (λ page o xs later n. (put : List ℕ) × (put ++ later ≡ page ++ flat_map local_line xs) × Appends (written o) (written n) put)
+    (λ page o xs later n f. IsCutOff (page ++ flat_map local_line xs) (change written failed o n) f × (f ≡ fault.Write)) page old arcs after new r
+page_given written failed page after old new arcs (Ok x) paged write = paged.output
+page_given written failed page after old new arcs (Err f) paged write = (paged, write)
+
 -- a page took the line of an arc, or a write's fault came before: so of the arc alone
 pub line_given : {S T : Type 0} (written : S → Option (List ℕ)) (failed : S → Bool) (page after : List ℕ) (old new : S) (arc : LocalArc) (r : Result T Fault)
     → IsPaged page (local_line arc) after (change written failed old new) r → IfErr r (λ f. f ≡ fault.Write)

@@ -27,8 +27,6 @@ mod numerals;
 mod pages;
 // Where the names and the listing of a generator's vectors begin.
 pub(crate) mod resumed;
-// The blocks of vectors whose lists are had run by run.
-mod run_lines;
 // Names of a graph's vertices.
 pub(crate) mod vertices;
 

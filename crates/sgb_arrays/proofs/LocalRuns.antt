@@ -4,7 +4,6 @@ use Rattle.std.specs.Prelude.{Option, IfNone, IfSome, IsSome, Result, Ok, Err, I
 use Rattle.std.specs.Bool.{OnTrue, OnFalse}
 use Rattle.std.specs.List.{All, Contains, slice_get, slice_index_or}
 use Rattle.std.proofs.lemmas.List.{drop-drop, get_or-map, length-append, length-drop, length-map, length-reverse}
-use Rattle.std.proofs.lemmas.List.FromFn.{length-map-range_with_len}
 use Rattle.std.proofs.lemmas.List.Elements.{All-contains}
 use Rattle.std.proofs.lemmas.Option.{get_or_from_slice_get, slice_get_within}
 use Rattle.sgb_vec.specs.Lexicographic.{IsRising}
@@ -13,7 +12,6 @@ use Rattle.sgb_vec.specs.Names.{name_of_vector}
 use Rattle.sgb_gen.specs.VectorGraphs.{HasEnds, VectorGraph, described_by, vertex_among}
 use Rattle.sgb_gen.proofs.RisingVectors.{vertex_in_rising}
 use Rattle.sgb_gen.specs.LocalLists.{LocalArc, list_in}
-use Rattle.sgb_gen.specs.Runs.{RunsData, arc_along, arcs_along, arcs_of_run}
 use Rattle.sgb_graph.specs.declared.fields.Link.{Link}
 use Rattle.sgb_graph.specs.Graphs.{GraphData, chain_of}
 use Rattle.sgb_graph.specs.Made.{graph_described}
@@ -99,17 +97,6 @@ pub refusal_answered : {T : Type 0} (g : VectorGraph) (members : List (List ℕ)
 refusal_answered g members first count (Ok x) same said = said
 refusal_answered g members first count (Err why) same said =
     run_refused (graph_described (described_by g)) (length members) first count why (vertices_are_members g members same) said
-
--- how many arcs a run by a displacement has
-pub run_length : (d : RunsData) (ahead : List (ℕ × ℤ)) (farthest : ℕ) (back : List (ℕ × ℤ)) (farthest_back : ℕ) → length (arcs_of_run d ahead farthest back farthest_back) ≡ farthest + farthest_back
-run_length d ahead farthest back farthest_back =
-    omega (
-      arith,
-      length-append (reverse (arcs_along d.sizes d.wrap d.x ahead farthest)) (arcs_along d.sizes d.wrap d.x back farthest_back),
-      length-reverse (arcs_along d.sizes d.wrap d.x ahead farthest),
-      length-map-range_with_len (arc_along d.sizes d.wrap d.x ahead) 1 farthest,
-      length-map-range_with_len (arc_along d.sizes d.wrap d.x back) 1 farthest_back,
-    )
 
 -- a vector's list is as long as that of its vertex
 pub list_length : (g : VectorGraph) (members : List (List ℕ)) → IsRising members → members ≡ g.vectors → All (HasEnds g.vectors) g.moves → (place : ℕ) (x : List ℕ) → slice_get g.vectors place ≡ Some x

@@ -23,6 +23,8 @@ impl<'p, P: VectorPlaces> ArcSink<Rows, ()> for PlacedArcs<'p, P> {
 
     ghost width = { λ s. s.width };
 
+    ghost at = { λ _ _. ⊤ };
+
     ghost ready = { λ _ _ _. ⊤ };
 
     ghost took = { λ s old _ arcs new _. PutsArcs (P.vectors s.places.now) old arcs new };

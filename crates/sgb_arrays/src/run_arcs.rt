@@ -1,7 +1,6 @@
 //! How many arcs are on the lists of a run.
 //!
-//! They are counted by runs where these are had, or without the lists where these are told so; else from list after list in one
-//! `Links`.
+//! They are counted without the lists where these are told so; else from list after list in one `Links`.
 ghost use Rattle.std.specs.Prelude.{◌≡◌, ◌+◌, ◌≤◌, length, Contains, IfErr, IfOk, IsOkUnless, ⊤};
 ghost use Rattle.sgb_gen.specs.LocalLists.{list_in};
 ghost use Rattle.sgb_gen.specs.VectorGraphs.{described_by};
@@ -12,7 +11,7 @@ ghost use Rattle.sgb_arrays.specs.Runs.{IsRunRefusal, IsThere, parts_of};
 
 use crate::refusals::Wrong;
 use crate::runs::{has_run, vectors_from};
-use sgb_gen::{Links, Listed, Local, Runs, Visit, Visitor};
+use sgb_gen::{Links, Listed, Local, Visit, Visitor};
 use sgb_vec::Panic;
 use std::alloc::Global;
 
@@ -112,32 +111,16 @@ pub(crate) fn sum_of(arcs: u128, more: u128) -> Result<u128, Panic>
     Ok(sum)
 }
 
-// The number of the arcs of a vector: by runs where they are had, or told without its list, else by that.
+// The number of the arcs of a vector: told without its list where it can be, else by that.
 fn arcs_from<'a, L: Listed<'a>>(listed: &mut L, x: &[u32], links: &mut Links) -> Result<u128, Panic>
     requires { Contains (L.graph listed.old).vectors x.now }
     ensures arcs { IfOk result (λ m. m ≡ length (list_in (L.graph listed.old) x.now)) }
     ensures memory { IsOkUnless result Panic.NoRoom }
     ensures same { L.graph listed.new ≡ L.graph listed.old }
 {
-    if let Some(runs) = listed.runs(x) {
-        return Ok(arcs_of_runs(runs));
-    }
     if let Some(arcs) = listed.count_at(x) {
         return Ok(u128::from(arcs));
     }
     listed.arcs_at(x, links)?;
     Ok(links.len() as u128)
-}
-
-// The number of the arcs of a list that is had by runs.
-fn arcs_of_runs(runs: Runs<'_>) -> u128
-    ensures { result ≡ length runs.entry.arcs }
-{
-    let mut left = runs;
-    let mut arcs: u128 = 0;
-    for _run in 0..left.len() {
-        let run = left.next_run();
-        arcs += u128::from(run.farthest) + u128::from(run.farthest_back);
-    }
-    arcs
 }

@@ -8,7 +8,7 @@ use Rattle.sgb_vec.specs.Lexicographic.{IsBelow}
 use Rattle.sgb_gen.specs.Boards.{BoardData}
 use Rattle.sgb_moves.specs.MovedCoordinates.{parts_of, parts_put}
 use Rattle.sgb_moves.specs.Moves.{coordinate_on, in_front, is_bit_set, is_elsewhere, place, sides_from_bit, sides_of}
-use Rattle.sgb_gen.specs.Runs.{arc_along}
+use Rattle.sgb_gen.specs.Spans.{arc_along}
 use Rattle.sgb_gen.specs.inner.BoardCounts.{comes_home, stops_at, stops_on}
 use Rattle.sgb_gen.specs.inner.LocalBoards.{move_arc}
 use Rattle.sgb_moves.specs.inner.Moves.{destination}

@@ -26,7 +26,7 @@ use Rattle.sgb_moves.proofs.TurnedMoves.{moves_turned}
 use Rattle.sgb_gen.proofs.Vertices.{other_is}
 
 -- what is made of elements in the other order
-map-reverse : {X Y : Type 0} (f : X → Y) (xs : List X) → map f (reverse xs) ≡ reverse (map f xs)
+pub map-reverse : {X Y : Type 0} (f : X → Y) (xs : List X) → map f (reverse xs) ≡ reverse (map f xs)
 map-reverse f [] = refl
 map-reverse f (x ∷ xs) =
     cc (reverse-first x xs, map-append f (reverse xs) (x ∷ []), map-reverse f xs, reverse-first (f x) (map f xs))

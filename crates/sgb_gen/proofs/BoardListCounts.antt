@@ -10,7 +10,8 @@ use Rattle.sgb_gen.specs.Boards.{BoardData}
 use Rattle.sgb_gen.specs.LocalLists.{LocalArc}
 use Rattle.sgb_moves.specs.MovedCoordinates.{parts_of}
 use Rattle.sgb_moves.specs.Moves.{opposite, sides_of}
-use Rattle.sgb_gen.specs.Runs.{arc_along, arcs_along}
+use Rattle.sgb_gen.specs.Spans.{arc_along}
+use Rattle.sgb_gen.specs.inner.Spans.{arcs_along}
 use Rattle.sgb_gen.specs.inner.LocalBoards.{arcs_onward, moves_by}
 use Rattle.sgb_moves.specs.inner.Moves.{leads_onward}
 use Rattle.sgb_gen.specs.inner.StraightLists.{NeedsNoSort, arcs_back, arcs_by_all, arcs_from}

@@ -22,8 +22,8 @@ pub mod LocalSubsets
 pub mod LocalBoards
 -- what the laws say of single cases
 pub mod Laws
--- those of boards, run by run
-pub mod Runs
+-- arcs by one displacement
+pub mod Spans
 -- runs by the vertices where they lead
 pub mod Strides
 -- short names

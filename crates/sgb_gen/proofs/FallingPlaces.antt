@@ -18,7 +18,8 @@ use Rattle.sgb_gen.specs.Boards.{BoardData}
 use Rattle.sgb_gen.specs.LocalLists.{LocalArc}
 use Rattle.sgb_moves.specs.MovedCoordinates.{parts_from, parts_of}
 use Rattle.sgb_moves.specs.Moves.{Side, coordinate_on, is_bit_set, opposite, place, sides_from_bit, sides_of}
-use Rattle.sgb_gen.specs.Runs.{arc_along, arcs_along}
+use Rattle.sgb_gen.specs.Spans.{arc_along}
+use Rattle.sgb_gen.specs.inner.Spans.{arcs_along}
 use Rattle.sgb_moves.specs.VectorMoves.{Move}
 use Rattle.sgb_gen.specs.VectorGraphs.{vertex_among}
 use Rattle.sgb_gen.specs.inner.LocalBoards.{arcs_onward, move_arc, moves_by}

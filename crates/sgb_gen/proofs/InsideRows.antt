@@ -16,7 +16,7 @@ use Rattle.sgb_gen.specs.Boards.{BoardData, board_vector_graph}
 use Rattle.sgb_gen.specs.LocalLists.{LocalArc}
 use Rattle.sgb_moves.specs.MovedCoordinates.{parts_of}
 use Rattle.sgb_moves.specs.Moves.{opposite, place, moves_from, sides_of}
-use Rattle.sgb_gen.specs.Runs.{arcs_along}
+use Rattle.sgb_gen.specs.inner.Spans.{arcs_along}
 use Rattle.sgb_gen.specs.Strides.{IsInsideVertex, tips_inside, tips_of_stride}
 use Rattle.sgb_gen.specs.VectorGraphs.{described_by}
 use Rattle.sgb_gen.specs.inner.LocalBoards.{move_arc}

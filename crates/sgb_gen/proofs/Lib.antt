@@ -18,6 +18,8 @@ mod StrideTips
 mod InsideRows
 -- boards with no side that wraps around: no arc leads to its own vertex
 mod FlatBoards
+-- the arcs of a span, one after another
+pub mod SpanArcs
 -- a board's arcs that are handed out one by one
 pub mod GivenArcs
 -- how many lengths a piece moves at most

@@ -13,7 +13,8 @@ use Rattle.sgb_vec.proofs.BoxPlaces.{Contains-from_IsBelow}
 use Rattle.sgb_gen.specs.Boards.{BoardData}
 use Rattle.sgb_moves.specs.MovedCoordinates.{parts_of}
 use Rattle.sgb_moves.specs.Moves.{coordinate_on, in_front, is_bit_set, is_elsewhere, moves_from, place, sides_from_bit, sides_of, within_size}
-use Rattle.sgb_gen.specs.Runs.{arc_along, arcs_along}
+use Rattle.sgb_gen.specs.Spans.{arc_along}
+use Rattle.sgb_gen.specs.inner.Spans.{arcs_along}
 use Rattle.sgb_gen.specs.inner.BoardCounts.{stops_at, stops_on}
 use Rattle.sgb_gen.specs.inner.LocalBoards.{move_arc}
 use Rattle.sgb_moves.specs.inner.Moves.{destination, longest_move}

@@ -5,7 +5,8 @@ use Rattle.std.proofs.lemmas.Bool.{cases_Bool, cases_lt}
 use Rattle.sgb_gen.specs.Boards.{BoardData}
 use Rattle.sgb_gen.specs.LocalLists.{LocalArc}
 use Rattle.sgb_moves.specs.MovedCoordinates.{parts_of}
-use Rattle.sgb_gen.specs.Runs.{arc_along, arcs_along}
+use Rattle.sgb_gen.specs.Spans.{arc_along}
+use Rattle.sgb_gen.specs.inner.Spans.{arcs_along}
 use Rattle.sgb_moves.specs.declared.start_ranges.StartRange.{StartRange}
 use Rattle.sgb_gen.specs.inner.LocalBoards.{move_arc, own_starts}
 use Rattle.sgb_moves.specs.inner.Starts.{is_within}

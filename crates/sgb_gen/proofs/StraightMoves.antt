@@ -11,7 +11,7 @@ use Rattle.sgb_gen.specs.LocalLists.{LocalArc}
 use Rattle.sgb_gen.specs.inner.LocalBoards.{move_arc}
 use Rattle.sgb_moves.specs.inner.Moves.{destination, leads_onward}
 use Rattle.sgb_moves.specs.MovedCoordinates.{parts_of, parts_put}
-use Rattle.sgb_gen.specs.Runs.{arc_along}
+use Rattle.sgb_gen.specs.Spans.{arc_along}
 use Rattle.sgb_moves.specs.inner.MovedCoordinates.{parts_stay}
 use Rattle.sgb_gen.specs.inner.StraightLists.{IsLeaper, NeverHome}
 use Rattle.sgb_gen.proofs.BoardWalks.{leads, left-all, left-next, left-none, left-out, longest, moves_left, moves_of}

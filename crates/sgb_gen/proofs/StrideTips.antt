@@ -18,7 +18,8 @@ use Rattle.sgb_gen.specs.Boards.{BoardData, board_vector_graph}
 use Rattle.sgb_gen.specs.LocalLists.{LocalArc, list_in}
 use Rattle.sgb_moves.specs.MovedCoordinates.{parts_of, parts_put}
 use Rattle.sgb_moves.specs.Moves.{coordinate_on, in_front, is_bit_set, opposite, place, sides_from_bit, sides_of, within_size}
-use Rattle.sgb_gen.specs.Runs.{arc_along, arcs_along}
+use Rattle.sgb_gen.specs.Spans.{arc_along}
+use Rattle.sgb_gen.specs.inner.Spans.{arcs_along}
 use Rattle.sgb_gen.specs.Strides.{lengths_of_stride, lengths_to, tips_ahead, tips_back, tips_of_stride}
 use Rattle.sgb_gen.specs.VectorGraphs.{described_by, vertex_among}
 use Rattle.sgb_moves.specs.inner.EntryBounds.{displacements_within}

@@ -16,8 +16,8 @@ pub mod Generators
 pub mod LocalLists
 -- arcs that are handed out one by one
 pub mod ArcSinks
--- the list of a board's vertex, run by run
-pub mod Runs
+-- arcs by one displacement, of some lengths in turn
+pub mod Spans
 -- the same, by the vertices where the arcs lead
 pub mod Strides
 -- the short names

@@ -24,6 +24,8 @@ pub mod Simplexes
 pub mod Subsets
 -- a list that is had run by run
 pub mod StraightLists
+-- lengths one after another
+pub mod Spans
 -- how far a displacement leads on among the vectors
 pub mod Strides
 -- moves from the vectors of a row

@@ -4,7 +4,7 @@ mod simplexes;
 mod subsets;
 
 pub use boards::{
-    Board, BoardLists, FlatLists, OrderedBoard, Run, Runs, Stride, StridedBoard, Strides,
+    Board, BoardLists, FlatLists, OrderedBoard, Stride, StridedBoard, Strides,
 };
 pub use simplexes::Simplex;
 pub use subsets::{Subsets, common};

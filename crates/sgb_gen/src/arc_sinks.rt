@@ -2,7 +2,11 @@
 ghost use Rattle.std.specs.Prelude.{◌≡◌, ℕ, List, [], ◌∷◌, pos, length, OnOk};
 ghost use Rattle.sgb_gen.specs.ArcSinks.{AreGiven};
 ghost use Rattle.sgb_gen.specs.LocalLists.{LocalArc};
+ghost use Rattle.sgb_gen.specs.Spans.{arcs_of_span};
 ghost use Rattle.sgb_gen.specs.inner.ArcSinks.{AreTakenInTurn};
+
+use crate::spans::Span;
+use sgb_vec::Vector;
 
 /// Takes the arcs of a list, one after another: `R` is the room that it keeps, `S` where it puts them.
 pub trait ArcSink<R, S> {
@@ -11,6 +15,9 @@ pub trait ArcSink<R, S> {
 
     // How many entries the vectors have where the arcs lead.
     ghost width: { Self → ℕ };
+
+    // It takes the arcs of this vector.
+    ghost at: { Self → List ℕ → Type 0 };
 
     // What is needed before an arc is put.
     ghost ready: { Self → R → S → Type 0 };
@@ -28,6 +35,32 @@ pub trait ArcSink<R, S> {
         ensures given { AreGiven (took self.now) (cut self.now) room.old out.old
             (record { tip = tip.now; len = pos len } ∷ []) room.new out.new result }
         ensures ready { OnOk result (ready self.now room.new out.new) };
+
+    /// Takes the arcs of a span in their order, which are some of the vector's. `there` is room for a vector: what it holds does
+    /// not count.
+    #[inline(always)]
+    fn put_span(
+        &self,
+        span: &Span<'_>,
+        there: &mut Vector,
+        room: &mut R,
+        out: &mut S,
+    ) -> Result<(), Self::Fault>
+        requires at { at self.now span.now.x }
+        requires width { length span.now.x ≡ width self.now }
+        requires ready { ready self.now room.old out.old }
+        ensures given { AreGiven (took self.now) (cut self.now) room.old out.old
+            (arcs_of_span span.now) room.new out.new result }
+        ensures ready { OnOk result (ready self.now room.new out.new) }
+    {
+        span.put_start(there);
+        for k in 0..span.len() {
+            let l = span.length_at(k);
+            span.put_tip(l, there);
+            self.put_arc(there.as_slice(), l, room, out)?;
+        }
+        Ok(())
+    }
 
     // Arcs are taken in turn.
     ghost laws: { (s : Self) → AreTakenInTurn (took s) (cut s) };

@@ -21,7 +21,7 @@ impl KeptArcs {
 }
 
 impl ArcSink<Links, ()> for KeptArcs {
-    ghost use Rattle.std.specs.Prelude.{◌≡◌};
+    ghost use Rattle.std.specs.Prelude.{◌≡◌, ⊤};
     ghost use Rattle.std.proofs.Common.{sym, ap, ◌∙◌, append-nil, append_assoc};
     ghost use Rattle.sgb_vec.specs.declared.panics.Panic.TheVariants.{NoRoom};
     ghost use Rattle.sgb_gen.specs.inner.LocalSimplexes.{with_arcs};
@@ -29,6 +29,8 @@ impl ArcSink<Links, ()> for KeptArcs {
     type Fault = Panic;
 
     ghost width = { λ s. s.width };
+
+    ghost at = { λ _ _. ⊤ };
 
     ghost ready = { λ s links _. links.width ≡ s.width };
 

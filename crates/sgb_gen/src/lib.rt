@@ -27,6 +27,8 @@ mod local_lists;
 mod locals;
 // The generators' parameters.
 mod params;
+// Arcs by one displacement, of some lengths in turn.
+mod spans;
 // A unit of a vector that goes to a higher place.
 mod shifts;
 // The short names of some boards and subsets.
@@ -39,7 +41,7 @@ mod vector_places;
 mod visits;
 
 pub use accepted::{
-    Board, BoardLists, FlatLists, OrderedBoard, Run, Runs, Simplex, Stride, StridedBoard, Strides,
+    Board, BoardLists, FlatLists, OrderedBoard, Simplex, Stride, StridedBoard, Strides,
     Subsets, common,
 };
 pub use arc_sinks::ArcSink;
@@ -54,6 +56,7 @@ pub use listed::Listed;
 pub use local_lists::LocalLists;
 pub use locals::{Local, local_of};
 pub use params::{BoardParams, Generator, SimplexParams, SubsetsParams};
+pub use spans::Span;
 pub use shorthands::{circuit, complete, cycle, disjoint_subsets, empty, petersen, transitive};
 pub use vector_places::VectorPlaces;
 pub use visits::{Visit, Visitor};

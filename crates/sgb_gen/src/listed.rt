@@ -15,7 +15,7 @@ ghost use Rattle.sgb_gen.specs.Sorts.{Sort, of_board, of_ordered_board, of_simpl
 ghost use Rattle.sgb_gen.specs.Subsets.{subsets_vector_graph};
 ghost use Rattle.sgb_gen.specs.VectorGraphs.{HasEnds, HasUnitToMove, VectorGraph, described_by, vertex_among};
 
-use crate::accepted::{BoardLists, OrderedBoard, Runs, Simplex, Strides, Subsets};
+use crate::accepted::{BoardLists, OrderedBoard, Simplex, Strides, Subsets};
 use crate::arc_sinks::ArcSink;
 use crate::counted_places::CountedPlaces;
 use crate::links::Links;
@@ -102,6 +102,7 @@ pub trait Listed<'a> {
         out: &mut S,
     ) -> Result<Result<(), K::Fault>, Panic>
         requires member { Contains (graph self.old).vectors x.now }
+        requires at { K.at sink.now x.now }
         requires width { K.width sink.now ≡ length x.now }
         requires ready { K.ready sink.now room.old out.old }
         ensures given { IfOk result (AreGiven (K.took sink.now) (K.cut sink.now) room.old out.old
@@ -121,15 +122,6 @@ pub trait Listed<'a> {
         ensures count { IfSome result (λ m. m ≡ length (list_in (graph self.now) x.now)) }
         ensures counted { counted self.now
             → IfNone result (2 ^ 64 ≤ length (list_in (graph self.now) x.now)) };
-
-    /// The list of the vertex of `x` run by run, where it can be had so, of a board alone: no list is then made. No memory is
-    /// taken.
-    fn runs<'b>(&'b self, x: &'b [u32]) -> Option<Runs<'b>>
-        requires { Contains (graph self.now).vectors x.now }
-        ensures vector { IfSome result (λ r. r.x ≡ x.now) }
-        ensures arcs { IfSome result (λ r. r.arcs ≡ list_in (graph self.now) x.now) }
-        ensures board { IfSome result (λ r. (sort self.now ≡ of_board)
-            ⊎ (sort self.now ≡ of_ordered_board)) };
 
     /// The list of vertex `v`, which is that of `x`, by the vertices where its arcs lead, where it can be had so: no vector of
     /// theirs is then made. No memory is taken.
@@ -203,10 +195,6 @@ impl<'a> Listed<'a> for BoardLists<'a> {
         BoardLists::count_at(self, x)
     }
 
-    fn runs<'b>(&'b self, x: &'b [u32]) -> Option<Runs<'b>> {
-        BoardLists::runs(self, x)
-    }
-
     fn strides<'b>(&'b self, x: &'b [u32], v: u32) -> Option<Strides<'b>> {
         BoardLists::strides(self, x, v)
     }
@@ -270,10 +258,6 @@ impl<'a> Listed<'a> for OrderedBoard<'a> {
         self.lists.count_at(x)
     }
 
-    fn runs<'b>(&'b self, x: &'b [u32]) -> Option<Runs<'b>> {
-        self.lists.runs(x)
-    }
-
     fn strides<'b>(&'b self, _x: &'b [u32], _v: u32) -> Option<Strides<'b>> {
         None
     }
@@ -332,10 +316,6 @@ impl<'a> Listed<'a> for &'a Simplex {
     }
 
     fn count_at(&self, _x: &[u32]) -> Option<u64> {
-        None
-    }
-
-    fn runs<'b>(&'b self, _x: &'b [u32]) -> Option<Runs<'b>> {
         None
     }
 
@@ -398,10 +378,6 @@ impl<'a> Listed<'a> for &'a Subsets {
 
     fn count_at(&self, x: &[u32]) -> Option<u64> {
         (**self).count_at(x)
-    }
-
-    fn runs<'b>(&'b self, _x: &'b [u32]) -> Option<Runs<'b>> {
-        None
     }
 
     fn strides<'b>(&'b self, _x: &'b [u32], _v: u32) -> Option<Strides<'b>> {

@@ -34,6 +34,8 @@ impl<'p, P: VectorPlaces> ArcSink<bool, Vec<Event>> for TakenEvents<'p, P> {
 
     ghost width = { λ s. s.width };
 
+    ghost at = { λ _ _. ⊤ };
+
     ghost ready = { λ _ _ _. ⊤ };
 
     ghost took = { λ s second old arcs after new.

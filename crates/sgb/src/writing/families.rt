@@ -31,7 +31,6 @@ use super::line_sink::ArcLines;
 use super::listing::{push_arcs_count, push_title};
 use super::pages::{Page, put_page};
 use super::resumed::vectors_after;
-use super::run_lines::push_block_of_runs;
 use sgb_file::Sink;
 use sgb_gen::{Board, Links, Listed, Local, Visit, Visitor};
 use sgb_graph::Id;
@@ -247,31 +246,6 @@ fn write_blocks<'a, L: Listed<'a>, W: Sink>(
 
 // Hands the block of a vector to a page: its name, and a line for each of its arcs. Out of memory the page is left as it is.
 fn push_block<'a, L: Listed<'a>, W: Sink>(
-    listed: &mut L,
-    x: &[u32],
-    links: &mut Links,
-    name: &KeptName,
-    page: &mut Page,
-    out: &mut W,
-) -> Result<(), Fault>
-    requires member { Contains (L.graph listed.old).vectors x.now }
-    requires short { length x.now ≤ most_dimensions + 1 }
-    requires named { name.now ≡ x.now }
-    requires sound { W.has_failed out.old ≡ false }
-    ensures paged { IsPaged page.old (local_block (L.graph listed.old) x.now) page.new
-        (change W.written W.has_failed out.old out.new) result }
-    ensures fault { L.sort listed.old ≢ of_board → IfErr result (λ f. f ≡ Fault.Write) }
-    ensures same { L.graph listed.new ≡ L.graph listed.old }
-    ensures sort { L.sort listed.new ≡ L.sort listed.old }
-{
-    if let Some(runs) = listed.runs(x) {
-        return push_block_of_runs(runs, name, page, out);
-    }
-    push_listed_block(listed, x, links, name, page, out)
-}
-
-// The same of a vector's list that is kept.
-fn push_listed_block<'a, L: Listed<'a>, W: Sink>(
     listed: &mut L,
     x: &[u32],
     links: &mut Links,

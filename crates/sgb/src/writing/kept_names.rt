@@ -10,7 +10,6 @@ ghost use Rattle.sgb_file.specs.Devices.{change};
 ghost use Rattle.sgb_vec.specs.Limits.{most_dimensions};
 ghost use Rattle.sgb_vec.specs.Names.{name_of_vector};
 ghost use Rattle.sgb_moves.specs.MovedCoordinates.{parts_put};
-ghost use Rattle.sgb_gen.specs.Runs.{AreMoved};
 ghost use Rattle.sgb.specs.Texts.{name_line};
 ghost use Rattle.sgb.specs.inner.Pages.{IsPaged, page_bytes};
 ghost use Rattle.sgb.specs.inner.Texts.{entries_text, entry_text};
@@ -18,7 +17,7 @@ ghost use Rattle.sgb.specs.inner.Texts.{entries_text, entry_text};
 use super::numerals::Numerals;
 use super::pages::{Page, make_room};
 use sgb_file::Sink;
-use sgb_gen::Runs;
+use sgb_gen::Span;
 use sgb_requests::Fault;
 use sgb_vec::{Filled, Vector};
 use std::marker::Model;
@@ -185,19 +184,17 @@ impl KeptName {
         page.push_rest_of(&self.text, self.end_of(to));
     }
 
-    /// Appends the name of the vector that lies at length `l` from this one, by a displacement that moves these coordinates,
-    /// to a page. Only their entries are put in digits anew, and no vector is made. `runs` is a list of this vector's arcs.
-    pub(super) fn push_moved(&self, runs: &Runs, parts: &[(usize, i32)], l: u32, page: &mut Page)
-        requires named { self.now ≡ runs.now.x }
-        requires parts { AreMoved (length self.now) parts.now }
+    /// Appends the name of the vector where an arc of length `l` leads to a page. Only their entries are put in digits anew, and no vector is made. `span` has arcs of this vector.
+    pub(super) fn push_moved(&self, span: &Span, l: u32, page: &mut Page)
+        requires named { self.now ≡ span.now.x }
         requires room { length page.old + (11 * length self.now + 41) ≤ page_bytes }
-        ensures text { page.new ≡ page.old ++ name_of_vector (parts_put runs.now.sizes runs.now.wrap
-            self.now l parts.now self.now) }
+        ensures text { page.new ≡ page.old ++ name_of_vector (parts_put span.now.sizes span.now.wrap
+            self.now l span.now.parts self.now) }
         ensures short { length page.new ≤ length page.old + 11 * length self.now }
     {
         let mut place = 0;
-        for (k, amount) in parts {
-            self.push_through(place, *k, runs.entry_at(*k, *amount, l), page);
+        for (k, amount) in span.parts() {
+            self.push_through(place, *k, span.entry_at(*k, *amount, l), page);
             place = *k + 1;
         }
         page.push_rest_of(&self.text, self.end_of(place));

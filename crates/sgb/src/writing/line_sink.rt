@@ -1,5 +1,5 @@
 //! The lines of arcs that are handed out one by one, put on a page.
-ghost use Rattle.std.specs.Prelude.{◌≡◌, ◌≤◌, ◌+◌, ◌++◌, ℕ, List, [], false, length};
+ghost use Rattle.std.specs.Prelude.{◌≡◌, ◌≤◌, ◌+◌, ◌++◌, ℕ, List, [], false, length, IfErr};
 ghost use Rattle.std.specs.List.{flat_map};
 ghost use Rattle.std.specs.Io.KnownBytes.{Appends};
 ghost use Rattle.sgb_file.specs.Devices.{AppendsPrefix, change};
@@ -7,13 +7,16 @@ ghost use Rattle.sgb_vec.specs.Limits.{most_dimensions};
 ghost use Rattle.sgb_requests.specs.declared.faults.Fault.TheVariants as fault;
 ghost use Rattle.sgb.specs.inner.Locals.{local_line};
 ghost use Rattle.sgb.specs.Writing.{IsCutOff};
+ghost use Rattle.sgb.specs.inner.Pages.{IsPaged};
+ghost use Rattle.sgb_gen.specs.Spans.{arc_along, arcs_of_span};
 
 use super::arc_lines::{begin_arc, end_counted_arc};
 use super::kept_names::KeptName;
 use super::pages::{Page, make_room};
 use sgb_file::Sink;
-use sgb_gen::ArcSink;
+use sgb_gen::{ArcSink, Span};
 use sgb_requests::Fault;
+use sgb_vec::Vector;
 
 /// Takes the arcs of the vector of this name, and hands their lines to a page.
 #[derive(Drop)]
@@ -31,6 +34,8 @@ impl<'n, W: Sink> ArcSink<Page, W> for ArcLines<'n> {
     type Fault = Fault;
 
     ghost width = { λ s. length s.name.now };
+
+    ghost at = { λ s x. s.name.now ≡ x };
 
     ghost ready = { λ s page out. (W.has_failed out ≡ false)
         × (length s.name.now ≤ most_dimensions + 1) };
@@ -88,4 +93,59 @@ impl<'n, W: Sink> ArcSink<Page, W> for ArcLines<'n> {
         end_counted_arc(page, len);
         Ok(())
     }
+
+    #[inline(always)]
+    fn put_span(
+        &self,
+        span: &Span<'_>,
+        _there: &mut Vector,
+        page: &mut Page,
+        out: &mut W,
+    ) -> Result<(), Fault> {
+        push_span(span, self.name, page, out)
+    }
+}
+
+// Hands the lines of the arcs of a span to a page.
+fn push_span<W: Sink>(
+    span: &Span<'_>,
+    name: &KeptName,
+    page: &mut Page,
+    out: &mut W,
+) -> Result<(), Fault>
+    requires named { name.now ≡ span.now.x }
+    requires short { length name.now ≤ most_dimensions + 1 }
+    requires sound { W.has_failed out.old ≡ false }
+    ensures paged { IsPaged page.old (flat_map local_line (arcs_of_span span.now)) page.new
+        (change W.written W.has_failed out.old out.new) result }
+    ensures fault { IfErr result (λ f. f ≡ Fault.Write) }
+{
+    for k in 0..span.len() {
+        push_moved_line(span, span.length_at(k), name, page, out)?;
+    }
+    Ok(())
+}
+
+// Hands the line of the arc of length `l` of a span to a page: of the name only the coordinates that are moved are put anew.
+#[inline(always)]
+fn push_moved_line<W: Sink>(
+    span: &Span<'_>,
+    l: u32,
+    name: &KeptName,
+    page: &mut Page,
+    out: &mut W,
+) -> Result<(), Fault>
+    requires named { name.now ≡ span.now.x }
+    requires short { length name.now ≤ most_dimensions + 1 }
+    requires sound { W.has_failed out.old ≡ false }
+    ensures paged { IsPaged page.old (local_line (arc_along span.now.sizes span.now.wrap
+        span.now.x span.now.parts l)) page.new
+        (change W.written W.has_failed out.old out.new) result }
+    ensures fault { IfErr result (λ f. f ≡ Fault.Write) }
+{
+    make_room(page, out)?;
+    begin_arc(page);
+    name.push_moved(span, l, page);
+    end_counted_arc(page, l);
+    Ok(())
 }

@@ -12,7 +12,7 @@ ghost use Rattle.sgb_moves.specs.Moves.{sides_of};
 ghost use Rattle.sgb_moves.specs.inner.EntryBounds.{displacements_within, entry_bounds};
 
 use super::Board;
-use super::runs::{lead_onward, widest_of};
+use super::runs::{have_runs, lead_onward, widest_of};
 use super::strides::strides_of;
 use crate::arc_sinks::ArcSink;
 use crate::displacement_tables::DisplacementTable;
@@ -176,6 +176,7 @@ impl<'a> BoardLists<'a> {
         out: &mut S,
     ) -> Result<(), K::Fault>
         requires member { Contains (box self.now.sizes) x.now }
+        requires at { K.at sink.now x.now }
         requires width { K.width sink.now ≡ length x.now }
         requires ready { K.ready sink.now room.old out.old }
         ensures given { AreGiven (K.took sink.now) (K.cut sink.now) room.old out.old
@@ -185,7 +186,13 @@ impl<'a> BoardLists<'a> {
     {
         let board = self.board;
         match &self.table {
-            Some(table) => board.give_kept(x, table, self.in_order, starts, sink, room, out),
+            Some(table) => {
+                let near = board.is_inside(x, self.widest);
+                if have_runs(self.straight, self.leaping, near) {
+                    return board.give_runs(x, table, near, sink, room, out);
+                }
+                board.give_kept(x, table, self.in_order, starts, sink, room, out)
+            }
             None => board.give_walked(x, starts, sink, room, out),
         }
     }
@@ -202,6 +209,7 @@ impl<'a> BoardLists<'a> {
         out: &mut S,
     ) -> Result<Result<(), K::Fault>, Panic>
         requires member { Contains (box self.now.sizes) x.now }
+        requires at { K.at sink.now x.now }
         requires width { K.width sink.now ≡ length x.now }
         requires ready { K.ready sink.now room.old out.old }
         ensures given { IfOk result (AreGiven (K.took sink.now) (K.cut sink.now) room.old out.old

@@ -13,18 +13,17 @@ ghost use Rattle.sgb_gen.specs.Boards.{moves_of_board};
 ghost use Rattle.sgb_gen.specs.LocalLists.{list_at};
 ghost use Rattle.sgb_moves.specs.MovedCoordinates.{parts_of};
 ghost use Rattle.sgb_moves.specs.Moves.{opposite, sides_of};
-ghost use Rattle.sgb_gen.specs.Runs.{arc_along, arcs_along};
+ghost use Rattle.sgb_gen.specs.Spans.{arc_along, arcs_of_span};
+ghost use Rattle.sgb_gen.specs.inner.Spans.{arcs_along};
 ghost use Rattle.sgb_moves.specs.inner.EntryBounds.{displacements_within, entry_bounds};
 ghost use Rattle.sgb_gen.specs.inner.LocalBoards.{arcs_onward, moves_by};
-ghost use Rattle.sgb_moves.specs.inner.MovedCoordinates.{AgreeBut, moved_of};
 ghost use Rattle.sgb_gen.specs.inner.StraightLists.{IsInOrder, NeedsNoSort, arcs_back};
 
 use super::Board;
 use crate::arc_sinks::ArcSink;
 use crate::displacement_tables::DisplacementTable;
-use sgb_moves::{
-    Displacement, Parts, Starts, Step, put_opposite, put_parts, put_parts_of, put_vector,
-};
+use crate::spans::Span;
+use sgb_moves::{Displacement, Parts, Starts, Step, put_opposite, put_parts_of};
 use sgb_vec::{Family, Vector};
 
 impl Board {
@@ -45,6 +44,7 @@ impl Board {
         requires table { table.now ≡ displacements_within (nat_abs self.now.piece)
             (entry_bounds (nat_abs self.now.piece) (sides_of self.now.sizes self.now.wrap)) }
         requires sorted { OnTrue in_order (All (NeedsNoSort self.now) table.now) }
+        requires at { K.at sink.now x.now }
         requires width { K.width sink.now ≡ length x.now }
         requires ready { K.ready sink.now room.old out.old }
         ensures given { AreGiven (K.took sink.now) (K.cut sink.now) room.old out.old
@@ -76,6 +76,7 @@ impl Board {
         out: &mut S,
     ) -> Result<(), K::Fault>
         requires member { Contains (box self.now.sizes) x.now }
+        requires at { K.at sink.now x.now }
         requires width { K.width sink.now ≡ length x.now }
         requires ready { K.ready sink.now room.old out.old }
         ensures given { AreGiven (K.took sink.now) (K.cut sink.now) room.old out.old
@@ -119,6 +120,7 @@ impl Board {
         requires dimensions { length t.now ≡ length self.now.sizes }
         requires back { back.now ≡ opposite t.now }
         requires sorted { OnTrue in_order (NeedsNoSort self.now t.now) }
+        requires at { K.at sink.now x.now }
         requires width { K.width sink.now ≡ length x.now }
         requires ready { K.ready sink.now room.old out.old }
         ensures given { AreGiven (K.took sink.now) (K.cut sink.now) room.old out.old
@@ -169,6 +171,7 @@ impl Board {
         requires sorted { IsInOrder self.now t.now behind }
         requires behind { arcs_back self.now x.now back.now ≡ arcs_along self.now.sizes
             self.now.wrap x.now (parts_of back.now) behind }
+        requires at { K.at sink.now x.now }
         requires width { K.width sink.now ≡ length x.now }
         requires ready { K.ready sink.now room.old out.old }
         ensures given { AreGiven (K.took sink.now) (K.cut sink.now) room.old out.old
@@ -179,103 +182,45 @@ impl Board {
     {
         let near = self.lengths_near(x, t, behind);
         let ahead = self.lengths_by(x, t);
-        prove!(x.len() == self.family.dims());
-        put_vector(x, there);
-        self.give_lengths(x, back, near, behind, there, sink, room, out)?;
-        self.give_lengths_down(x, t, ahead, there, sink, room, out)?;
-        self.give_lengths(x, back, 0, near, there, sink, room, out)
+        let around = self.span_from(x, back, near, behind);
+        sink.put_span(&around, there, room, out)?;
+        let onward = self.span_down(x, t, ahead);
+        sink.put_span(&onward, there, room, out)?;
+        let before = self.span_from(x, back, 0, near);
+        sink.put_span(&before, there, room, out)
     }
 
-    // Hands out the arcs from `x` by `t` of the lengths above `from` up to `to`. Here and below `there` is `x` but for the
-    // coordinates that `t` moves.
-    fn give_lengths<K: ArcSink<R, S>, R, S>(
-        &self,
-        x: &[u32],
-        t: &Step,
+    // The arcs from `x` by `t` of the lengths above `from` up to `to`, the shortest first.
+    #[inline(always)]
+    pub(super) fn span_from<'b>(
+        &'b self,
+        x: &'b [u32],
+        t: &'b Step<'_>,
         from: u32,
         to: u32,
-        there: &mut Vector,
-        sink: &K,
-        room: &mut R,
-        out: &mut S,
-    ) -> Result<(), K::Fault>
+    ) -> Span<'b>
         requires below { IsBelow x.now self.now.sizes }
         requires dimensions { length t.now ≡ length self.now.sizes }
         requires lengths { from ≤ to }
-        requires there { AgreeBut (moved_of t.now) there.old.items x.now }
-        requires width { K.width sink.now ≡ length x.now }
-        requires ready { K.ready sink.now room.old out.old }
-        ensures given { AreGiven (K.took sink.now) (K.cut sink.now) room.old out.old
-            (map (arc_along self.now.sizes self.now.wrap x.now (parts_of t.now))
-            (range_with_len (from + 1) (to - from))) room.new out.new result }
-        ensures ready { OnOk result (K.ready sink.now room.new out.new) }
-        ensures there { AgreeBut (moved_of t.now) there.new.items x.now }
+        ensures vector { result.x ≡ x.now }
+        ensures arcs { arcs_of_span result ≡ map
+            (arc_along self.now.sizes self.now.wrap x.now (parts_of t.now))
+            (range_with_len (from + 1) (to - from)) }
     {
-        for shorter in from..to {
-            self.give_one(x, t, shorter + 1, there, sink, room, out)?;
-        }
-        Ok(())
+        prove!(self.sizes().len() == self.family.dims());
+        Span::rising(self.sizes(), self.wrap, x, t.parts(), from, to)
     }
 
-    // Hands out the arcs from `x` by `t` of the lengths from `to` down to 1.
-    fn give_lengths_down<K: ArcSink<R, S>, R, S>(
-        &self,
-        x: &[u32],
-        t: &Step,
-        to: u32,
-        there: &mut Vector,
-        sink: &K,
-        room: &mut R,
-        out: &mut S,
-    ) -> Result<(), K::Fault>
-        requires below { IsBelow x.now self.now.sizes }
-        requires dimensions { length t.now ≡ length self.now.sizes }
-        requires there { AgreeBut (moved_of t.now) there.old.items x.now }
-        requires width { K.width sink.now ≡ length x.now }
-        requires ready { K.ready sink.now room.old out.old }
-        ensures given { AreGiven (K.took sink.now) (K.cut sink.now) room.old out.old
-            (reverse (arcs_along self.now.sizes self.now.wrap x.now (parts_of t.now) to)) room.new
-            out.new result }
-        ensures ready { OnOk result (K.ready sink.now room.new out.new) }
-        ensures there { AgreeBut (moved_of t.now) there.new.items x.now }
-    {
-        for shorter in (0..to).rev() {
-            self.give_one(x, t, shorter + 1, there, sink, room, out)?;
-        }
-        Ok(())
-    }
-
-    // Hands out the arc from `x` by `t` of length `l`.
+    // Those of the lengths from `to` down to 1.
     #[inline(always)]
-    fn give_one<K: ArcSink<R, S>, R, S>(
-        &self,
-        x: &[u32],
-        t: &Step,
-        l: u32,
-        there: &mut Vector,
-        sink: &K,
-        room: &mut R,
-        out: &mut S,
-    ) -> Result<(), K::Fault>
+    pub(super) fn span_down<'b>(&'b self, x: &'b [u32], t: &'b Step<'_>, to: u32) -> Span<'b>
         requires below { IsBelow x.now self.now.sizes }
         requires dimensions { length t.now ≡ length self.now.sizes }
-        requires there { AgreeBut (moved_of t.now) there.old.items x.now }
-        requires width { K.width sink.now ≡ length x.now }
-        requires ready { K.ready sink.now room.old out.old }
-        ensures given { AreGiven (K.took sink.now) (K.cut sink.now) room.old out.old
-            (arc_along self.now.sizes self.now.wrap x.now (parts_of t.now) l ∷ []) room.new out.new
-            result }
-        ensures ready { OnOk result (K.ready sink.now room.new out.new) }
-        ensures there { AgreeBut (moved_of t.now) there.new.items x.now }
+        ensures vector { result.x ≡ x.now }
+        ensures arcs { arcs_of_span result ≡ reverse
+            (arcs_along self.now.sizes self.now.wrap x.now (parts_of t.now) to) }
     {
-        put_parts(
-            self.sizes(),
-            self.wrap,
-            x,
-            t.parts(),
-            l,
-            there.as_mut_slice(),
-        );
-        sink.put_arc(there.as_slice(), l, room, out)
+        prove!(self.sizes().len() == self.family.dims());
+        Span::falling(self.sizes(), self.wrap, x, t.parts(), to)
     }
 }

@@ -3,7 +3,7 @@
 //! Where no side is crossed that wraps around, a unit of length of a displacement leads so many places on among the vectors,
 //! from wherever it is made: its stride, a number in the mixed radix of the sizes. It is found once for each displacement.
 //! So the tips of a run of arcs are one sum apart. That holds on a board with no side that wraps around, and of a leaper
-//! from where no side is near. When `strides` has none no clause says, as with `runs`.
+//! from where no side is near. When `strides` has none no clause says.
 ghost use Rattle.std.specs.Prelude.{◌≡◌, ◌++◌, ◌+◌, ◌+ℤ◌, ◌*ℤ◌, ◌-◌, ◌*◌, ◌<◌, ◌≤◌, ◌&&◌, ◌||◌, ℕ, [], length, map, pos, slice_get, All, IfSome, Some};
 ghost use Rattle.std.specs.Bool.{OnTrue};
 ghost use Rattle.sgb_vec.specs.Boxes.{box, product_of};

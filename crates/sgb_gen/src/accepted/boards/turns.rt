@@ -10,7 +10,8 @@ ghost use Rattle.sgb_vec.specs.Boxes.{box};
 ghost use Rattle.sgb_vec.specs.Lexicographic.{IsBelow};
 ghost use Rattle.sgb_moves.specs.MovedCoordinates.{parts_of};
 ghost use Rattle.sgb_moves.specs.Moves.{opposite, sides_of};
-ghost use Rattle.sgb_gen.specs.Runs.{arc_along, arcs_along};
+ghost use Rattle.sgb_gen.specs.Spans.{arc_along};
+ghost use Rattle.sgb_gen.specs.inner.Spans.{arcs_along};
 ghost use Rattle.sgb_gen.specs.inner.LocalBoards.{arcs_onward, moves_by};
 ghost use Rattle.sgb_gen.specs.inner.StraightLists.{GoesAroundOnce, IsInOrder, arcs_back, arcs_from};
 

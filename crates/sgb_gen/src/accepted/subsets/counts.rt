@@ -103,6 +103,8 @@ impl ArcSink<u64, ()> for ArcCounter {
 
     ghost width = { λ s. s.width };
 
+    ghost at = { λ _ _. ⊤ };
+
     ghost ready = { λ _ _ _. ⊤ };
 
     ghost took = { λ _ old _ arcs new _. old < 2 ^ 64 → new ≡ (old + length arcs) % 2 ^ 64 };
