@@ -1,7 +1,6 @@
 -- Lines of the arcs of a span.
-use Rattle.std.proofs.Common.{◌≡◌, ◌+◌, ◌≤◌, ◌∙◌, ℕ, List, [], ◌++◌, drop, length, Some, ap}
+use Rattle.std.proofs.Common.{◌≡◌, ◌+◌, ◌≤◌, ◌∙◌, ℕ, [], ◌++◌, drop, length, Some, ap}
 use Rattle.std.specs.List.{flat_map, slice_get}
-use Rattle.std.proofs.lemmas.Grind.{flat_map-append}
 use Rattle.sgb_gen.proofs.SpanArcs.{next-apart, none-left}
 use Rattle.sgb_gen.specs.Spans.{SpanData, arc_along, arcs_of_span}
 use Rattle.sgb.specs.inner.Locals.{local_line}

@@ -1,9 +1,9 @@
 -- The arcs of a board's vector that are handed out one by one.
-use Rattle.std.proofs.Common.{◌≡◌, ℕ, suc, ◌+◌, ◌-◌, ◌<◌, ◌≤◌, ℤ, pos, nat_abs, false, cond, List, [], ◌∷◌, ◌++◌, length, map, reverse, take, get_or, Some, sym, ap, subst, ◌∙◌, arith}
+use Rattle.std.proofs.Common.{◌≡◌, ℕ, ◌+◌, ◌-◌, ◌<◌, ◌≤◌, ℤ, pos, nat_abs, false, cond, List, [], ◌∷◌, ◌++◌, length, map, reverse, take, get_or, Some, sym, ap, subst, ◌∙◌, arith}
 use Rattle.std.specs.List.{All, range_with_len, slice_get}
-use Rattle.std.proofs.lemmas.List.{reverse-append, take_more}
+use Rattle.std.proofs.lemmas.List.{take_more}
 use Rattle.std.proofs.lemmas.List.Elements.{All-append, All-cons, All-nil}
-use Rattle.std.proofs.lemmas.List.FromFn.{length-map-range_with_len, map-range_with_len_more}
+use Rattle.std.proofs.lemmas.List.FromFn.{length-map-range_with_len}
 use Rattle.std.proofs.lemmas.Nat.{mul-le}
 use Rattle.std.proofs.lemmas.Option.{get_or_from_slice_get, slice_get_within}
 use Rattle.sgb_vec.specs.Boxes.{box}
@@ -18,16 +18,7 @@ use Rattle.sgb_gen.specs.inner.LocalBoards.{arcs_onward, moves_by}
 use Rattle.sgb_gen.specs.inner.StraightLists.{GoesAroundOnce, IsInOrder, NeedsNoSort, arcs_back, arcs_by_all, arcs_from}
 use Rattle.sgb_gen.proofs.RunsOfLists.{last_first}
 
--- ---- by lengths, the next one apart
-
-pub lengths-first : (f : ℕ → LocalArc) (s to : ℕ) → s < to → map f (range_with_len (s + 1) (to - s)) ≡ (f (s + 1) ∷ []) ++ map f (range_with_len (s + 1 + 1) (to - (s + 1)))
-lengths-first f s to less = ap (λ n. map f (range_with_len (s + 1) n)) {x = to - s} {y = suc (to - (s + 1))} (omega (arith, less))
-
-pub lengths-last : (f : ℕ → LocalArc) (n : ℕ) → 0 < n → reverse (map f (range_with_len 1 n)) ≡ (f (n - 1 + 1) ∷ []) ++ reverse (map f (range_with_len 1 (n - 1)))
-lengths-last f n some =
-    ap (λ i. reverse (map f (range_with_len 1 i))) {x = n} {y = n - 1 + 1} (omega (arith, some))
-    ∙ ap reverse (map-range_with_len_more f 1 (n - 1) (n - 1 + 1) (omega arith))
-    ∙ reverse-append (map f (range_with_len 1 (n - 1))) (f (n - 1 + 1) ∷ [])
+-- ---- by lengths
 
 -- none are left
 pub lengths-none : (f : ℕ → LocalArc) (from n : ℕ) → n ≡ 0 → map f (range_with_len from n) ≡ []

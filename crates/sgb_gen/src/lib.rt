@@ -41,8 +41,8 @@ mod vector_places;
 mod visits;
 
 pub use accepted::{
-    Board, BoardLists, FlatLists, OrderedBoard, Simplex, Stride, StridedBoard, Strides,
-    Subsets, common,
+    Board, BoardLists, FlatLists, OrderedBoard, Simplex, Stride, StridedBoard, Strides, Subsets,
+    common,
 };
 pub use arc_sinks::ArcSink;
 pub use counted_places::CountedPlaces;
@@ -56,7 +56,7 @@ pub use listed::Listed;
 pub use local_lists::LocalLists;
 pub use locals::{Local, local_of};
 pub use params::{BoardParams, Generator, SimplexParams, SubsetsParams};
-pub use spans::Span;
 pub use shorthands::{circuit, complete, cycle, disjoint_subsets, empty, petersen, transitive};
+pub use spans::Span;
 pub use vector_places::VectorPlaces;
 pub use visits::{Visit, Visitor};

@@ -35,7 +35,6 @@ use crate::vector_graphs::{put_coordinates, vector_names};
 pub use board_lists::BoardLists;
 pub use flat_boards::FlatLists;
 pub use ordered_boards::OrderedBoard;
-pub use runs::Run;
 use sgb_graph::{Graph, Id, IdWriter, Names};
 use sgb_moves::{Displacements, Parts, Step, entry_bounds, put_parts_of};
 use sgb_vec::{BoxFamily, Family, Panic, Shape, Vector, Vectors, board_sizes};

@@ -3,7 +3,7 @@
 //!
 //! Where the arcs by a displacement come in order with no sort they are handed out as they are found; else their starts are
 //! sorted, as many as there is room for (`give_sorted`). No memory is wanted.
-ghost use Rattle.std.specs.Prelude.{◌≡◌, ◌+◌, ◌-◌, ◌≤◌, [], ◌∷◌, false, length, map, nat_abs, reverse, All, Contains, OnOk};
+ghost use Rattle.std.specs.Prelude.{◌≡◌, ◌+◌, ◌-◌, ◌≤◌, false, length, map, nat_abs, reverse, All, Contains, OnOk};
 ghost use Rattle.std.specs.Bool.{OnFalse, OnTrue};
 ghost use Rattle.std.specs.List.{range_with_len};
 ghost use Rattle.sgb_vec.specs.Boxes.{box};

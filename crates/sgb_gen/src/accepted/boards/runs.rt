@@ -23,8 +23,8 @@ ghost use Rattle.sgb_gen.specs.inner.LocalBoards.{arcs_onward, moves_by};
 ghost use Rattle.sgb_gen.specs.inner.StraightLists.{AreOnward, IsLeaper, IsRun, arcs_back, arcs_from};
 
 use super::Board;
-use crate::displacement_tables::{DisplacementTable, KeptPair};
 use crate::arc_sinks::ArcSink;
+use crate::displacement_tables::{DisplacementTable, KeptPair};
 use sgb_moves::{Step, is_inside, leads_onward, reach_from};
 use sgb_vec::Vector;
 
@@ -32,15 +32,15 @@ use sgb_vec::Vector;
 /// those back, of the lengths from 1 up to `farthest_back`. Each coordinate that is moved stands with how far it goes for
 /// each unit of length.
 #[derive(Drop)]
-pub struct Run<'b> {
+pub(super) struct Run<'b> {
     /// The coordinates that are moved ahead.
-    pub ahead: &'b [(usize, i32)],
+    pub(super) ahead: &'b [(usize, i32)],
     /// The greatest length of an arc ahead.
-    pub farthest: u32,
+    pub(super) farthest: u32,
     /// Those of `ahead`, moved back.
-    pub back: &'b [(usize, i32)],
+    pub(super) back: &'b [(usize, i32)],
     /// The greatest length of an arc back, or 0.
-    pub farthest_back: u32,
+    pub(super) farthest_back: u32,
 }
 
 impl Board {

@@ -1,7 +1,4 @@
-use Rattle.std.proofs.Common.{◌∙◌, ap, refl, sym}
-use Rattle.std.specs.List.{flat_map}
-use Rattle.sgb.specs.inner.Locals.{local_block, local_line}
-use Rattle.sgb_gen.specs.LocalLists.{list_in}
+use Rattle.std.proofs.Common.{◌∙◌, refl}
 use Rattle.sgb.proofs.CutOff.{exit_write}
 use Rattle.sgb.proofs.LocalListings.{parts-named}
 use Rattle.sgb.proofs.Pages.{exit_begun_by, exit_part, first_ok, lines_fault, lines_given, paged_none}

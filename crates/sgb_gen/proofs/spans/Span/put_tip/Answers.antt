@@ -1,4 +1,4 @@
-use Rattle.std.proofs.Common.{◌≡◌, ◌<◌, ◌∙◌, All, length, map, sym, ap, subst, rules}
+use Rattle.std.proofs.Common.{◌≡◌, ◌<◌, ◌∙◌, All, length, sym, ap, subst, rules}
 use Rattle.sgb_vec.proofs.BoxPlaces.{IsBelow-length}
 use Rattle.sgb_moves.specs.MovedCoordinates.{parts_of}
 use Rattle.sgb_moves.proofs.DisplacementWalk.{refill-all}
