@@ -140,8 +140,6 @@ pub mod BoardCountsBoards
 pub mod BoardCountsSides
 -- the moves of all lengths together, by a displacement that at most one side stops
 pub mod BoardCountsTotals
--- a row that is written from its first number on
-pub mod NormSums
 -- when a step around a side is back
 pub mod TimesAround
 pub mod WalkedArcs
