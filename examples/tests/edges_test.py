@@ -1,11 +1,12 @@
 #!/usr/bin/env python3
 """Tries that lines of edges are the graph: examples/tests/edges_test.py [PROGRAM]
 
-2,000 random graphs, whose names look like comments, numbers, lengths and heads of tables, go by convert.awk in an awk that is
-there, a tenth of them in each other one, and all by sgb.convert where the library is, into lines of edges, and by to_gb.py back:
-they have to be what they were. Some go by the commands themselves."""
+2,000 random graphs, whose names look like comments, numbers, lengths and heads of tables, go by convert.awk in each awk that
+is there, and by sgb.convert where the library is, into lines of edges, and by to_gb.py back: they have to be what they were.
+Some go by the commands themselves. At most four awks run side by side."""
 
 import collections
+import concurrent.futures
 import os
 import random
 import subprocess
@@ -79,9 +80,11 @@ def by_awk(graphs, awk):
                 file.write(graph.listing())
             commands.append(f"{' '.join(awk)} -v to=edges -v directed={int(graph.directed)} -f '{SCRIPT}' < {number} > {number}.tsv\n")
         subprocess.run(["sh", "-e"], input="".join(commands).encode(), cwd=folder, check=True)
+        texts = []
         for number in range(len(graphs)):
             with open(os.path.join(folder, f"{number}.tsv"), encoding="ascii", newline="") as file:
-                yield file.read()
+                texts.append(file.read())
+        return texts
 
 
 def by_package(graphs):
@@ -115,14 +118,14 @@ def main():
     seed = int(os.environ.get("EDGES_SEED", random.randrange(10**6)))
     rng = random.Random(seed)
     graphs = [random_graph(rng) for _ in range(2000)]
-    # a process for each: all graphs by the first awk, a tenth by each other one
-    ways = [(" ".join(awk), by_awk(graphs if awk == awks()[0] else graphs[::10], awk)) for awk in awks()]
-    ways += [("sgb.convert", by_package(graphs))]
-    ways.append(("the commands", map(by_commands, graphs[:20])))
+    with concurrent.futures.ThreadPoolExecutor(4) as pool:
+        # an awk has a process for each graph, one after another
+        ways = [*zip(map(" ".join, awks()), pool.map(lambda awk: by_awk(graphs, awk), awks()))]
+    ways += [("sgb.convert", by_package(graphs)), ("the commands", map(by_commands, graphs[:20]))]
     passed = failed = 0
     for way, texts in ways:
-        count, step = 0, 10 if way in map(" ".join, awks()[1:]) else 1
-        for graph, text in zip(graphs[::step], texts):
+        count = 0
+        for graph, text in zip(graphs, texts):
             try:
                 seen = read_back(text, graph.directed).known()
             except to_gb.Wrong as why:
