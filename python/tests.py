@@ -10,7 +10,7 @@ import unittest
 # the first of them takes the name of the program
 from cases import PROGRAM  # noqa: F401
 from arrays_tests import Arrays, Runs  # noqa: F401
-from convert_tests import Converted  # noqa: F401
+from convert_tests import Converted, OfNauty  # noqa: F401
 from handles_tests import Handles, Python  # noqa: F401
 from operations_tests import Operations  # noqa: F401
 from others_tests import Others  # noqa: F401

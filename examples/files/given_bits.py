@@ -3,17 +3,33 @@
 from given import Given, Wrong
 
 
-def six_bits(text, form, mark, words):
-    """Of a line: how many vertices it says, the bits of what comes after that, and the number of the line."""
+def lines_of(text, form):
+    """The lines of graphs, with their numbers."""
     lines = [(at, line.removeprefix(f">>{form}<<")) for at, line in enumerate(text.split("\n"), 1)]
     lines = [(at, line) for at, line in lines if line]
     if not lines:
         raise Wrong(f"there is no {form}")
+    return lines
+
+
+def one_of(text, words):
+    """The line of the graph that is asked for."""
+    lines = lines_of(text, words.form)
     if words.graph is None and len(lines) > 1:
-        raise Wrong(f"there are {len(lines)} graphs: --graph K picks one, from 1", lines[1][0])
+        raise Wrong(f"there are {len(lines)} graphs: --graph K picks one, from 1, --all DIR has a file of each", lines[1][0])
     if words.graph is not None and not 0 < words.graph <= len(lines):
         raise Wrong(f"there are {len(lines)} graphs, and --graph asks for number {words.graph}")
-    at, line = lines[(words.graph or 1) - 1]
+    return lines[(words.graph or 1) - 1]
+
+
+def all_of(text, words):
+    """The graphs of all lines, one after another."""
+    for at, line in lines_of(text, words.form):
+        yield READERS[words.form](at, line, words.directed)
+
+
+def six_bits(at, line, form, mark):
+    """Of a line: how many vertices it says, and the bits of what comes after that."""
     found = [ord(letter) - 63 for letter in line.removeprefix(mark)]
     if not line.startswith(mark) or (not mark and line[0] in ":&") or not found or not all(0 <= bits < 64 for bits in found):
         raise Wrong(f"the line is no {form}", at)
@@ -22,7 +38,7 @@ def six_bits(text, form, mark, words):
     n = 0
     for bits in size:
         n = 64 * n + bits
-    return n, "".join(f"{bits:06b}" for bits in found[long + len(size) :]), at
+    return n, "".join(f"{bits:06b}" for bits in found[long + len(size) :])
 
 
 def in_order(n, bits, form, at, pairs, count):
@@ -32,29 +48,29 @@ def in_order(n, bits, form, at, pairs, count):
     return [pair for pair, bit in zip(pairs, bits) if bit == "1"]
 
 
-def graph6(text, words):
-    n, bits, at = six_bits(text, "graph6", "", words)
-    given = Given(n, words.directed)
+def graph6(at, line, directed):
+    n, bits = six_bits(at, line, "graph6", "")
+    given = Given(n, directed)
     for pair in in_order(n, bits, "graph6", at, ((u, v) for v in range(n) for u in range(v)), n * (n - 1) // 2):
         given.add(*pair)
     return given
 
 
-def digraph6(text, words):
-    n, bits, at = six_bits(text, "digraph6", "&", words)
+def digraph6(at, line, directed):
+    n, bits = six_bits(at, line, "digraph6", "&")
     given = Given(n, True)
     for pair in in_order(n, bits, "digraph6", at, ((u, v) for u in range(n) for v in range(n)), n * n):
         given.add(*pair)
     return given
 
 
-def sparse6(text, words):
-    n, bits, _ = six_bits(text, "sparse6", ":", words)
-    wide = max(1, (n - 1).bit_length())
-    given, v, at = Given(n, words.directed), 0, 0
+def sparse6(at, line, directed):
+    n, bits = six_bits(at, line, "sparse6", ":")
+    wide = (n - 1).bit_length()  # one vertex has none, as nauty reads it
+    given, v, at = Given(n, directed), 0, 0
     while at + 1 + wide <= len(bits):
         v += bits[at] == "1"
-        u = int(bits[at + 1 : at + 1 + wide], 2)
+        u = int(bits[at + 1 : at + 1 + wide] or "0", 2)
         at += 1 + wide
         if u >= n or v >= n:
             break
@@ -63,3 +79,11 @@ def sparse6(text, words):
         else:
             given.add(u, v)
     return given
+
+
+READERS = {"graph6": graph6, "sparse6": sparse6, "digraph6": digraph6}
+
+
+def of_nauty(text, words):
+    """The graph of a line, the one that is there or that --graph picks."""
+    return READERS[words.form](*one_of(text, words), words.directed)

@@ -7,7 +7,7 @@ from given import Given, Wrong, number
 
 
 def graphml(text, words):
-    if len(re.findall(r"<graph[\s>]", text)) > 1:
+    if len(re.findall(r"<graph[\s/>]", text)) > 1:
         raise Wrong("there is more than one graph, or one inside another")
     return by_networkx(lambda networkx: networkx.read_graphml(io.BytesIO(text.encode())), text, words)
 

@@ -4,6 +4,7 @@
     examples/files/to_gb.py edges < graph.txt | sgb list stdin
     examples/files/to_gb.py dimacs graph.col | sgb list "lines(stdin,0)"
     examples/files/to_gb.py graph6 --graph 3 six.g6 > third.gb
+    geng -q 6 | examples/files/to_gb.py graph6 --all six
 
 The forms:
 
@@ -16,7 +17,8 @@ The forms:
     dimacs      "p edge N M" and lines "e 1 2", which are edges, or "p sp N M" and lines "a 1 2 7", which are arcs.
     metis       Edges, with their weights or without; vertices have no weights.
     mtx         Matrix Market, coordinates: symmetric entries are edges, general ones arcs from row to column.
-    graph6, sparse6, digraph6   Of nauty. --graph K picks one where a file has several.
+    graph6, sparse6, digraph6   Of nauty. Where a file has several, a line each, --graph K picks one, and --all DIR
+                writes all into the folder DIR, as 1.gb, 2.gb, ..: none if a line is wrong or the folder is not empty.
     graphml, gml   By networkx, where that is installed. The names are the attribute `name` or `label` where all have
                 it, else the ids; lengths are the attribute `weight`.
 
@@ -50,13 +52,13 @@ from given import Wrong  # noqa: E402
 
 FORMS = {
     "edges": given_edges.edges, "dimacs": given_numbers.dimacs, "metis": given_numbers.metis, "mtx": given_numbers.matrix,
-    "graph6": given_bits.graph6, "sparse6": given_bits.sparse6, "digraph6": given_bits.digraph6,
+    "graph6": given_bits.of_nauty, "sparse6": given_bits.of_nauty, "digraph6": given_bits.of_nauty,
     "graphml": given_others.graphml, "gml": given_others.gml,
 }
 # options that some forms have
 OF_FORMS = {
     "sep": ["edges"], "header": ["edges"], "comments": ["edges"], "columns": ["edges"],
-    "graph": ["graph6", "sparse6", "digraph6"], "names": ["edges", "graphml", "gml"],
+    "graph": [*given_bits.READERS], "all": [*given_bits.READERS], "names": ["edges", "graphml", "gml"],
 }
 SAFE = "".join(sorted(set(string.printable[:95]) - set('%"\\')))
 
@@ -106,6 +108,7 @@ def options():
     reader.add_argument("--id", metavar="TEXT", help="the official name")
     reader.add_argument("--names", choices=["escape", "numbers"], help="what is done with names that are not of ASCII")
     reader.add_argument("--graph", type=int, metavar="K", help="which graph of a file of several, from 1")
+    reader.add_argument("--all", metavar="DIR", help="the folder for the files of all graphs of a file of several")
     reader.add_argument("--sep", choices=given_edges.SEPARATORS, help="what stands between the words of a line")
     reader.add_argument("--header", action=argparse.BooleanOptionalAction, help="whether the first line is a head")
     reader.add_argument("--comments", metavar="SIGNS", help="what begins a comment")
@@ -114,7 +117,21 @@ def options():
     for option, forms in OF_FORMS.items():
         if getattr(words, option) is not None and words.form not in forms:
             reader.error(f"--{option} is for {', '.join(forms)}")
+    if words.all is not None and (words.graph is not None or words.id is not None):
+        reader.error("--all is for all graphs, --graph and --id are for one")
     return words
+
+
+def write_all(text, words):
+    """Writes the files of all graphs, if all are right."""
+    for given in given_bits.all_of(text, words):
+        _files.Arcs(given.n)  # whether a graph may have so many vertices
+    os.makedirs(words.all, exist_ok=True)
+    if os.listdir(words.all):
+        raise Wrong(f"the folder {words.all} is not empty")
+    for number, given in enumerate(given_bits.all_of(text, words), 1):
+        with open(os.path.join(words.all, f"{number}.gb"), "wb") as file:
+            file.write(file_of(given, names_of(given, None), None))
 
 
 def main():
@@ -126,7 +143,11 @@ def main():
                 data = file.read()
         else:
             data = sys.stdin.buffer.read()
-        given = FORMS[words.form](text_of(data), words)
+        text = text_of(data)
+        if words.all is not None:
+            write_all(text, words)
+            return
+        given = FORMS[words.form](text, words)
         made = file_of(given, names_of(given, words.names), words.id)
     except (Wrong, ValueError, OSError) as why:
         sys.exit(f"to_gb.py: {why}")

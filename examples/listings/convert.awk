@@ -19,6 +19,8 @@
 #   to=mtx      Matrix Market: the entries of the adjacency matrix. It has no parallel edges.
 #   to=graphml  GraphML; the length of an edge is its weight.
 #   to=graph6   graph6 of nauty. It has no arcs, loops or parallel edges, and no names and lengths: these are left out.
+#   to=sparse6  sparse6 of nauty, with loops and parallel edges. It has no arcs, and no names and lengths, as graph6.
+#   to=digraph6 digraph6 of nauty, for arcs (directed=1). It has no parallel ones, and no names and lengths, as graph6.
 #
 # Vertices without a name in the format have the number of their place, from 1, in GraphML from 0; comments or labels tell
 # their names. Lengths are not written where all are 1, unless lengths=1 asks for them. The title that `sgb queen`
@@ -45,16 +47,18 @@
 # arcs. The package sgb for Python, where it is, writes the same texts of arrays (sgb.convert).
 
 BEGIN {
-    if (to !~ /^(dot|edges|dimacs|metis|mtx|graphml|graph6)$/)
-        fail("say what to write: -v to=dot, edges, dimacs, metis, mtx, graphml or graph6")
+    if (to !~ /^(dot|edges|dimacs|metis|mtx|graphml|graph6|sparse6|digraph6)$/)
+        fail("say what to write: -v to=dot, edges, dimacs, metis, mtx, graphml, graph6, sparse6 or digraph6")
     else if (resumed && to != "dot" && to != "edges")
         fail("a resumed listing has not all vertices, and to=" to " needs them")
     else if (numbers && to != "edges")
         fail("numbers=1 is for to=edges")
     else if (numbers && resumed)
         fail("a resumed listing has not all vertices, and numbers=1 needs them")
-    else if (directed && (to == "metis" || to == "graph6"))
+    else if (directed && to ~ /^(metis|graph6|sparse6)$/)
         fail("to=" to " has no arcs")
+    else if (!directed && to == "digraph6")
+        fail("to=digraph6 has arcs alone: say -v directed=1 where arcs are meant")
     has_both = to ~ /^(dimacs|metis|graph6)$/
     # Records end at ">" and not at the end of a line: so a last line that has no end is seen.
     RS = ">"
@@ -87,6 +91,8 @@ END {
     if (to == "mtx") write_mtx()
     if (to == "graphml") write_graphml()
     if (to == "graph6") write_graph6()
+    if (to == "sparse6") write_sparse6()
+    if (to == "digraph6") write_digraph6()
 }
 
 function fail(text) {
@@ -227,7 +233,7 @@ function check() {
         fail("the head has " head_arcs " arcs, the listing " arcs + 0 ": it is cut off, or a file's (-v file=1)")
     else
         check_arcs()
-    if (!failed && (to == "metis" || to == "mtx" || to == "graph6"))
+    if (!failed && to ~ /^(metis|mtx|graph6|digraph6)$/)
         check_form()
 }
 
@@ -263,7 +269,7 @@ function check_form(    i, k, count, arc, tip, met) {
             tip = tip_of(arc[k])
             if (to == "metis" && len_of(arc[k]) < 1)
                 return fail("to=metis has no lengths below 1, and there is one at " names[i])
-            if (tip == names[i] && to != "mtx")
+            if (tip == names[i] && to ~ /^(metis|graph6)$/)
                 return fail("to=" to " has no loops, and there is one at " names[i])
             if (met[tip]++)
                 return fail("to=" to " has no parallel edges, and there are some from " names[i] " to " tip)
@@ -412,28 +418,93 @@ function escaped(text) {
 }
 
 # The number of vertices, then a bit for each pair, those of (1, 2), (1, 3), (2, 3), (1, 4), ..; six bits a byte.
-function write_graph6(    i, j, k, count, arc, is_tip, bits, value) {
+function write_graph6(    j) {
+    write_size()
+    for (j = 2; j <= vertices; j++)
+        write_row(j, j - 1)
+    end_bits(0)
+}
+
+# The same, with a bit for each pair, row by row.
+function write_digraph6(    i) {
+    printf "&"
+    write_size()
+    for (i = 1; i <= vertices; i++)
+        write_row(i, vertices)
+    end_bits(0)
+}
+
+# The number of vertices, then the edges by their greater ends: a bit, whether to go on to the next vertex, and a vertex:
+# a greater one is gone to, and any other is the smaller end of an edge. Vertices are counted from 0.
+function write_sparse6(    i, j, k, count, arc, ends, wide, now) {
+    printf ":"
+    write_size()
+    # not every awk has powers
+    powers[0] = 1
+    for (k = 0; k < 40; k++)
+        powers[k + 1] = 2 * powers[k]
+    for (wide = 0; powers[wide] < vertices;)
+        wide++
+    for (i = 1; i <= vertices; i++) {
+        count = split(lists[i], arc, "\n")
+        for (k = 1; k < count; k++) {
+            j = place[tip_of(arc[k])]
+            ends[j] = ends[j] i - 1 " "
+        }
+    }
+    for (j = now = 0; j < vertices; j++) {
+        count = split(ends[j + 1], arc, " ")
+        if (count && j > now + 1) {
+            write_item(1, j, wide)
+            now = j
+        }
+        for (k = 1; k <= count; k++) {
+            write_item(j > now, arc[k], wide)
+            now = j
+        }
+    }
+    # ones fill the last byte; after a zero where they would be a loop of the last vertex
+    if (bits && 6 - bits > wide && vertices == powers[wide] && now == vertices - 2)
+        write_bit(0)
+    end_bits(1)
+}
+
+# The bits that are no byte yet are `bits` in number, and are those of `waits`.
+function write_item(bit, value, width) {
+    waits = (2 * waits + bit) * powers[width] + value
+    for (bits += 1 + width; bits >= 6; bits -= 6) {
+        write_bits(int(waits / powers[bits - 6]), 1)
+        waits %= powers[bits - 6]
+    }
+}
+
+function write_bit(bit) {
+    waits = 2 * waits + bit
+    if (++bits == 6) {
+        write_bits(waits, 1)
+        bits = waits = 0
+    }
+}
+
+# A bit for each of the first `last` vertices: whether it is a tip of the list of i.
+function write_row(i, last,    j, k, count, arc, is_in) {
+    count = split(lists[i], arc, "\n")
+    for (k = 1; k < count; k++)
+        is_in[place[tip_of(arc[k])]] = 1
+    for (j = 1; j <= last; j++)
+        write_bit(j in is_in)
+}
+
+function end_bits(bit) {
+    while (bits)
+        write_bit(bit)
+    print ""
+}
+
+function write_size() {
     if (vertices > 62)
         printf "%s", (vertices > 258047 ? "~~" : "~")
     write_bits(vertices + 0, vertices > 258047 ? 6 : vertices > 62 ? 3 : 1)
-    for (j = 2; j <= vertices; j++) {
-        split("", is_tip)
-        count = split(lists[j], arc, "\n")
-        for (k = 1; k < count; k++)
-            is_tip[place[tip_of(arc[k])]] = 1
-        for (i = 1; i < j; i++) {
-            value = 2 * value + (i in is_tip)
-            if (++bits == 6) {
-                write_bits(value, 1)
-                bits = value = 0
-            }
-        }
-    }
-    for (i = bits; i % 6; i++)
-        value *= 2
-    if (bits)
-        write_bits(value, 1)
-    print ""
 }
 
 function write_bits(value, bytes) {

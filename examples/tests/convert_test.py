@@ -23,7 +23,8 @@ sys.path.insert(0, SCRIPTS)
 sys.dont_write_bytecode = True
 import sgb_graph
 
-FORMS = ["dot", "edges", "dimacs", "metis", "mtx", "graphml", "graph6"]
+OF_NAUTY = ["graph6", "sparse6", "digraph6"]
+FORMS = ["dot", "edges", "dimacs", "metis", "mtx", "graphml", *OF_NAUTY]
 # and edges of numbers
 READ_FORMS = [*FORMS, "numbers"]
 # the stored ones: edges of length 1, edges with lengths and a vertex that is alone, arcs and names that XML has to escape
@@ -65,6 +66,8 @@ READ = [(expression, directed, FILE) for _, expression, directed in STORED] + [
     ("induced(stdin,[1,1,0],0,0,0)", False),
     ("gunion(complete(5),circuit(5),1,0)", False), ("product(complete(3),circuit(4),0,0)", False),
     ("board(4,4,0,0,-1,0,1)", True), ("lines(complete(4),0)", False),
+    # the last byte of sparse6 is filled in its other way
+    ("gunion(empty(4),complete(3),0,0)", False),
 ]]
 
 # What a form says: how many vertices, their names in order or None, and the edges or arcs by places from 0.
@@ -88,9 +91,11 @@ def converted(program, expression, directed, form, given=FILE, awk=("awk",)):
 def fits(graph, form, directed):
     """Whether the form has such a graph."""
     pairs = collections.Counter(edge[:2] if directed else tuple(sorted(edge[:2])) for edge in graph.edges)
-    if form in ("metis", "mtx", "graph6") and any(count > 1 for count in pairs.values()):
+    if form in ("metis", "mtx", "graph6", "digraph6") and any(count > 1 for count in pairs.values()):
         return False
-    if form in ("metis", "graph6") and (directed or any(u == v for u, v in pairs)):
+    if form in ("metis", "graph6") and any(u == v for u, v in pairs):
+        return False
+    if directed and form in ("metis", "graph6", "sparse6") or not directed and form == "digraph6":
         return False
     return form != "metis" or all(length > 0 for _, _, length in graph.edges)
 
@@ -192,20 +197,48 @@ def read_graphml(text, graph, directed):
     return Form(len(nodes), [node.findtext(space + "data") for node in nodes], edges)
 
 
-def read_graph6(text, graph, directed):
-    values = [ord(byte) - 63 for byte in text.rstrip("\n")]
+def six_bits(text, mark):
+    """How many vertices a form of nauty says that there are, and its bits."""
+    assert text.startswith(mark) and text.count("\n") == 1 and text[-1] == "\n", text
+    values = [ord(byte) - 63 for byte in text[len(mark):-1]]
     start, bytes_ = (2, 6) if values[:2] == [63, 63] else (1, 3) if values[0] == 63 else (0, 1)
     n = int("".join(f"{value:06b}" for value in values[start:start + bytes_]), 2)
-    bits = "".join(f"{value:06b}" for value in values[start + bytes_:])
-    assert n == graph.n, (n, graph.n)
-    pairs = [(u, v) for v in range(n) for u in range(v)]
+    return n, "".join(f"{value:06b}" for value in values[start + bytes_:])
+
+
+def read_pairs(text, mark, pairs_of):
+    n, bits = six_bits(text, mark)
+    pairs = pairs_of(n)
     assert 0 <= len(bits) - len(pairs) < 6 and "1" not in bits[len(pairs):], text
     return Form(n, None, [(u, v, 1) for (u, v), bit in zip(pairs, bits) if bit == "1"])
 
 
+def read_graph6(text, graph, directed):
+    return read_pairs(text, "", lambda n: [(u, v) for v in range(n) for u in range(v)])
+
+
+def read_digraph6(text, graph, directed):
+    return read_pairs(text, "&", lambda n: [(u, v) for u in range(n) for v in range(n)])
+
+
+def read_sparse6(text, graph, directed):
+    n, bits = six_bits(text, ":")
+    wide, v, edges = (n - 1).bit_length(), 0, []
+    for at in range(0, len(bits) - wide, 1 + wide):
+        v += bits[at] == "1"
+        other = int(bits[at + 1:at + 1 + wide] or "0", 2)
+        if v >= n:
+            break
+        if other > v:
+            v = other
+        else:
+            edges.append((other, v, 1))
+    return Form(n, None, edges)
+
+
 def is_same(form, seen, graph, directed):
     def sorted_(edges):
-        lengths = form != "graph6"
+        lengths = form not in OF_NAUTY
         return sorted((*(edge[:2] if directed else sorted(edge[:2])), edge[2] if lengths else 1) for edge in edges)
 
     return (seen.n, seen.names or graph.names, sorted_(seen.edges)) == (graph.n, graph.names, sorted_(graph.edges))
@@ -280,7 +313,11 @@ def networkx_readers(networkx):
     def graph6(path, graph, directed):
         return of(networkx.read_graph6(path), graph, directed)
 
-    return {"edges": edges, "numbers": numbers, "graphml": graphml, "graph6": graph6}
+    def sparse6(path, graph, directed):
+        # of one vertex it takes other bits for a loop than nauty
+        return of(networkx.read_sparse6(path), graph, directed) if graph.n != 1 else None
+
+    return {"edges": edges, "numbers": numbers, "graphml": graphml, "graph6": graph6, "sparse6": sparse6}
 
 
 def igraph_readers(igraph):
@@ -332,6 +369,9 @@ def dot(path, graph, directed):
 
 
 def showg(path, graph, directed):
+    pairs = [edge[:2] if directed else tuple(sorted(edge[:2])) for edge in graph.edges]
+    if len(set(pairs)) < len(pairs):
+        return None  # it tells parallel edges once
     program = "showg" if shutil.which("showg") else "nauty-showg"
     numbers = ints(" ".join(run(program, "-q", "-e", path).replace(";", " ").split()))
     n, m, ends = numbers[0], numbers[1], numbers[2:]
@@ -360,9 +400,9 @@ def installed():
             missing.append(name)
             continue
         found += [(name, form, reader) for form, reader in readers(there).items()]
-    for name, form, reader in [("dot", "dot", dot), ("showg", "graph6", showg), ("graphchk", "metis", graphchk)]:
+    for name, forms, reader in [("dot", ["dot"], dot), ("showg", OF_NAUTY, showg), ("graphchk", ["metis"], graphchk)]:
         if shutil.which(name) or shutil.which(f"nauty-{name}"):
-            found.append((name, form, reader))
+            found += [(name, form, reader) for form in forms]
         else:
             missing.append(name)
     return found, missing

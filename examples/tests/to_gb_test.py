@@ -2,14 +2,16 @@
 """Tries to_gb.py: examples/tests/to_gb_test.py [PROGRAM]. Each file that it writes is read back by the program.
 
 Graphs of the program go through convert.awk into a form and through to_gb.py back, and have to be what they were.
-Others are written here, with values from the descriptions of the forms, and by networkx where it is installed. What
-is no graph of its form, and what GraphBase cannot have, has to be refused with one line. """
+Others are written here, with values from the descriptions of the forms, and by networkx where it is installed, which
+also reads GraphML and GML. What is no graph of its form, and what GraphBase cannot have, has to be refused with one
+line. """
 
 import collections
 import glob
 import os
 import subprocess
 import sys
+import tempfile
 
 EXAMPLES = os.path.dirname(os.path.dirname(os.path.abspath(__file__)))
 PROGRAM = os.path.abspath(sys.argv[1]) if len(sys.argv) > 1 else os.path.join(os.path.dirname(EXAMPLES), "sgb")
@@ -18,7 +20,8 @@ sys.path.insert(0, LISTINGS)
 sys.dont_write_bytecode = True
 import sgb_graph  # noqa: E402
 
-FORMS = ["edges", "dimacs", "metis", "mtx", "graph6"]
+OF_NAUTY = ["graph6", "sparse6", "digraph6"]
+FORMS = ["edges", "dimacs", "metis", "mtx", *OF_NAUTY]
 # expressions, and whether their arcs are arcs
 GRAPHS = [
     ("petersen()", False), ("board(3,4,0,0,1,0,0)", False), ("board(5,0,0,0,-1,0,0)", False), ("empty(3)", False),
@@ -27,7 +30,7 @@ GRAPHS = [
     ("board(3,0,0,0,-1,1,0)", False), ("lines(cycle(4),1)", True), ("simplex(3,-3,0,0,0,0,0)", False),
 ]
 # what convert.awk says of those that a form does not have
-LEFT_OUT = ("no loops", "no parallel", "no arcs", "has no")
+LEFT_OUT = ("no loops", "no parallel", "no arcs", "has no", "arcs alone")
 # a text in a form, with the names and arcs that it has
 TEXTS = [
     ("graph6", "DQc\n", [], "01234", [(0, 2, 1), (0, 4, 1), (1, 3, 1), (2, 0, 1), (3, 1, 1), (3, 4, 1), (4, 0, 1), (4, 3, 1)]),
@@ -36,6 +39,7 @@ TEXTS = [
     ("sparse6", ":Fa@x^\n", [], "0123456",
      [(u, v, 1) for a, b in [(0, 1), (0, 2), (1, 2), (5, 6)] for u, v in [(a, b), (b, a)]]),
     ("sparse6", ">>sparse6<<:An", [], "01", [(0, 1, 1), (1, 0, 1)]),
+    ("sparse6", ":@^\n", ["--directed"], "0", [(0, 0, 1)]), ("sparse6", ":CoJ\n", ["--directed"], "0123", [(0, 2, 1), (1, 2, 1)]),
     ("edges", "# of two\na b\nb a -7\nc\n", [], "abc", [(0, 1, 1), (0, 1, -7), (1, 0, 1), (1, 0, -7)]),
     ("edges", 'a\tb\t5\n"#"\ta\n\n', ["--directed"], "ab#", [(0, 1, 5), (2, 0, 1)]), ("edges", "", [], "", []),
     # heads of collections, tables, and lines that can be read in two ways, with the option that says which is meant
@@ -88,6 +92,32 @@ REFUSED = [
     ("mtx", "%%MatrixMarket matrix coordinate real general\n2 2 2\n1 1 1\n", "2 entries"),
     ("mtx", "%%MatrixMarket matrix coordinate real general\n2 2 1\n1 1 0.5\n", "is no integer"),
 ]
+# what networkx reads: GraphML and GML, with names, lengths, arcs, parallel edges and a loop
+BY_NETWORKX = [
+    ("graphml", """<graphml xmlns="http://graphml.graphdrawing.org/xmlns">
+<key id="k" for="node" attr.name="name" attr.type="string"/><key id="w" for="edge" attr.name="weight" attr.type="long"/>
+<graph edgedefault="directed"><node id="x"><data key="k">Ulm</data></node><node id="y"><data key="k">a &lt; b</data></node>
+<edge source="x" target="y"><data key="w">330</data></edge><edge source="y" target="y"/></graph></graphml>""",
+     [], ["Ulm", "a < b"], [(0, 1, 330), (1, 1, 1)]),
+    ("graphml", """<graphml xmlns="http://graphml.graphdrawing.org/xmlns"><graph edgedefault="undirected">
+<node id="x"/><node id="y"/><node id="z"/><edge id="0" source="x" target="z"/><edge id="1" source="x" target="z"/>
+</graph></graphml>""", [], "xyz", [(0, 2, 1), (0, 2, 1), (2, 0, 1), (2, 0, 1)]),
+    ("gml", 'graph [ directed 1 node [ id 7 label "Ulm" ] node [ id 5 label "Bonn" ] edge [ source 7 target 5 weight 330 ] ]',
+     [], ["Ulm", "Bonn"], [(0, 1, 330)]),
+    ("gml", "graph [ node [ id 2 ] node [ id 1 ] edge [ source 1 target 2 weight 2.0 ] ]", [], "21", [(0, 1, 2), (1, 0, 2)]),
+    ("gml", "graph [ multigraph 1 node [ id 0 ] edge [ source 0 target 0 key 0 ] edge [ source 0 target 0 key 1 ] ]",
+     ["--directed"], "0", [(0, 0, 1), (0, 0, 1)]),
+]
+REFUSED_BY_NETWORKX = [
+    ("graphml", "<graphml", "for no graphml"), ("graphml", "", "for no graphml"), ("gml", "graph [", "for no gml"), ("gml", "", "for no gml"),
+    ("gml", "graph [ node [ id 0 ] edge [ source 0 target 1 ] ]", "for no gml"),
+    ("gml", "graph [ node [ id 0 ] edge [ source 0 target 0 weight 1.5 ] ]", "the weight of the edge from 0 to 0 is no integer: 1.5"),
+    ("graphml", "<graphml><graph/><graph/></graphml>", "more than one graph"),
+]
+# as geng writes them: those of four vertices
+SEVERAL = {
+    "graph6": "C? CC CE CF CQ CU CT CV C] C^ C~".split(), "sparse6": ":Fa@x^ :An :@^".split(), "digraph6": "&DI?AO? &@_ &?".split(),
+}
 tried = 0
 
 
@@ -98,13 +128,13 @@ def must(is_right, *seen):
         sys.exit("to_gb_test.py: " + " ".join(str(part)[-600:] for part in seen))
 
 
-def ran(*words, given=b""):
-    got = subprocess.run(words, input=given, capture_output=True, check=False, timeout=120)
+def ran(*words, given=b"", **more):
+    got = subprocess.run(words, input=given, capture_output=True, check=False, timeout=120, **more)
     return got.returncode, got.stdout, got.stderr.decode()
 
 
-def written(form, text, *more):
-    return ran(sys.executable, os.path.join(EXAMPLES, "files/to_gb.py"), form, *more, given=text.encode())
+def written(form, text, *words, **more):
+    return ran(sys.executable, os.path.join(EXAMPLES, "files/to_gb.py"), form, *words, given=text.encode(), **more)
 
 
 def graph_of(expression, given=b""):
@@ -138,19 +168,22 @@ def there_and_back():
                 must(sorted(seen_names) == sorted(names), expression, form, "has the vertices", seen_names)
                 place = [names.index(name) for name in seen_names]
                 seen = collections.Counter({(place[u], place[v], length): count for (u, v, length), count in seen.items()})
-            elif form == "graph6":
-                wanted = collections.Counter((u, v, 1) for u, v, _ in arcs)
+            elif form in OF_NAUTY:
+                wanted = collections.Counter((u, v, 1) for u, v, _ in arcs.elements())
             must(seen == wanted, expression, form, "came back with", seen - wanted, "and without", wanted - seen)
-    must(left_out < 25, left_out, "forms of graphs were left out")
+    must(left_out < 30, left_out, "forms of graphs were left out")
 
 
-def texts():
-    for form, text, more, names, arcs in TEXTS:
+def texts(those):
+    for form, text, more, names, arcs in those:
         got = written(form, text, *more)
         must(got[0] == 0 and not got[2], form, repr(text), "gave", got)
         seen = graph_of("stdin", got[1])
         must(seen[0] == list(names), form, repr(text), "has the vertices", seen[0])
         must(seen[1] == collections.Counter(arcs), form, repr(text), "has the arcs", seen[1])
+
+
+def orders():
     # the order of a list is that of the lines
     got = written("edges", "c a\nb a 2\na d 3\na a\n")
     listed = dict(sgb_graph.read("stdin", got[1], PROGRAM))
@@ -159,24 +192,77 @@ def texts():
     must(sgb_graph.read("stdin", got[1], PROGRAM).id == "of two", "--id gave", got)
 
 
+def refused(form, text, said, *words, **more):
+    got = written(form, text, *words, **more)
+    is_line = got[2].startswith("to_gb.py: ") and got[2].count("\n") == 1 and said in got[2]
+    must(got[:2] == (1, b"") and is_line, form, *words, repr(text[:60]), "gave", got)
+
+
 def refusals():
     for form, text, said in REFUSED:
-        got = written(form, text)
-        is_line = got[2].startswith("to_gb.py: ") and got[2].count("\n") == 1 and said in got[2]
-        must(got[:2] == (1, b"") and is_line, form, repr(text[:60]), "gave", got)
+        refused(form, text, said)
     got = written("edges", "a b\n", "--id", "x" * 161)
     must(got[:2] == (1, b"") and "at most 160" in got[2], "a long --id gave", got)
     got = written("edges", "", "/nowhere/graph")
     must(got[:2] == (1, b"") and got[2].count("\n") == 1, "no file gave", got)
 
 
+def several():
+    """Files of several graphs: each is written as if it were alone, or none."""
+    with tempfile.TemporaryDirectory() as folder:
+        for form, lines in SEVERAL.items():
+            place = os.path.join(folder, "new", form)
+            got = written(form, f">>{form}<<" + "\n".join(lines) + "\n", "--all", place)
+            must(got == (0, b"", ""), form, "--all gave", got)
+            files = [f"{number}.gb" for number in range(1, len(lines) + 1)]
+            must(sorted(os.listdir(place)) == sorted(files), form, "--all wrote", os.listdir(place))
+            for name, line in zip(files, lines):
+                with open(os.path.join(place, name), "rb") as file:
+                    must(file.read() == written(form, line)[1], form, line, "is another graph in", name)
+            refused(form, lines[0], "is not empty", "--all", place)
+        place = os.path.join(folder, "none")
+        refused("graph6", "A_\n\nA_\nB\n", "line 4: 3 vertices have 1 letters", "--all", place)
+        refused("graph6", "", "no graph6", "--all", place)
+        must(not os.path.exists(place), "a folder was made for graphs that are refused")
+        refused("graph6", "A_\n", "to_gb.py: ", "--all", os.path.join(folder, "new", "graph6", "1.gb"))
+        for more in (["--graph", "1"], ["--id", "x"]):
+            got = written("graph6", "A_\n", "--all", place, *more)
+            must(got[:2] == (2, b"") and "--all is for all" in got[2] and not os.path.exists(place), more, "gave", got)
+
+
+def without_networkx():
+    """What networkx reads has one sentence where it is not installed."""
+    with tempfile.TemporaryDirectory() as folder:
+        with open(os.path.join(folder, "networkx.py"), "w", encoding="ascii") as file:
+            file.write("raise ImportError\n")
+        for form in ("graphml", "gml"):
+            line = f"to_gb.py: networkx reads {form}, and is not installed (Debian package python3-networkx)\n"
+            text = next(text for of, text, *_ in BY_NETWORKX if of == form)
+            got = written(form, text, env={**os.environ, "PYTHONPATH": folder})
+            must(got == (1, b"", line), form, "without networkx gave", got)
+
+
 def by_networkx():
-    """Graphs that networkx writes."""
+    """Graphs that networkx reads, and that it writes."""
     try:
         import networkx
     except ImportError:
-        print("  skipped, without networkx: graph6 and sparse6 that it writes")
+        print("  skipped, without networkx: GraphML and GML, and graph6 and sparse6 that it writes")
         return
+    texts(BY_NETWORKX)
+    for form, text, said in REFUSED_BY_NETWORKX:
+        refused(form, text, said)
+    for seed in range(6):
+        graph = networkx.gnp_random_graph(9, 0.3, seed=seed, directed=seed % 2 == 0)
+        several = (networkx.MultiDiGraph if seed % 2 == 0 else networkx.MultiGraph)(graph)
+        several.add_edges_from([(u, v, {"weight": 5 * seed - 9}) for u, v in list(graph.edges)[:3]] + [(1, 1)])
+        for form, write in (("graphml", networkx.generate_graphml), ("gml", networkx.generate_gml)):
+            got = written(form, "\n".join(write(several)))
+            must(got[0] == 0, form, seed, "gave", got)
+            found = several.edges(data="weight", default=1)
+            ways = (1,) if several.is_directed() else (1, -1)
+            wanted = collections.Counter((*ends[::way], length) for *ends, length in found for way in ways)
+            must(graph_of("stdin", got[1])[1] == wanted, form, seed, "is another graph")
     for seed in range(12):
         graph = networkx.gnp_random_graph(3 + 9 * seed, 0.3, seed=seed)
         multi = networkx.MultiGraph(graph)
@@ -193,8 +279,11 @@ def by_networkx():
 
 def main():
     there_and_back()
-    texts()
+    texts(TEXTS)
+    orders()
     refusals()
+    several()
+    without_networkx()
     by_networkx()
     print(f"to_gb.py writes what the program reads back, and refuses what is no graph: {tried} checks")
 

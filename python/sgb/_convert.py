@@ -10,7 +10,7 @@ from ._others import Arc, _uncollected, paired
 if TYPE_CHECKING:
     from ._graph import Graph
 
-FORMS = ("dot", "edges", "dimacs", "metis", "mtx", "graphml", "graph6")
+FORMS = ("dot", "edges", "dimacs", "metis", "mtx", "graphml", "graph6", "sparse6", "digraph6")
 
 
 class _Lists:
@@ -145,21 +145,62 @@ def _graphml(lists: _Lists) -> Iterator[str]:
     yield "  </graph>\n</graphml>\n"
 
 
+def _size(n: int) -> str:
+    """The number of vertices, as the forms of nauty have it."""
+    sixes = 1 if n < 63 else 3 if n < 258048 else 6
+    return {1: "", 3: "~", 6: "~~"}[sixes] + "".join(chr((n >> 6 * place & 63) + 63) for place in reversed(range(sixes)))
+
+
+def _letters(bits: bytearray, count: int) -> Iterator[str]:
+    """So many bits, six a letter; bits that are missing in the last one stand behind them."""
+    for at in range(0, count, 6):
+        yield chr(63 + sum(bit << 5 - place for place, bit in enumerate(bits[at:at + 6])))
+    yield "\n"
+
+
 def _graph6(lists: _Lists) -> Iterator[str]:
     lists.refuse_loops("graph6")
     lists.refuse_parallel("graph6")
-    # the number of vertices, then a bit for each pair, those of (0, 1), (0, 2), (1, 2), (0, 3) ..; six bits a byte
+    # a bit for each pair, those of (0, 1), (0, 2), (1, 2), (0, 3) ..
     n = lists.n
-    sixes = 1 if n < 63 else 3 if n < 258048 else 6
-    yield {1: "", 3: "~", 6: "~~"}[sixes]
-    yield "".join(chr((n >> 6 * place & 63) + 63) for place in reversed(range(sixes)))
     bits = bytearray(n * (n - 1) // 2 + 5)
     for v, tip, _ in lists.edges:
         low, high = (v, tip) if v < tip else (tip, v)
         bits[high * (high - 1) // 2 + low] = 1
-    for at in range(0, n * (n - 1) // 2, 6):
-        yield chr(63 + sum(bit << 5 - place for place, bit in enumerate(bits[at:at + 6])))
-    yield "\n"
+    yield _size(n)
+    yield from _letters(bits, n * (n - 1) // 2)
+
+
+def _sparse6(lists: _Lists) -> Iterator[str]:
+    # the edges by their greater ends: a bit, whether to go on to the next vertex, and a vertex: a greater one is gone to,
+    # and any other is the smaller end of an edge
+    n, wide, now = lists.n, (lists.n - 1).bit_length(), 0
+    parts: list[str] = []
+    for high, low in sorted((max(v, tip), min(v, tip)) for v, tip, _ in lists.edges):
+        if high > now + 1:
+            parts.append(f"1{high:0{wide}b}")
+            now = high
+        parts.append(f"{high - now}{low:0{wide}b}" if wide else "0")
+        now = high
+    bits = bytearray(map(int, "".join(parts)))
+    # ones fill the last letter; after a zero where they would be a loop of the last vertex
+    missing = -len(bits) % 6
+    filling = [1] * missing
+    if missing > wide and n == 1 << wide and now == n - 2:
+        filling[0] = 0
+    yield ":" + _size(n)
+    yield from _letters(bits + bytearray(filling), len(bits))
+
+
+def _digraph6(lists: _Lists) -> Iterator[str]:
+    lists.refuse_parallel("digraph6")
+    # a bit for each pair, row by row
+    n = lists.n
+    bits = bytearray(n * n + 5)
+    for v, tip, _ in lists.edges:
+        bits[v * n + tip] = 1
+    yield "&" + _size(n)
+    yield from _letters(bits, n * n)
 
 
 def convert(graph: Graph, to: str, directed: bool = False, numbers: bool = False, lengths: bool = False) -> str:
@@ -168,8 +209,8 @@ def convert(graph: Graph, to: str, directed: bool = False, numbers: bool = False
     Parameters
     ----------
     to : str
-        "dot" (Graphviz), "edges" (a line each, with tabs), "dimacs", "metis", "mtx" (Matrix Market), "graphml" or
-        "graph6".
+        "dot" (Graphviz), "edges" (a line each, with tabs), "dimacs", "metis", "mtx" (Matrix Market), "graphml", or
+        nauty's "graph6", "sparse6" (loops and parallel edges, too) or "digraph6" (arcs), which have no names and lengths.
     directed : bool
         Whether arcs are meant: else two arcs of one length, there and back, are an edge, and so is a loop.
     numbers : bool
@@ -188,8 +229,10 @@ def convert(graph: Graph, to: str, directed: bool = False, numbers: bool = False
     """
     if to not in FORMS:
         raise ValueError(f"the forms are {', '.join(FORMS)}, and not {to!r}")
-    if directed and to in ("metis", "graph6"):
+    if directed and to in ("metis", "graph6", "sparse6"):
         raise ValueError(f"{to} has no arcs")
+    if not directed and to == "digraph6":
+        raise ValueError("digraph6 has arcs alone: directed=True")
     if numbers and to != "edges":
         raise ValueError("numbers=True is for edges")
     with _uncollected():
