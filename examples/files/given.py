@@ -40,12 +40,13 @@ def number(word, what, line):
 
 def numbers(words, what, lines):
     """The integers that words are, each of its line."""
-    joined = "".join(words)
+    distinct = set(words)
+    joined = "".join(distinct)
     if "_" not in joined and joined.isascii():
         try:
-            found = list(map(int, words))
-            if not found or LEAST <= min(found) and max(found) <= MOST:
-                return found
+            found = dict(zip(distinct, map(int, distinct)))
+            if LEAST <= min(found.values(), default=0) and max(found.values(), default=0) <= MOST:
+                return list(map(found.__getitem__, words))
         except ValueError:
             pass
     return [number(word, what, line) for word, line in zip(words, lines)]

@@ -2,7 +2,6 @@
 
 import collections
 import csv
-import itertools
 import re
 
 from given import Given, Wrong, is_number, numbers
@@ -22,9 +21,10 @@ def edges(text, words):
     vertices.default_factory = vertices.__len__
     columns = None if words.columns else in_columns(lines, SEPARATORS[sep])
     if columns:
-        ends = list(map(vertices.__getitem__, itertools.chain.from_iterable(zip(*columns[:2]))))
+        names, lengths = columns
+        ends = list(map(vertices.__getitem__, names))
         given.tails, given.tips = ends[::2], ends[1::2]
-        where, alone, lengths = places, (), columns[2] if len(columns) > 2 else None
+        where, alone = places, ()
     else:
         where, alone, lengths = by_lines(given, vertices, places, lines, sep, columns_of(words.columns))
     given.names, given.n = list(vertices), len(vertices)
@@ -34,22 +34,29 @@ def edges(text, words):
     if lengths is None:
         given.lengths = [1] * len(given.tips)
     else:
-        given.lengths = numbers(["1" if word is None else word for word in lengths], "a length", where)
+        words_of = lengths if columns else ["1" if word is None else word for word in lengths]
+        given.lengths = numbers(words_of, "a length", where)
     return given
 
 
 def in_columns(lines, letter):
-    """The columns of lines that have two words each, or three, without names in quotes or further blanks; or none."""
+    """The names in lines that have two words each, or three, and the third words, if there are; None where names are in
+    quotes, or further blanks are there."""
     text = "\n".join(lines)
-    if '"' in text or letter != " " and " " in text or letter == " " and re.search("(?m)  |^ | $|\t", text):
+    around = f"\n{text}\n"
+    others = ("  ", "\n ", " \n", "\t") if letter == " " else (" ",)
+    if '"' in text or any(met in around for met in others):
         return None
-    counts = {line.count(letter) for line in lines}
-    if len(counts) != 1 or not counts & {1, 2}:
+    between = lines[0].count(letter) if lines else 0
+    # what is left of the text without its words
+    bare = text.encode().translate(None, bytes(set(range(256)) - set(f"\n{letter}".encode())))
+    if between not in (1, 2) or bare != "\n".join([letter * between] * len(lines)).encode():
         return None
-    step = counts.pop() + 1
-    found = text.replace("\n", letter).split(letter)
-    columns = [found[place::step] for place in range(step)]
-    return None if "" in columns[0] or "" in columns[1] else columns
+    found, lengths = text.replace("\n", letter).split(letter), None
+    if between == 2:
+        lengths = found[2::3]
+        del found[2::3]
+    return None if "" in found else (found, lengths)
 
 
 def by_lines(given, vertices, places, lines, sep, columns):
@@ -76,7 +83,8 @@ def by_lines(given, vertices, places, lines, sep, columns):
 def counted(text, signs):
     """The lines that are no comments, and their numbers."""
     lines = text.removesuffix("\n").split("\n")
-    if not any(met in "\n" + text for met in ("#", "%", "\n\n", "\n ", "\n\t")) and text:
+    around = "\n" + text
+    if not any(met in around for met in ("#", "%", "\n\n", "\n ", "\n\t")) and text:
         return range(1, len(lines) + 1), lines
     places = []
     for at, line in enumerate(lines, 1):

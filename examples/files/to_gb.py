@@ -80,7 +80,7 @@ def names_of(given, how):
     names = given.names
     if how == "escape":
         names = [urllib.parse.quote(name, safe=SAFE) for name in names]
-    for name, raw in zip(names, given.names):
+    for name, raw in zip(names, given.names) if not _files.are_plain(names) else ():
         try:
             _files.text_of(name, _files.LONGEST_STRING, "a name")
         except ValueError as why:

@@ -6,7 +6,6 @@ on one list. """
 
 from __future__ import annotations
 
-import itertools
 import operator
 import re
 from typing import Any, Sequence
@@ -94,20 +93,23 @@ class Arcs:
 
     def fill(self, tails: Sequence[int], tips: Sequence[int], lengths: Sequence[int], directed: bool) -> None:
         """What `arc` or `edge` does of each in turn, where all are known to be right, and the only ones."""
-        firsts, following, leads, place = self.firsts, self.following, self.tips, len(tips) * (1 if directed else 2)
-        for v, tip in zip(reversed(tails), reversed(tips)):
-            if not directed:
+        firsts, following, leads = self.firsts, self.following, self.tips
+        if directed:
+            leads += tips
+            for v, place in zip(reversed(tails), reversed(range(len(tips)))):
+                following.append(firsts[v])
+                firsts[v] = place
+        else:
+            for v, tip, place in zip(reversed(tails), reversed(tips), reversed(range(0, 2 * len(tips), 2))):
                 if v > tip:
                     v, tip = tip, v
-                place -= 1
                 leads.append(v)
+                leads.append(tip)
                 following.append(firsts[tip])
-                firsts[tip] = place
-            place -= 1
-            leads.append(tip)
-            following.append(firsts[v])
-            firsts[v] = place
-        leads.reverse()
+                firsts[tip] = place + 1
+                following.append(firsts[v])
+                firsts[v] = place
+            leads.reverse()
         following.reverse()
         self.lengths += lengths if directed else [length for length in lengths for _ in (0, 1)]
 
@@ -144,19 +146,39 @@ def _lines(fields: Sequence[str]) -> str:
     return "".join(line + "\n" for line in [*lines, current])
 
 
+def are_plain(names: Sequence[str]) -> bool:
+    """Whether all are names that a graph may have, and so short that a record with one is one line."""
+    try:
+        whole = "".join(names)
+    except TypeError:
+        return False
+    is_text = whole.isascii() and whole.isprintable() and '"' not in whole and "\\" not in whole
+    return is_text and max(map(len, names), default=0) <= 60
 
 
 def _vertex_lines(names: Sequence[str], arcs: Arcs) -> str:
+    if are_plain(names):
+        whole = "".join([f'"{name}",A{first}\n' for name, first in zip(names, arcs.firsts)])
+        return whole.replace(f'",A{NONE}\n', '",0\n')
     return "".join([_lines([_text(name, LONGEST_STRING, "a name"), "0" if first == NONE else f"A{first}"])
                     for name, first in zip(names, arcs.firsts)])
 
 
 def _arc_lines(arcs: Arcs) -> str:
     """Records of arcs, each of which is one line."""
-    records = zip(arcs.tips, arcs.following, arcs.lengths)
     parts = []
-    while some := tuple(itertools.chain.from_iterable(itertools.islice(records, 10000))):
-        parts.append(("V%d,A%d,%d\n" * (len(some) // 3) % some).replace(f",A{NONE},", ",0,"))
+    for at in range(0, len(arcs.tips), 4096):
+        fields = [arcs.tips[at : at + 4096], arcs.following[at : at + 4096], arcs.lengths[at : at + 4096]]
+        records = "V%d,A%d,%d\n" * len(fields[0])
+        met = set(fields[2])
+        if len(met) < 256:
+            # few lengths, each of which is written once
+            written = {length: "V%%d,A%%d,%d\n" % length for length in met}
+            records = "".join(map(written.__getitem__, fields.pop()))
+        some = [0] * (len(fields) * len(fields[0]))
+        for place, field in enumerate(fields):
+            some[place :: len(fields)] = field
+        parts.append((records % tuple(some)).replace(f",A{NONE},", ",0,"))
     return "".join(parts)
 
 
@@ -165,11 +187,12 @@ class File:
 
     def __init__(self, names: Sequence[str], arcs: Arcs) -> None:
         self.n, self.m = len(arcs.firsts), len(arcs.tips)
-        vertices, records = _vertex_lines(names, arcs), _arc_lines(arcs)
-        self.text = f"* Vertices\n{vertices}* Arcs\n{records}".encode()
+        vertices, records = _vertex_lines(names, arcs), _arc_lines(arcs).encode()
+        self.text = b"".join([b"* Vertices\n", vertices.encode(), b"* Arcs\n", records])
         # a line that begins so is left out, also where a string that was broken goes on with a star
-        counted = (re.sub(r"^\*.*\n", "", vertices, flags=re.MULTILINE) + records).encode()
-        self._size, self._sum = len(counted), checksum(counted)
+        counted = (re.sub(r"^\*.*\n", "", vertices, flags=re.MULTILINE) if "\n*" in vertices else vertices).encode()
+        self._size = len(counted) + len(records)
+        self._sum = (checksum(counted) * pow(2, len(records), MODULUS) + checksum(records)) % MODULUS
 
     def of(self, id: str) -> bytes:  # noqa: A002
         """The file of the graph that has this id."""
