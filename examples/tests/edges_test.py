@@ -91,7 +91,7 @@ def by_package(graphs):
     """The lines of edges that sgb.convert writes of each."""
     try:
         import sgb
-    except OSError:
+    except ImportError:
         print("  skipped, without libsgb.so: lines of sgb.convert")
         return
     for graph in graphs:
