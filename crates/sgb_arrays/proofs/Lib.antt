@@ -11,8 +11,6 @@ pub mod RunPlaces
 pub mod CutRuns
 -- lists that share records
 pub mod SharedLists
--- arcs put by strides
-pub mod StridePuts
 -- all lists have as many arcs as the graph counts
 pub mod AllArcs
 -- arrays of a run, copied to others of their lengths
@@ -35,8 +33,6 @@ pub mod NameLines
 pub mod CopiedGraphs
 -- worked examples
 pub mod Examples
--- arcs of a board put into arrays by strides
-pub mod StridedPuts
 -- lists that are handed out arc by arc, put into rows
 pub mod PlacedRows
 -- lengths of which the first ones are the same

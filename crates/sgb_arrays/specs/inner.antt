@@ -19,7 +19,5 @@ pub mod Given
 pub mod Fields
 -- the parts of a graph that is copied
 pub mod CopiedParts
--- the lists of a board that are had by strides
-pub mod StridedRows
 -- arcs to vectors, put into rows
 pub mod PlacedArcs

@@ -53,8 +53,6 @@ mod run_names;
 mod run_rows;
 // Runs, and the vectors of one.
 mod runs;
-// The lists of a run of a board that are had by strides, put into arrays.
-mod strided_rows;
 
 pub use draws::{fill_draws, fill_uniform_draws};
 pub use fields::fill_ints;

@@ -2,7 +2,7 @@
 //!
 //! A generator's graph need not be built: its accepted parameters tell all of it. What is asked of one is made in memory of
 //! its own, which is given back before the call ends, and copied where the arrays fit it; so a call that is refused memory
-//! leaves the arrays as they were. Lists that are had by strides are counted first, and then put into the arrays. Of a graph
+//! leaves the arrays as they were. Of a graph
 //! that is built no call takes memory.
 ghost use Rattle.std.specs.Prelude.{◌≡◌, ◌^◌, ◌-◌, length, map, min, IfErr, IfOk, OnOk};
 ghost use Rattle.sgb_file.specs.Saving.{text_of_graph};

@@ -1,23 +1,24 @@
 //! The lists of a run.
 //!
-//! Tips are vertices of the whole graph. Where a list is had by strides each is one sum; else they are found from their vectors
-//! with no search, of a sum by counts that are made once for the run (`places`).
-ghost use Rattle.std.specs.Prelude.{◌≡◌, ◌++◌, ◌+◌, ◌*◌, ◌<◌, ◌≤◌, ℕ, length, map, reverse, slice_get, Some, All, Contains, IfErr, IfOk, IfSome, IsOkUnless, OnOk, ⊤};
+//! Tips are vertices of the whole graph. They are found from their vectors with no search, of a sum by counts that are made once for
+//! the run (`places`).
+ghost use Rattle.std.specs.Prelude.{◌≡◌, ◌++◌, ◌+◌, ◌≤◌, ℕ, length, map, slice_get, Some, All, Contains, IfErr, IfOk, IfSome, IsOkUnless, OnOk, ⊤};
 ghost use Rattle.sgb_gen.specs.LocalLists.{LocalArc};
 ghost use Rattle.sgb_gen.specs.VectorGraphs.{HasEnds, described_by, vertex_among};
-ghost use Rattle.sgb_gen.specs.Strides.{lengths_to, tips_ahead, tips_back};
 ghost use Rattle.sgb_graph.specs.Graphs.{chain_of};
 ghost use Rattle.sgb_graph.specs.Made.{graph_described};
 ghost use Rattle.sgb_vec.specs.Lexicographic.{IsRising};
-ghost use Rattle.sgb_vec.specs.Limits.{most_vertices};
 ghost use Rattle.sgb_gen.specs.Generators.{described};
 ghost use Rattle.sgb_arrays.specs.Runs.{AreRows, IsRunRefusal, IsThere};
+// For the search alone.
+ghost use Rattle.std.specs.Prelude.{◌*◌, ◌<◌, reverse};
+ghost use Rattle.sgb_vec.specs.Limits.{most_vertices};
 
 use crate::placed_arcs::PlacedArcs;
 use crate::refusals::Wrong;
 use crate::rows::Rows;
 use crate::runs::{has_run, vectors_from};
-use sgb_gen::{Links, Listed, Local, Strides, Visit, Visitor};
+use sgb_gen::{Links, Listed, Local, Visit, Visitor};
 use sgb_vec::{Family, Panic};
 use std::alloc::Global;
 
@@ -165,34 +166,6 @@ impl Rows {
         ensures memory { IsOkUnless result Panic.NoRoom }
         ensures same { L.graph listed.new ≡ L.graph listed.old }
     {
-        if let Some(strides) = listed.strides(x, v) {
-            return self.push_strides(strides);
-        }
-        self.push_found(listed, places, v, x, links)
-    }
-
-    // The same, by the vectors where its arcs lead.
-    fn push_found<'a, L: Listed<'a>>(
-        &mut self,
-        listed: &mut L,
-        places: &Option<L::Places>,
-        v: u32,
-        x: &[u32],
-        links: &mut Links,
-    ) -> Result<(), Panic>
-        requires vertex { slice_get (L.graph listed.old).vectors v ≡ Some x.now }
-        requires places { IfSome places.now (λ p. L.Places.vectors p ≡ (L.graph listed.old).vectors) }
-        requires rising { IsRising (L.graph listed.old).vectors }
-        requires ends { All (HasEnds (L.graph listed.old).vectors) (L.graph listed.old).moves }
-        ensures tips { OnOk result (self.new.tips.items ≡ self.old.tips.items ++ map (λ l. l.tip)
-            (chain_of (graph_described (described_by (L.graph listed.old))) v)) }
-        ensures lengths { OnOk result (self.new.lengths.items ≡ self.old.lengths.items
-            ++ map (λ l. l.len)
-            (chain_of (graph_described (described_by (L.graph listed.old))) v)) }
-        ensures starts { OnOk result (self.new.starts.items ≡ self.old.starts.items) }
-        ensures memory { IsOkUnless result Panic.NoRoom }
-        ensures same { L.graph listed.new ≡ L.graph listed.old }
-    {
         match places {
             Some(places) => self.push_placed(listed, places, v, x, links),
             None => self.push_listed(listed, v, x, links),
@@ -224,6 +197,7 @@ impl Rows {
         let sink = PlacedArcs {
             places,
             width: x.len(),
+            vertex: v,
         };
         listed.give_arcs(x, links, &sink, self, &mut ())?
     }
@@ -250,61 +224,6 @@ impl Rows {
     {
         listed.arcs_at(x, links)?;
         self.push_arcs(listed, links)
-    }
-
-    // Appends the arcs of a list that is had by strides.
-    fn push_strides(&mut self, strides: Strides<'_>) -> Result<(), Panic>
-        ensures tips { OnOk result (self.new.tips.items ≡ self.old.tips.items
-            ++ strides.entry.tips) }
-        ensures lengths { OnOk result (self.new.lengths.items ≡ self.old.lengths.items
-            ++ strides.entry.lengths) }
-        ensures starts { OnOk result (self.new.starts.items ≡ self.old.starts.items) }
-        ensures memory { IsOkUnless result Panic.NoRoom }
-    {
-        let mut left = strides;
-        let v = left.vertex();
-        for _stride in 0..left.len() {
-            let stride = left.next_stride();
-            self.push_ahead(v, stride.places, stride.farthest)?;
-            self.push_back(v, stride.places, stride.farthest_back)?;
-        }
-        Ok(())
-    }
-
-    // Appends the arcs ahead by a stride, the longest first.
-    fn push_ahead(&mut self, v: u32, places: u32, farthest: u32) -> Result<(), Panic>
-        requires { (l : ℕ) → 0 < l → l ≤ farthest → v + l * places < most_vertices }
-        ensures tips { OnOk result (self.new.tips.items ≡ self.old.tips.items
-            ++ reverse (tips_ahead v places farthest)) }
-        ensures lengths { OnOk result (self.new.lengths.items ≡ self.old.lengths.items
-            ++ reverse (lengths_to farthest)) }
-        ensures starts { OnOk result (self.new.starts.items ≡ self.old.starts.items) }
-        ensures memory { IsOkUnless result Panic.NoRoom }
-    {
-        for shorter in (0..farthest).rev() {
-            let l = shorter + 1;
-            self.tips.push(v + l * places)?;
-            self.lengths.push(i64::from(l))?;
-        }
-        Ok(())
-    }
-
-    // Appends the arcs back by a stride, the shortest first.
-    fn push_back(&mut self, v: u32, places: u32, farthest: u32) -> Result<(), Panic>
-        requires { (l : ℕ) → 0 < l → l ≤ farthest → l * places ≤ v }
-        ensures tips { OnOk result (self.new.tips.items ≡ self.old.tips.items
-            ++ tips_back v places farthest) }
-        ensures lengths { OnOk result (self.new.lengths.items ≡ self.old.lengths.items
-            ++ lengths_to farthest) }
-        ensures starts { OnOk result (self.new.starts.items ≡ self.old.starts.items) }
-        ensures memory { IsOkUnless result Panic.NoRoom }
-    {
-        for shorter in 0..farthest {
-            let l = shorter + 1;
-            self.tips.push(v - l * places)?;
-            self.lengths.push(i64::from(l))?;
-        }
-        Ok(())
     }
 
     // Appends the arcs of a vector.

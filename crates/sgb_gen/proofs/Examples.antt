@@ -24,8 +24,6 @@ pub mod LocalBoards
 pub mod Laws
 -- arcs by one displacement
 pub mod Spans
--- runs by the vertices where they lead
-pub mod Strides
 -- short names
 pub mod Shorthands
 -- what is accepted and refused, by which parameter

@@ -14,10 +14,8 @@ mod InsideVertices
 mod InsideRuns
 -- where they lead among the vectors: equal strides on
 mod StrideTips
--- vertices one after another that no side is near, by strides
+-- vectors one after another that no side is near
 mod InsideRows
--- boards with no side that wraps around: no arc leads to its own vertex
-mod FlatBoards
 -- the arcs of a span, one after another
 pub mod SpanArcs
 -- a board's arcs that are handed out one by one

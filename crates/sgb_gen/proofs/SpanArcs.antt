@@ -1,11 +1,13 @@
 -- The arcs of a span, one after another.
-use Rattle.std.proofs.Common.{◌≡◌, ℕ, ◌+◌, ◌-◌, ◌<◌, ◌≤◌, Bool, true, false, [], ◌∷◌, ◌++◌, get_or, length, map, reverse, drop, Some, sym, ap, ◌∙◌, arith}
+use Rattle.std.proofs.Common.{◌≡◌, ℕ, ◌+◌, ◌-◌, ◌*◌, ◌<◌, ◌≤◌, ℤ, Bool, true, false, List, [], ◌∷◌, ◌++◌, get_or, length, map, reverse, drop, Some, sym, ap, ◌∙◌, arith}
 use Rattle.std.specs.List.{range_with_len, slice_get}
+use Rattle.std.specs.Prelude.{unwrap_or}
 use Rattle.std.proofs.lemmas.List.{drop-map, drop_all, get_or-reverse, length-map, length-reverse}
 use Rattle.std.proofs.lemmas.List.FromFn.{get_or-range_with_len, length-range_with_len}
-use Rattle.std.proofs.lemmas.Option.{slice_get-get_or}
-use Rattle.sgb_gen.specs.Spans.{SpanData, arc_along, arcs_of_span}
-use Rattle.sgb_gen.specs.inner.Spans.{lengths_between}
+use Rattle.std.proofs.lemmas.Option.{slice_get-get_or, slice_get_within}
+use Rattle.sgb_vec.specs.Boxes.{box}
+use Rattle.sgb_gen.specs.Spans.{FallBy, SpanData, arc_along, arcs_of_span}
+use Rattle.sgb_gen.specs.inner.Spans.{LeadBack, LeadOn, lengths_between}
 use Rattle.sgb_gen.proofs.FamilyWalks.{drop_at_vector}
 
 -- how many lengths there are
@@ -29,6 +31,25 @@ length-falling from to k within =
     ∙ ap (λ i. get_or ls i 0) {x = length ls - 1 - k} {y = to - from - 1 - k} (omega (arith, count))
     ∙ get_or-range_with_len (from + 1) (to - from) (to - from - 1 - k) 0 (omega (arith, within))
     ∙ omega (arith, within))
+
+-- where arcs lead back by a stride, the vertices fall by it from the shortest on
+pub fall-back : (sizes : List ℕ) (wrap : ℤ) (x : List ℕ) (parts : List (ℕ × ℤ)) (from to v stride : ℕ) → slice_get (box sizes) v ≡ Some x → LeadBack sizes wrap x parts to stride
+    → FallBy (record { sizes = sizes; wrap = wrap; x = x; parts = parts; lengths = lengths_between true from to }) (v - (from + 1) * stride) stride
+fall-back sizes wrap x parts from to v stride there leads k l at =
+    let few : k < to - from = omega (arith, slice_get_within (lengths_between true from to) k l at, lengths-count true from to) in
+    let is : l ≡ from + 1 + k = ap (λ o. unwrap_or o 0) (sym at ∙ length-rising from to k few) in
+    let lead = leads v l there (omega (arith, is)) (omega (arith, is, few)) in
+    omega (arith, lead, ap (λ m. m * stride) is)
+
+-- on, from the longest on
+pub fall-on : (sizes : List ℕ) (wrap : ℤ) (x : List ℕ) (parts : List (ℕ × ℤ)) (from to v stride : ℕ) → slice_get (box sizes) v ≡ Some x → LeadOn sizes wrap x parts to stride
+    → FallBy (record { sizes = sizes; wrap = wrap; x = x; parts = parts; lengths = lengths_between false from to }) (v + to * stride) stride
+fall-on sizes wrap x parts from to v stride there leads k l at =
+    let few : k < to - from = omega (arith, slice_get_within (lengths_between false from to) k l at, lengths-count false from to) in
+    let is : l ≡ to - k = ap (λ o. unwrap_or o 0) (sym at ∙ length-falling from to k few) in
+    let lead = leads v l there (omega (arith, is, few)) (omega (arith, is)) in
+    let both : to ≡ l + k = omega (arith, is, few) in
+    omega (arith, lead.0, ap (λ m. m * stride) both)
 
 -- the next arc stands apart
 pub next-apart : (s : SpanData) (k l : ℕ) → slice_get s.lengths k ≡ Some l

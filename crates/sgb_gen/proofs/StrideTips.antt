@@ -1,43 +1,33 @@
 -- Where the moves by a displacement lead among the vectors of a box: equal strides on, where no side is crossed that wraps around.
 use borrow.Author.Differences.{down, neg_is, up}
 use Rattle.std.proofs.Common.{◌≡◌, ◌∙◌, ◌&&◌, ℕ, nat_abs, get_or, zero, suc, ◌+◌, ◌-◌, ◌*◌, ◌/◌, ◌%◌, ◌^◌, ◌<◌, ◌≤◌, ℤ, pos, negsuc, neg_ℤ, ◌+ℤ◌, ◌*ℤ◌, Bool, true, false, cond, List, [], ◌∷◌, ◌++◌, length, map, reverse, take, drop, Some, None, refl, sym, ap, ap₂, subst, arith, true≢false}
-use Rattle.std.specs.Prelude.{◌||◌, ◌==◌, Option}
+use Rattle.std.specs.Prelude.{◌||◌, ◌==◌, IfNone, IfSome, Option}
 use Rattle.std.specs.Bool.{OnTrue}
-use Rattle.std.specs.List.{All, Contains, flat_map, range_with_len, slice_get}
+use Rattle.std.specs.List.{All, slice_get}
 use Rattle.std.proofs.lemmas.Int.{ints}
-use Rattle.std.proofs.lemmas.List.{at_drop_more, get_or-map, length-map, map-append, take_all, take_more}
+use Rattle.std.proofs.lemmas.List.{at_drop_more, get_or-map, length-map, map-append, take_more}
 use Rattle.std.proofs.lemmas.Nat.{div_below, pow_pos}
 use Rattle.std.proofs.lemmas.Option.{get_or_from_slice_get, slice_get_within}
 use Rattle.sgb_vec.specs.Boxes.{box, product_of}
 use Rattle.sgb_vec.specs.Lexicographic.{IsBelow}
+use Rattle.sgb_vec.specs.Limits.{most_vertices}
 use Rattle.sgb_vec.proofs.Lists.{reverse-first}
 use Rattle.sgb_vec.proofs.BoxPlaces.{StandsAt-from_slice_get, place_of, place_of-below, slice_get-place_of}
-use Rattle.sgb_graph.specs.Graphs.{chain_of}
-use Rattle.sgb_graph.specs.Made.{graph_described}
-use Rattle.sgb_gen.specs.Boards.{BoardData, board_vector_graph}
-use Rattle.sgb_gen.specs.LocalLists.{LocalArc, list_in}
+use Rattle.sgb_gen.specs.Boards.{BoardData}
 use Rattle.sgb_moves.specs.MovedCoordinates.{parts_of, parts_put}
 use Rattle.sgb_moves.specs.Moves.{coordinate_on, in_front, is_bit_set, opposite, place, sides_from_bit, sides_of, within_size}
-use Rattle.sgb_gen.specs.Spans.{arc_along}
-use Rattle.sgb_gen.specs.inner.Spans.{arcs_along}
-use Rattle.sgb_gen.specs.Strides.{lengths_of_stride, lengths_to, tips_ahead, tips_back, tips_of_stride}
-use Rattle.sgb_gen.specs.VectorGraphs.{described_by, vertex_among}
-use Rattle.sgb_moves.specs.inner.EntryBounds.{displacements_within}
-use Rattle.sgb_gen.specs.inner.LocalBoards.{arcs_onward, moves_by}
+use Rattle.sgb_gen.specs.inner.Spans.{LeadBack, LeadOn}
+use Rattle.sgb_gen.specs.VectorGraphs.{vertex_among}
 use Rattle.sgb_moves.specs.inner.MovedCoordinates.{IsInside, parts_stay}
 use Rattle.sgb_moves.specs.inner.Moves.{longest_move}
-use Rattle.sgb_gen.specs.inner.StraightLists.{IsLeaper, IsRun, arcs_back, arcs_by_all, arcs_from}
+use Rattle.sgb_gen.specs.inner.StraightLists.{IsLeaper}
 use Rattle.sgb_gen.specs.inner.Strides.{IsFlatFrom, LeadsByStride, stride_of}
-use Rattle.sgb_gen.proofs.BoundedMoves.{bounds_of, moves_within}
 use Rattle.sgb_gen.proofs.Destinations.{place-below}
 use Rattle.sgb_gen.proofs.InsideRuns.{place_alike}
 use Rattle.sgb_gen.proofs.InsideVertices.{opposite_within}
-use Rattle.sgb_gen.proofs.ListedGraphs.{of_board}
-use Rattle.sgb_gen.proofs.ListsOfBoards.{list_of_board}
-use Rattle.sgb_gen.proofs.LocalChains.{SayList, chain_said}
 use Rattle.sgb_moves.proofs.MovedCoordinates.{place_by_parts}
 use Rattle.sgb_gen.proofs.Reaches.{sizes_of_sides}
-use Rattle.sgb_gen.proofs.RunsOfLists.{next_run_first}
+use Rattle.sgb_gen.proofs.RunsOfLists.{at_has}
 use Rattle.sgb_moves.proofs.TurnedMoves.{in_front-parts}
 use Rattle.sgb_gen.proofs.Vertices.{vertex_in_box}
 
@@ -132,17 +122,6 @@ module _ (b : BoardData) (x : List ℕ) (t : List ℤ) (below : IsBelow x b.size
         ap pos tip_is ∙ stride_on 0 b.sizes x (tip l) t l (sym (flat l some most) ∙ placed)
         ∙ ap (λ p. pos p +ℤ pos l *ℤ stride_of b.sizes t) (StandsAt-from_slice_get b.sizes x v there).place
 
--- one by one what is made of the elements of a range
-same_along : {X Y : Type 0} (f : ℕ → X) (g : X → Y) (h : ℕ → Y) (k n : ℕ) → ((l : ℕ) → k ≤ l → l < k + n → g (f l) ≡ h l)
-    → map g (map f (range_with_len k n)) ≡ map h (range_with_len k n)
-same_along f g h k zero each = refl
-same_along f g h k (suc n) each =
-    ap₂ (λ y ys. y ∷ ys) (each k (omega arith) (omega arith)) (same_along f g h (k + 1) n (λ l from to. each l (omega (arith, from)) (omega (arith, to))))
-
--- the vertex where an arc leads
-abbrev pub vertex_to : BoardData → LocalArc → ℕ
-vertex_to b a = vertex_among (box b.sizes) a.tip
-
 -- what is known of the arcs of the lengths up to n
 abbrev pub StayUpTo : BoardData → List ℕ → List ℤ → ℕ → Type 0
 StayUpTo b x t n = (l : ℕ) → 0 < l → l ≤ n → parts_stay b.sizes b.wrap x l (parts_of t) ≡ true
@@ -155,37 +134,16 @@ module _ (b : BoardData) (x : List ℕ) (v n : ℕ) (below : IsBelow x b.sizes) 
     pub ahead_within : (l : ℕ) → 0 < l → l ≤ n → v + l * s < product_of b.sizes
     ahead_within l some few = omega (arith, ahead_at l some few, tip_within b x t below long flat l some (omega (arith, few, most)) (stay l some few))
 
-    pub tips_on : map (vertex_to b) (arcs_along b.sizes b.wrap x (parts_of t) n) ≡ tips_ahead v s n
-    tips_on = same_along (arc_along b.sizes b.wrap x (parts_of t)) (vertex_to b) (λ l. v + l * s) 1 n (λ l from to. ahead_at l (omega (arith, from)) (omega (arith, to)))
-
   module _ (t u : List ℤ) (s : ℕ) (long : length t ≡ length b.sizes) (turned : u ≡ opposite t) (long_back : length u ≡ length b.sizes) (flat : IsFlatFrom b x u) (stay : StayUpTo b x u n) (is : pos s ≡ stride_of b.sizes t) where
     back_at : (l : ℕ) → 0 < l → l ≤ n → vertex_among (box b.sizes) (parts_put b.sizes b.wrap x l (parts_of u) x) + l * s ≡ v
     back_at l some few =
         back_is _ v l s (stride_of b.sizes t) (stride_of b.sizes u) (tip_on b x u below long_back flat l some (omega (arith, few, most)) (stay l some few) v there)
         (ap (stride_of b.sizes) turned ∙ stride_back b.sizes t) is
 
-    pub back_within : (l : ℕ) → 0 < l → l ≤ n → l * s ≤ v
-    back_within l some few = omega (arith, back_at l some few)
-
-    pub tips_from : map (vertex_to b) (arcs_along b.sizes b.wrap x (parts_of u) n) ≡ tips_back v s n
-    tips_from = same_along (arc_along b.sizes b.wrap x (parts_of u)) (vertex_to b) (λ l. v - l * s) 1 n (λ l from to. omega (arith, back_at l (omega (arith, from)) (omega (arith, to))))
-
--- their lengths
-pub lengths_on : (sizes : List ℕ) (wrap : ℤ) (x : List ℕ) (parts : List (ℕ × ℤ)) (n : ℕ) → map (λ (a : LocalArc). a.len) (arcs_along sizes wrap x parts n) ≡ lengths_to n
-lengths_on sizes wrap x parts n = same_along (arc_along sizes wrap x parts) (λ (a : LocalArc). a.len) (λ l. pos l) 1 n (λ l from to. refl)
-
--- ---- those of a displacement and its opposite, and then those of the others
-
-map-reverse : {X Y : Type 0} (f : X → Y) (xs : List X) → map f (reverse xs) ≡ reverse (map f xs)
+pub map-reverse : {X Y : Type 0} (f : X → Y) (xs : List X) → map f (reverse xs) ≡ reverse (map f xs)
 map-reverse f [] = refl
 map-reverse f (x ∷ xs) =
     ap (map f) (reverse-first x xs) ∙ map-append f (reverse xs) (x ∷ []) ∙ ap (λ ys. ys ++ f x ∷ []) (map-reverse f xs) ∙ sym (reverse-first (f x) (map f xs))
-
-pub next_values : {Y : Type 0} (f : LocalArc → Y) (all ahead back rest : List LocalArc) (us ws : List Y) → all ≡ reverse ahead ++ back ++ rest → map f ahead ≡ us → map f back ≡ ws
-    → map f all ≡ reverse us ++ ws ++ map f rest
-next_values f all ahead back rest us ws is on from =
-    ap (map f) is ∙ map-append f (reverse ahead ++ back) rest ∙ ap (λ ys. ys ++ map f rest)
-    (map-append f (reverse ahead) back ∙ ap₂ (λ ys zs. ys ++ zs) (map-reverse f ahead ∙ ap reverse on) from)
 
 -- ---- when no side is crossed
 
@@ -210,39 +168,25 @@ all_by_strides b x ts d straight flat true true have none leaper inside small =
     λ k e h. (flat_inside b x (get_or ts k e) d leaper inside (small k e h), flat_inside b x (opposite (get_or ts k e)) d leaper inside (opposite_within d (get_or ts k e) (small k e h)))
 all_by_strides b x ts d straight flat leaping near have none leaper inside small = grind (arith, true≢false)
 
-pub had_by_runs : (straight flat leaping near : Bool) → ((straight && flat) || (leaping && near)) ≡ true → (straight || (leaping && near)) ≡ true
-had_by_runs straight flat leaping near have = grind (arith, true≢false)
+-- ---- the spans of a displacement and its opposite, where its stride is known
 
--- ---- the list, one displacement after another
+-- ahead
+pub span_on : (b : BoardData) (x : List ℕ) (t : List ℤ) (n : ℕ) (stride : Option ℕ) → IsBelow x b.sizes → length t ≡ length b.sizes → product_of b.sizes ≤ most_vertices
+    → n ≤ longest_move (sides_of b.sizes b.wrap) b.piece → StayUpTo b x t n → IfSome stride (λ s. pos s ≡ stride_of b.sizes t) → IfSome stride (λ s. LeadsByStride b x t)
+    → IfSome stride (LeadOn b.sizes b.wrap x (parts_of t) n)
+span_on b x t n (Some s) below long few most stay is leads = λ v l there some within. (
+  ahead_at b x v n below there most t s long leads.0 stay is l some within,
+  omega (arith, few, ahead_within b x v n below there most t s long leads.0 stay is l some within),
+)
+span_on b x t n None below long few most stay is leads = tt
 
--- where the last of some displacements comes first: its arcs, and then those by the others
-pub record IsNextStride (b : BoardData) (x : List ℕ) (ts : List (List ℤ)) (k v stride farthest farthest_back : ℕ) : Type 0 where
-  pub tips : map (vertex_to b) (arcs_by_all b x (take (k + 1) ts)) ≡ tips_of_stride v stride farthest farthest_back ++ map (vertex_to b) (arcs_by_all b x (take k ts))
-  pub lengths : map (λ (a : LocalArc). a.len) (arcs_by_all b x (take (k + 1) ts)) ≡ lengths_of_stride farthest farthest_back ++ map (λ (a : LocalArc). a.len) (arcs_by_all b x (take k ts))
-  pub ahead : (l : ℕ) → 0 < l → l ≤ farthest → v + l * stride < product_of b.sizes
-  pub back : (l : ℕ) → 0 < l → l ≤ farthest_back → l * stride ≤ v
-
-pub next_stride : (b : BoardData) (x : List ℕ) (ts : List (List ℤ)) (k v s n m : ℕ) (t : List ℤ) → IsBelow x b.sizes → slice_get (box b.sizes) v ≡ Some x → slice_get ts k ≡ Some t
-    → IsRun b x t → LeadsByStride b x t → pos s ≡ stride_of b.sizes t → length t ≡ length b.sizes
-    → arcs_from b x t ≡ arcs_along b.sizes b.wrap x (parts_of t) n → arcs_back b x (opposite t) ≡ arcs_along b.sizes b.wrap x (parts_of (opposite t)) m
-    → StayUpTo b x t n → StayUpTo b x (opposite t) m → n ≤ longest_move (sides_of b.sizes b.wrap) b.piece → m ≤ longest_move (sides_of b.sizes b.wrap) b.piece
-    → IsNextStride b x ts k v s n m
-next_stride b x ts k v s n m t below there at run leads is long arcs arcs_again stay stay_back most most_back =
-    let long_back : length (opposite t) ≡ length b.sizes = length-map t neg_ℤ ∙ long in
-    let parts = next_run_first b x ts k t at run in
-    let len = λ (a : LocalArc). a.len in
-    record {
-      tips =
-          next_values (vertex_to b) _ (arcs_from b x t) (arcs_back b x (opposite t)) (arcs_by_all b x (take k ts)) (tips_ahead v s n) (tips_back v s m) parts
-          (ap (map (vertex_to b)) arcs ∙ tips_on b x v n below there most t s long leads.0 stay is)
-          (ap (map (vertex_to b)) arcs_again ∙ tips_from b x v m below there most_back t (opposite t) s long refl long_back leads.1 stay_back is);
-      lengths =
-          next_values len _ (arcs_from b x t) (arcs_back b x (opposite t)) (arcs_by_all b x (take k ts)) (lengths_to n) (lengths_to m) parts
-          (ap (map len) arcs ∙ lengths_on b.sizes b.wrap x (parts_of t) n)
-          (ap (map len) arcs_again ∙ lengths_on b.sizes b.wrap x (parts_of (opposite t)) m);
-      ahead = ahead_within b x v n below there most t s long leads.0 stay is;
-      back = back_within b x v m below there most_back t (opposite t) s long refl long_back leads.1 stay_back is;
-    }
+-- back
+pub span_back : (b : BoardData) (x : List ℕ) (t u : List ℤ) (n : ℕ) (stride : Option ℕ) → IsBelow x b.sizes → length t ≡ length b.sizes → u ≡ opposite t
+    → n ≤ longest_move (sides_of b.sizes b.wrap) b.piece → StayUpTo b x u n → IfSome stride (λ s. pos s ≡ stride_of b.sizes t) → IfSome stride (λ s. LeadsByStride b x t)
+    → IfSome stride (LeadBack b.sizes b.wrap x (parts_of u) n)
+span_back b x t u n (Some s) below long turned most stay is leads = λ v l there some within.
+    back_at b x v n below there most t u s long turned (ap length turned ∙ length-map t neg_ℤ ∙ long) (subst (IsFlatFrom b x) (sym turned) leads.1) stay is l some within
+span_back b x t u n None below long turned most stay is leads = tt
 
 -- the stride that is kept of a displacement
 pub stride_at : (sizes : List ℕ) (ss : List ℕ) (ts : List (List ℤ)) (k : ℕ) (t : List ℤ) → map pos ss ≡ map (stride_of sizes) ts → slice_get ts k ≡ Some t → (k < length ss) × (pos (get_or ss k 0) ≡ stride_of sizes t)
@@ -252,16 +196,31 @@ stride_at sizes ss ts k t kept at =
     let inside : k < length ss = omega (arith, within, as_many) in
     (inside, sym (get_or-map pos ss k 0 (pos 0) inside) ∙ ap (λ zs. get_or zs k (pos 0)) kept ∙ get_or-map (stride_of sizes) ts k t (pos 0) within ∙ ap (stride_of sizes) (get_or_from_slice_get ts k t t at))
 
--- all displacements of a table make the list of the vertex
-pub said_by_table : (b : BoardData) (x : List ℕ) (v : ℕ) (ts : List (List ℤ)) → slice_get (box b.sizes) v ≡ Some x → ts ≡ displacements_within (nat_abs b.piece) (bounds_of b)
-    → SayList (box b.sizes) (arcs_by_all b x (take (length ts) ts)) (chain_of (graph_described (described_by (board_vector_graph b))) v)
-said_by_table b x v ts there is =
-    let member : Contains (box b.sizes) x = (v, slice_get_within (box b.sizes) v x there, get_or_from_slice_get (box b.sizes) v x x there) in
-    let moves = ap (flat_map (moves_by (sides_of b.sizes b.wrap) b.piece (box b.sizes))) is ∙ moves_within b in
-    let whole : arcs_by_all b x (take (length ts) ts) ≡ list_in (board_vector_graph b) x =
-    ap (arcs_by_all b x) (take_all (length ts) ts (omega arith)) ∙ ap (λ ms. reverse (arcs_onward b.directed x ms)) moves ∙ sym (list_of_board b x member) in
-    subst (λ arcs. SayList (box b.sizes) arcs (chain_of (graph_described (described_by (board_vector_graph b))) v)) (sym whole)
-    (chain_said (board_vector_graph b) (of_board b).rising (of_board b).ends v x there)
+-- the same where strides are known
+pub stride_known : {X : Type 0} (items : X → List ℕ) (kept : Option X) (stride : Option ℕ) (sizes : List ℕ) (ts : List (List ℤ)) (k : ℕ) (t : List ℤ)
+    → IfSome kept (λ s. map pos (items s) ≡ map (stride_of sizes) ts) → slice_get ts k ≡ Some t → IfSome stride (λ r. IfSome kept (λ s. slice_get (items s) k ≡ Some r))
+    → IfNone kept (stride ≡ None) → IfSome stride (λ r. pos r ≡ stride_of sizes t)
+stride_known items kept None sizes ts k t all at one none = tt
+stride_known items None (Some r) sizes ts k t all at one none = absurd (cc)
+stride_known items (Some s) (Some r) sizes ts k t all at one none =
+    ap pos (sym (get_or_from_slice_get (items s) k r 0 one)) ∙ (stride_at sizes (items s) ts k t all at).1
+
+pub lead_known : {X : Type 0} (b : BoardData) (x : List ℕ) (kept : Option X) (stride : Option ℕ) (ts : List (List ℤ)) (k : ℕ) (t : List ℤ)
+    → IfSome kept (λ s. All (LeadsByStride b x) ts) → slice_get ts k ≡ Some t → IfNone kept (stride ≡ None) → IfSome stride (λ r. LeadsByStride b x t)
+lead_known b x kept None ts k t all at none = tt
+lead_known b x None (Some r) ts k t all at none = absurd (cc)
+lead_known b x (Some s) (Some r) ts k t all at none = at_has (LeadsByStride b x) ts k t all at
+
+-- what is kept of all displacements of a table, where it is handed on
+pub strides_handed : {X Y : Type 0} (items : X → List ℕ) (own : Y → List ℕ) (kept : Option X) (handed : Option Y) (zs : List ℤ)
+    → IfSome kept (λ s. map pos (items s) ≡ zs) → IfSome handed (λ h. IfSome kept (λ s. own h ≡ items s)) → IfNone kept (handed ≡ None) → IfSome handed (λ h. map pos (own h) ≡ zs)
+strides_handed items own kept None zs all same none = tt
+strides_handed items own None (Some h) zs all same none = absurd (cc)
+strides_handed items own (Some s) (Some h) zs all same none = ap (map pos) same ∙ all
+
+pub leads_handed : {Y P : Type 0} (handed : Option Y) (have : Bool) → IfSome handed (λ h. have ≡ true) → (have ≡ true → P) → IfSome handed (λ h. P)
+leads_handed (Some h) have is leads = leads is
+leads_handed None have is leads = tt
 
 -- ---- a stride, entry by entry
 

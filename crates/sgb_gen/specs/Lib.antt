@@ -18,8 +18,6 @@ pub mod LocalLists
 pub mod ArcSinks
 -- arcs by one displacement, of some lengths in turn
 pub mod Spans
--- the same, by the vertices where the arcs lead
-pub mod Strides
 -- the short names
 pub mod Shorthands
 -- what only private contracts and proofs speak of

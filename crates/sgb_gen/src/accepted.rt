@@ -3,6 +3,6 @@ mod boards;
 mod simplexes;
 mod subsets;
 
-pub use boards::{Board, BoardLists, FlatLists, OrderedBoard, Stride, StridedBoard, Strides};
+pub use boards::{Board, BoardLists, OrderedBoard};
 pub use simplexes::Simplex;
 pub use subsets::{Subsets, common};

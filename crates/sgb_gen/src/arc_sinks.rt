@@ -1,5 +1,6 @@
 //! Arcs that are handed out one by one, so that no list of them is kept.
 ghost use Rattle.std.specs.Prelude.{◌≡◌, ℕ, List, [], ◌∷◌, pos, length, OnOk};
+ghost use Rattle.sgb_vec.specs.Boxes.{box};
 ghost use Rattle.sgb_gen.specs.ArcSinks.{AreGiven};
 ghost use Rattle.sgb_gen.specs.LocalLists.{LocalArc};
 ghost use Rattle.sgb_gen.specs.Spans.{arcs_of_span};
@@ -16,8 +17,8 @@ pub trait ArcSink<R, S> {
     // How many entries the vectors have where the arcs lead.
     ghost width: { Self → ℕ };
 
-    // It takes the arcs of this vector.
-    ghost at: { Self → List ℕ → Type 0 };
+    // It takes the arcs of this vector, which is one of these vectors.
+    ghost at: { Self → List (List ℕ) → List ℕ → Type 0 };
 
     // What is needed before an arc is put.
     ghost ready: { Self → R → S → Type 0 };
@@ -46,7 +47,7 @@ pub trait ArcSink<R, S> {
         room: &mut R,
         out: &mut S,
     ) -> Result<(), Self::Fault>
-        requires at { at self.now span.now.x }
+        requires at { at self.now (box span.now.sizes) span.now.x }
         requires width { length span.now.x ≡ width self.now }
         requires ready { ready self.now room.old out.old }
         ensures given { AreGiven (took self.now) (cut self.now) room.old out.old

@@ -30,7 +30,7 @@ impl ArcSink<Links, ()> for KeptArcs {
 
     ghost width = { λ s. s.width };
 
-    ghost at = { λ _ _. ⊤ };
+    ghost at = { λ _ _ _. ⊤ };
 
     ghost ready = { λ s links _. links.width ≡ s.width };
 

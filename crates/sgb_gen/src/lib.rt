@@ -40,10 +40,7 @@ mod vector_places;
 // What is done with a generator's graph, whichever generator it is of.
 mod visits;
 
-pub use accepted::{
-    Board, BoardLists, FlatLists, OrderedBoard, Simplex, Stride, StridedBoard, Strides, Subsets,
-    common,
-};
+pub use accepted::{Board, BoardLists, OrderedBoard, Simplex, Subsets, common};
 pub use arc_sinks::ArcSink;
 pub use counted_places::CountedPlaces;
 pub use generators::{board, simplex, subsets};
@@ -57,6 +54,6 @@ pub use local_lists::LocalLists;
 pub use locals::{Local, local_of};
 pub use params::{BoardParams, Generator, SimplexParams, SubsetsParams};
 pub use shorthands::{circuit, complete, cycle, disjoint_subsets, empty, petersen, transitive};
-pub use spans::Span;
+pub use spans::{Span, SpanTips};
 pub use vector_places::VectorPlaces;
 pub use visits::{Visit, Visitor};

@@ -4,8 +4,7 @@
 //! `BoardLists`, or by an `OrderedBoard`, which has room for a start, so that nothing after it wants memory. Both make a table only
 //! in `prepare`: names, sizes, where a listing begins and the number of arcs take none. That moves have their ends among the
 //! vectors is a clause of `family` and no law: its proof would have to stand with the definitions.
-ghost use Rattle.std.specs.Prelude.{◌≡◌, ◌⊎◌, ◌≤◌, ◌<◌, ◌^◌, length, map, pos, slice_get, true, false, All, Contains, IfErr, IfNone, IfOk, IfSome, IsOk, OnOk, IsOkUnless, Some};
-ghost use Rattle.sgb_graph.specs.Graphs.{chain_of};
+ghost use Rattle.std.specs.Prelude.{◌≡◌, ◌⊎◌, ◌≤◌, ◌<◌, ◌^◌, length, pos, true, false, All, Contains, IfErr, IfNone, IfOk, IfSome, IsOk, OnOk, IsOkUnless};
 ghost use Rattle.sgb_graph.specs.Made.{graph_described};
 ghost use Rattle.sgb_gen.specs.ArcSinks.{AreGiven};
 ghost use Rattle.sgb_gen.specs.Boards.{board_vector_graph};
@@ -14,8 +13,11 @@ ghost use Rattle.sgb_gen.specs.Simplexes.{simplex_vector_graph};
 ghost use Rattle.sgb_gen.specs.Sorts.{Sort, of_board, of_ordered_board, of_simplex, of_subsets};
 ghost use Rattle.sgb_gen.specs.Subsets.{subsets_vector_graph};
 ghost use Rattle.sgb_gen.specs.VectorGraphs.{HasEnds, HasUnitToMove, VectorGraph, described_by, vertex_among};
+// For the search alone.
+ghost use Rattle.std.specs.Prelude.{map, slice_get, Some};
+ghost use Rattle.sgb_graph.specs.Graphs.{chain_of};
 
-use crate::accepted::{BoardLists, OrderedBoard, Simplex, Strides, Subsets};
+use crate::accepted::{BoardLists, OrderedBoard, Simplex, Subsets};
 use crate::arc_sinks::ArcSink;
 use crate::counted_places::CountedPlaces;
 use crate::links::Links;
@@ -102,7 +104,7 @@ pub trait Listed<'a> {
         out: &mut S,
     ) -> Result<Result<(), K::Fault>, Panic>
         requires member { Contains (graph self.old).vectors x.now }
-        requires at { K.at sink.now x.now }
+        requires at { K.at sink.now (graph self.old).vectors x.now }
         requires width { K.width sink.now ≡ length x.now }
         requires ready { K.ready sink.now room.old out.old }
         ensures given { IfOk result (AreGiven (K.took sink.now) (K.cut sink.now) room.old out.old
@@ -122,16 +124,6 @@ pub trait Listed<'a> {
         ensures count { IfSome result (λ m. m ≡ length (list_in (graph self.now) x.now)) }
         ensures counted { counted self.now
             → IfNone result (2 ^ 64 ≤ length (list_in (graph self.now) x.now)) };
-
-    /// The list of vertex `v`, which is that of `x`, by the vertices where its arcs lead, where it can be had so: no vector of
-    /// theirs is then made. No memory is taken.
-    fn strides<'b>(&'b self, x: &'b [u32], v: u32) -> Option<Strides<'b>>
-        requires { slice_get (graph self.now).vectors v ≡ Some x.now }
-        ensures vertex { IfSome result (λ s. s.vertex ≡ v) }
-        ensures tips { IfSome result (λ s. s.tips ≡ map (λ l. l.tip)
-            (chain_of (graph_described (described_by (graph self.now))) v)) }
-        ensures lengths { IfSome result (λ s. s.lengths ≡ map (λ l. l.len)
-            (chain_of (graph_described (described_by (graph self.now))) v)) };
 
     /// The vectors, each found at once: those of a board by their entries, others by counts that are kept; made for a run, where
     /// many are looked for. `None` where the counts want more than a megabyte, or out of memory. The memory is from where that of
@@ -195,10 +187,6 @@ impl<'a> Listed<'a> for BoardLists<'a> {
         BoardLists::count_at(self, x)
     }
 
-    fn strides<'b>(&'b self, x: &'b [u32], v: u32) -> Option<Strides<'b>> {
-        BoardLists::strides(self, x, v)
-    }
-
     fn places(&self, _links: &Links) -> Option<&'a BoxFamily> {
         Some(self.board.family())
     }
@@ -258,10 +246,6 @@ impl<'a> Listed<'a> for OrderedBoard<'a> {
         self.lists.count_at(x)
     }
 
-    fn strides<'b>(&'b self, _x: &'b [u32], _v: u32) -> Option<Strides<'b>> {
-        None
-    }
-
     fn places(&self, _links: &Links) -> Option<&'a BoxFamily> {
         Some(self.lists.board.family())
     }
@@ -316,10 +300,6 @@ impl<'a> Listed<'a> for &'a Simplex {
     }
 
     fn count_at(&self, _x: &[u32]) -> Option<u64> {
-        None
-    }
-
-    fn strides<'b>(&'b self, _x: &'b [u32], _v: u32) -> Option<Strides<'b>> {
         None
     }
 
@@ -378,10 +358,6 @@ impl<'a> Listed<'a> for &'a Subsets {
 
     fn count_at(&self, x: &[u32]) -> Option<u64> {
         (**self).count_at(x)
-    }
-
-    fn strides<'b>(&'b self, _x: &'b [u32], _v: u32) -> Option<Strides<'b>> {
-        None
     }
 
     fn places(&self, links: &Links) -> Option<CountedPlaces<'a>> {

@@ -150,7 +150,7 @@ impl<'a> LocalLists<'a> {
         out: &mut S,
     ) -> Result<Result<(), K::Fault>, Panic>
         requires member { Contains (vectors_of self.now) x.now }
-        requires at { K.at sink.now x.now }
+        requires at { K.at sink.now (vectors_of self.now) x.now }
         requires width { K.width sink.now ≡ length x.now }
         requires ready { K.ready sink.now room.old out.old }
         ensures given { IfOk result (AreGiven (K.took sink.now) (K.cut sink.now) room.old out.old

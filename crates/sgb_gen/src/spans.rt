@@ -2,14 +2,17 @@
 //!
 //! Each list of a board is spans, one after another, but where the moves of a rider want a sort. A taker of arcs that knows the
 //! vector needs to look at the moved coordinates alone.
-ghost use Rattle.std.specs.Prelude.{◌≡◌, ◌+◌, ◌-◌, ◌<◌, ◌≤◌, length, reverse, slice_get, Some, unwrap_or};
+ghost use Rattle.std.specs.Prelude.{◌≡◌, ◌+◌, ◌-◌, ◌<◌, ◌≤◌, length, reverse, slice_get, Contains, IfSome, Some, unwrap_or};
 ghost use Rattle.std.specs.List.{range_with_len};
+ghost use Rattle.sgb_vec.specs.Boxes.{box};
 ghost use Rattle.sgb_vec.specs.Lexicographic.{IsBelow};
 ghost use Rattle.sgb_vec.specs.Limits.{most_dimensions};
 ghost use Rattle.sgb_moves.specs.MovedCoordinates.{part_at, parts_put};
-ghost use Rattle.sgb_gen.specs.Spans.{AreMoved};
-ghost use Rattle.sgb_gen.specs.inner.Spans.{IsBesides};
+ghost use Rattle.sgb_gen.specs.Spans.{AreMoved, FallBy};
+ghost use Rattle.sgb_gen.specs.VectorGraphs.{vertex_among};
+ghost use Rattle.sgb_gen.specs.inner.Spans.{IsBesides, LeadBack, LeadOn};
 
+use crate::vector_places::VectorPlaces;
 use sgb_moves::{Part, Step, part_at, put_parts, put_vector};
 use sgb_vec::Vector;
 use std::marker::Model;
@@ -25,14 +28,26 @@ pub struct Span<'b> {
     from: u32,
     to: u32,
     rising: bool,
+    // How many places a unit of length leads among the vertices, where that is known: back where the lengths rise, and else on.
+    stride: Option<u32>,
+}
+
+/// Where the arcs of a span lead: to the first vertex, and then to one that is so many places before the last one.
+#[derive(Clone, Copy, Drop)]
+pub struct SpanTips {
+    /// The first one.
+    pub first: u32,
+    /// How many places.
+    pub stride: u32,
 }
 
 impl<'b> Model for Span<'b> {
-    ghost use Rattle.std.specs.Prelude.{◌≤◌, length};
+    ghost use Rattle.std.specs.Prelude.{◌≤◌, length, IfSome};
+    ghost use Rattle.std.specs.Bool.{OnFalse, OnTrue};
     ghost use Rattle.sgb_vec.specs.Lexicographic.{IsBelow};
     ghost use Rattle.sgb_vec.specs.Limits.{most_dimensions};
     ghost use Rattle.sgb_gen.specs.Spans.{AreMoved, SpanData};
-    ghost use Rattle.sgb_gen.specs.inner.Spans.{lengths_between};
+    ghost use Rattle.sgb_gen.specs.inner.Spans.{LeadBack, LeadOn, lengths_between};
 
     ghost Value = { SpanData };
 
@@ -47,11 +62,13 @@ impl<'b> Model for Span<'b> {
     ghost invariant = { λ s. IsBelow s.x.now s.sizes.now
         × AreMoved (length s.x.now) s.parts.now
         × (length s.x.now ≤ most_dimensions)
-        × (s.from ≤ s.to) };
+        × (s.from ≤ s.to)
+        × OnTrue s.rising (IfSome s.stride (LeadBack s.sizes.now s.wrap s.x.now s.parts.now s.to))
+        × OnFalse s.rising (IfSome s.stride (LeadOn s.sizes.now s.wrap s.x.now s.parts.now s.to)) };
 }
 
 impl<'b> Span<'b> {
-    // The arcs of `x` by `t` of the lengths above `from` up to `to`, the shortest first.
+    // The arcs of `x` of the lengths above `from` up to `to`, the shortest first; and how many places back a unit of length leads.
     pub(crate) fn rising(
         sizes: &'b [u32],
         wrap: i64,
@@ -59,11 +76,13 @@ impl<'b> Span<'b> {
         parts: &'b [Part],
         from: u32,
         to: u32,
+        stride: Option<u32>,
     ) -> Span<'b>
         requires below { IsBelow x.now sizes.now }
         requires moved { AreMoved (length x.now) parts.now }
         requires few { length x.now ≤ most_dimensions }
         requires order { from ≤ to }
+        requires stride { IfSome stride (LeadBack sizes.now wrap x.now parts.now to) }
         ensures { result ≡ record {
           sizes = sizes.now;
           wrap = wrap;
@@ -80,20 +99,23 @@ impl<'b> Span<'b> {
             from,
             to,
             rising: true,
+            stride,
         }
     }
 
-    // Those of the lengths from `to` down to 1.
+    // Those of the lengths from `to` down to 1; and how many places on a unit of length leads.
     pub(crate) fn falling(
         sizes: &'b [u32],
         wrap: i64,
         x: &'b [u32],
         parts: &'b [Part],
         to: u32,
+        stride: Option<u32>,
     ) -> Span<'b>
         requires below { IsBelow x.now sizes.now }
         requires moved { AreMoved (length x.now) parts.now }
         requires few { length x.now ≤ most_dimensions }
+        requires stride { IfSome stride (LeadOn sizes.now wrap x.now parts.now to) }
         ensures { result ≡ record {
           sizes = sizes.now;
           wrap = wrap;
@@ -110,6 +132,7 @@ impl<'b> Span<'b> {
             from: 0,
             to,
             rising: false,
+            stride,
         }
     }
 
@@ -149,6 +172,63 @@ impl<'b> Span<'b> {
             0 }
     {
         part_at(self.sizes, self.wrap, self.x, l, k, amount).unwrap_or(0)
+    }
+
+    /// Where its arcs lead, where they are the arcs of vertex `v` and the vertices are known to be equally far apart. `None` where
+    /// they are not, or where there is no arc.
+    #[inline(always)]
+    pub fn tips(&self, v: u32) -> Option<SpanTips>
+        requires { slice_get (box self.now.sizes) v ≡ Some self.now.x }
+        ensures { IfSome result (λ t. FallBy self.now t.first t.stride) }
+    {
+        let stride = self.stride?;
+        if self.from == self.to {
+            return None;
+        }
+        let first = if self.rising {
+            v - (self.from + 1) * stride
+        } else {
+            v + self.to * stride
+        };
+        Some(SpanTips { first, stride })
+    }
+
+    /// The vertex where arc number `k`, of length `l`, leads: by `tips` where these are known; else it is found by its vector, for
+    /// which `there` is room.
+    #[inline(always)]
+    pub fn tip_among<P: VectorPlaces>(
+        &self,
+        places: &P,
+        tips: &Option<SpanTips>,
+        k: u32,
+        l: u32,
+        there: &mut Vector,
+    ) -> u32
+        requires places { P.vectors places.now ≡ box self.now.sizes }
+        requires tips { IfSome tips.now (λ t. FallBy self.now t.first t.stride) }
+        requires length { slice_get self.now.lengths k ≡ Some l }
+        ensures { Contains (box self.now.sizes) (parts_put self.now.sizes self.now.wrap self.now.x l
+            self.now.parts self.now.x)
+            → result ≡ vertex_among (box self.now.sizes) (parts_put self.now.sizes self.now.wrap
+            self.now.x l self.now.parts self.now.x) }
+    {
+        match tips {
+            Some(tips) => tips.first - k * tips.stride,
+            None => self.tip_found(places, l, there),
+        }
+    }
+
+    // The vertex where the arc of length `l` leads, found by its vector.
+    fn tip_found<P: VectorPlaces>(&self, places: &P, l: u32, there: &mut Vector) -> u32
+        requires { P.vectors places.now ≡ box self.now.sizes }
+        ensures { Contains (box self.now.sizes) (parts_put self.now.sizes self.now.wrap self.now.x l
+            self.now.parts self.now.x)
+            → result ≡ vertex_among (box self.now.sizes) (parts_put self.now.sizes self.now.wrap
+            self.now.x l self.now.parts self.now.x) }
+    {
+        self.put_start(there);
+        self.put_tip(l, there);
+        places.place_if_there(there.as_slice())
     }
 
     // Puts the vector itself into `there`.

@@ -1,5 +1,5 @@
 -- The events of arcs that are handed out one by one: of a list of a graph of events they are those of the arcs taken of it.
-use Rattle.sgb_vec.proofs.Common.{rules, ◌≡◌, ◌∙◌, ◌+◌, ◌≤◌, ◌<◌, ◌==◌, ℕ, ℤ, pos, min, max, Bool, true, false, not, ◌&&◌, ◌||◌, List, [], ◌∷◌, ◌++◌, map, filter, length, refl, sym, ap, ap₂, subst, Result, Ok, Err, Some, arith, All, Contains, OnOk, IsOkUnless, nat_le, nat_lt, if◌then◌else◌, slice_get, slice_get_within, get_or_from_slice_get, eq-eqb, ne_eqb, lt-ltb, le-ltb, le-leb, leb-false, filter-append, All-weaker, nat_tests, cond_both}
+use Rattle.sgb_vec.proofs.Common.{rules, ◌≡◌, ◌∙◌, ◌+◌, ◌≤◌, ◌<◌, ◌==◌, ℕ, ℤ, pos, min, max, Bool, true, false, not, ◌&&◌, ◌||◌, List, [], ◌∷◌, ◌++◌, map, filter, length, refl, sym, ap, ap₂, subst, Result, Ok, Err, Some, arith, All, Contains, OnOk, IsOkUnless, nat_le, nat_lt, if◌then◌else◌, slice_get, slice_get_within, get_or_from_slice_get, eq-eqb, ne_eqb, lt-ltb, le-ltb, le-leb, leb-false, filter-append, All-map, All-tail, All-weaker, append-nil, get_or, nat_tests, cond_both}
 use Rattle.sgb_vec.specs.declared.panics.Panic.{Panic}
 use Rattle.sgb_vec.specs.declared.panics.Panic.TheVariants.{NoRoom}
 use Rattle.sgb_graph.specs.Events.{Event, links_at, list_from, list_of, records_of}
@@ -7,7 +7,14 @@ use Rattle.sgb_graph.specs.Graphs.{GraphData, chain_of}
 use Rattle.sgb_graph.specs.Growth.{link}
 use Rattle.sgb_graph.specs.Made.{graph_described}
 use Rattle.sgb_graph.specs.declared.fields.Link.{Link}
+use Rattle.std.specs.Prelude.{IfNone, IfSome, None, Option}
+use Rattle.std.specs.Bool.{OnTrue}
+use Rattle.std.proofs.Common.{true≢false}
+use Rattle.std.proofs.lemmas.Bool.{OnTrue_at}
+use Rattle.std.proofs.lemmas.Option.{slice_get-get_or}
+use Rattle.sgb_vec.specs.Boxes.{box}
 use Rattle.sgb_gen.specs.ArcSinks.{AreGiven}
+use Rattle.sgb_gen.specs.Spans.{FallBy, SpanData, arc_along, arcs_of_span}
 use Rattle.sgb_gen.specs.LocalLists.{LocalArc, list_in}
 use Rattle.sgb_gen.specs.VectorGraphs.{VectorGraph, described_by, event_among, vertex_among}
 use Rattle.sgb_gen.proofs.ListedGraphs.{IsOfFamily}
@@ -118,6 +125,48 @@ one_kept directed once v n second l = by_loop (once && (l.tip == v)) second
     by_loop true true = refl
     by_loop true false = by_test (directed || nat_le v l.tip) (nat_lt l.tip n)
     by_loop false own = by_test (directed || nat_le v l.tip) (nat_lt l.tip n)
+
+-- a test that fails, and another one
+both_fail : (a b : Bool) → b ≡ false → (a && b) ≡ false
+both_fail true b no = no
+both_fail false b no = refl
+
+-- for an undirected result nothing is kept of arcs to earlier vertices
+earlier_left : (once : Bool) (v n : ℕ) (second : Bool) (links : List Link) → All (λ l. l.tip < v) links
+    → (events_kept false once v n second links ≡ []) × (second_after once v second links ≡ second)
+earlier_left once v n second [] all = (refl, refl)
+earlier_left once v n second (l ∷ links) all =
+    let rest = earlier_left once v n second links (All-tail (λ (k : Link). k.tip < v) l links all) in
+    let less : l.tip < v = all 0 l (omega arith) in
+    let apart : (once && (l.tip == v)) ≡ false = both_fail once (l.tip == v) (ne_eqb l.tip v (λ same. omega (arith, less, same))) in
+    let down : (nat_le v l.tip && nat_lt l.tip n) ≡ false = ap (λ b. b && nat_lt l.tip n) (leb-false v l.tip less) in (
+      ap (λ b. map (event_of v) (filter (is_wanted false v n) (if b then (if second then without_seconds once v false links else l ∷ without_seconds once v true links) else l ∷ without_seconds once v second links))) apart
+          ∙ (ap (λ b. map (event_of v) (if b then l ∷ filter (is_wanted false v n) (without_seconds once v second links) else filter (is_wanted false v n) (without_seconds once v second links))) down
+          ∙ rest.0),
+      ap (λ b. second_after once v (if b then not second else second) links) apart ∙ rest.1,
+    )
+
+-- so of a span whose arcs lead to earlier vertices
+before_taken : (vectors : List (List ℕ)) (once : Bool) (v n : ℕ) (second : Bool) (old : List Event) (s : SpanData) (first stride : ℕ) → vectors ≡ box s.sizes → FallBy s first stride → first < v
+    → TakesArcs vectors false once v n second old (arcs_of_span s) second old
+before_taken vectors once v n second old s first stride same falls less all =
+    let arc = arc_along s.sizes s.wrap s.x s.parts in
+    let earlier = All-map (λ (l : Link). l.tip < v) (link_among vectors) (arcs_of_span s)
+    (All-map (λ (a : LocalArc). vertex_among vectors a.tip < v) arc s.lengths
+    (λ k d h.
+    let l = get_or s.lengths k d in
+    let at = falls k l (slice_get-get_or s.lengths k d h) in
+    omega (arith, less, at, ap (λ vs. vertex_among vs (arc l).tip) same))) in
+    let left = earlier_left once v n second (map (link_among vectors) (arcs_of_span s)) earlier in
+    (sym (append-nil old) ∙ ap (λ es. old ++ es) (sym left.0), sym left.1)
+
+pub before_given : {T X : Type 0} (first stride : X → ℕ) (tips : Option X) (vectors : List (List ℕ)) (directed once : Bool) (v n : ℕ) (second : Bool) (old : List Event) (s : SpanData) (before : Bool) (y : T)
+    → directed ≡ false → before ≡ true → vectors ≡ box s.sizes → IfSome tips (λ t. FallBy s (first t) (stride t)) → IfSome tips (λ t. OnTrue before (first t < v)) → IfNone tips (before ≡ false)
+    → AreGiven {R = Bool} {S = List Event} {F = Panic} (λ own now arcs ended then. TakesArcs vectors directed once v n own now arcs ended then) (λ _ _ _ _ _ f. f ≡ NoRoom) second old (arcs_of_span s) second old (Ok y)
+before_given first stride (Some t) vectors directed once v n second old s before y edges yes same falls less none =
+    subst (λ b. TakesArcs vectors b once v n second old (arcs_of_span s) second old) (sym edges)
+    (before_taken vectors once v n second old s (first t) (stride t) same falls (OnTrue_at yes less))
+before_given first stride None vectors directed once v n second old s before y edges yes same falls less none = absurd (grind (arith, true≢false))
 
 -- it is taken, or found no memory: that left out too
 pub arc_given : {T : Type 0} (vectors : List (List ℕ)) (directed once : Bool) (v n w len : ℕ) (second after : Bool) (tip : List ℕ) (old new : List Event) (r : Result T Panic)

@@ -1,31 +1,24 @@
 //! The graphs that an operation reads, list by list.
 //!
-//! That of a generator need not be built: of a board with no side that wraps around each list is had by strides when it is read,
-//! and of any other the arcs are handed out one by one.
+//! That of a generator need not be built: the arcs of each list are handed out.
 ghost use Rattle.std.specs.Prelude.{◌≡◌, ◌<◌, ◌≤◌, ◌++◌, [], ◌∷◌, length, map, filter, nat_lt, if◌then◌else◌, All, OnOk, IfOk, IsOkUnless};
 ghost use Rattle.sgb_vec.specs.Limits.{most_vertices};
 ghost use Rattle.sgb_graph.specs.Graphs.{chain_of};
 ghost use Rattle.sgb_graph.specs.Made.{graph_described};
 ghost use Rattle.sgb_graph.specs.Vertices.{names_of};
-ghost use Rattle.sgb_gen.specs.Boards.{board_vector_graph};
 ghost use Rattle.sgb_gen.specs.Generators.{described};
-ghost use Rattle.sgb_gen.specs.VectorGraphs.{described_by};
 ghost use Rattle.sgb_taken.specs.Taken.{taken};
 ghost use Rattle.sgb_ops.specs.inner.Ends.{event_of};
 ghost use Rattle.sgb_taken.specs.inner.Ends.{link_of};
 ghost use Rattle.sgb_ops.specs.inner.Sources.{HasTips, bare, names_held};
 
-// The lists of a board with no side that wraps around.
-mod flat;
 // Those of any generator's graph.
 mod listed;
 
 use crate::operands::{VertexNames, names_of};
-pub(crate) use flat::push_event;
-use flat::{push_flat, put_flat};
 pub(crate) use listed::ListRoom;
 use listed::{push_listed, put_listed};
-use sgb_gen::{FlatLists, LocalLists};
+use sgb_gen::LocalLists;
 use sgb_graph::{Graph, Id, Link, Names};
 use sgb_taken::{Event, taken};
 use sgb_vec::Panic;
@@ -45,8 +38,6 @@ pub struct Source<'a> {
 enum SourceKind<'a> {
     // It is built.
     Built(&'a Graph),
-    // It is a board's, and not built.
-    Flat(&'a FlatLists<'a>),
     // It is a generator's, and not built.
     Listed(&'a LocalLists<'a>),
 }
@@ -68,16 +59,6 @@ impl<'a> Source<'a> {
         Source {
             kept: SourceKind::Built(graph),
             most_arcs: graph.records_len(),
-        }
-    }
-
-    /// The graph of a board that is not built.
-    pub fn flat(lists: &'a FlatLists<'a>) -> Source<'a>
-        ensures { result ≡ graph_described (described_by (board_vector_graph lists.now)) }
-    {
-        Source {
-            kept: SourceKind::Flat(lists),
-            most_arcs: 0,
         }
     }
 
@@ -108,7 +89,6 @@ impl<'a> Source<'a> {
     {
         match &self.kept {
             SourceKind::Built(graph) => graph.n(),
-            SourceKind::Flat(lists) => lists.size(),
             SourceKind::Listed(lists) => lists.size(),
         }
     }
@@ -119,7 +99,6 @@ impl<'a> Source<'a> {
     {
         match &self.kept {
             SourceKind::Built(graph) => graph.id(),
-            SourceKind::Flat(lists) => lists.id(),
             SourceKind::Listed(lists) => lists.id(),
         }
     }
@@ -134,7 +113,6 @@ impl<'a> Source<'a> {
     {
         match &self.kept {
             SourceKind::Built(graph) => names_of(alloc, graph),
-            SourceKind::Flat(lists) => lists.names(alloc),
             SourceKind::Listed(lists) => lists.names(alloc),
         }
     }
@@ -184,7 +162,6 @@ impl<'a> Source<'a> {
     {
         match &self.kept {
             SourceKind::Built(graph) => push_taken(events, graph, directed, v, n),
-            SourceKind::Flat(lists) => push_flat(events, lists, directed, v, n, room),
             SourceKind::Listed(lists) => push_listed(events, lists, directed, v, n, room),
         }
     }
@@ -228,11 +205,6 @@ impl<'a> Source<'a> {
         arcs.clear();
         match &self.kept {
             SourceKind::Built(graph) => push_links(arcs, graph, directed, v),
-            SourceKind::Flat(lists) => {
-                put_flat(events, lists, directed, v, room)?;
-                push_links_of(arcs, events)?;
-                Ok(())
-            }
             SourceKind::Listed(lists) => {
                 put_listed(events, lists, directed, v, room)?;
                 push_links_of(arcs, events)?;
@@ -281,11 +253,6 @@ impl<'a> Source<'a> {
         tips.clear();
         match &self.kept {
             SourceKind::Built(graph) => push_tips(tips, graph, v),
-            SourceKind::Flat(lists) => {
-                put_flat(events, lists, true, v, room)?;
-                push_tips_of(tips, events)?;
-                Ok(())
-            }
             SourceKind::Listed(lists) => {
                 put_listed(events, lists, true, v, room)?;
                 push_tips_of(tips, events)?;

@@ -35,7 +35,7 @@ impl<'n, W: Sink> ArcSink<Page, W> for ArcLines<'n> {
 
     ghost width = { λ s. length s.name.now };
 
-    ghost at = { λ s x. s.name.now ≡ x };
+    ghost at = { λ s _ x. s.name.now ≡ x };
 
     ghost ready = { λ s page out. (W.has_failed out ≡ false)
         × (length s.name.now ≤ most_dimensions + 1) };

@@ -3,8 +3,10 @@ ghost use Rattle.std.specs.Prelude.{◌≡◌, ◌+◌, length, IfErr, IfOk, IfS
 ghost use Rattle.sgb_graph.specs.Graphs.{chain_of};
 ghost use Rattle.sgb_arrays.specs.Fields.{HoldsInts, IsIntsRefusal, ints_of};
 ghost use Rattle.sgb_arrays.specs.OpenGraphs.{IsListed, graph_open};
-ghost use Rattle.sgb_arrays.specs.Runs.{AreNames, AreRows, AreTips, HaveNameLengths, HaveRowLengths, HaveTipLengths, IsFillRefusal, IsRunRefusal, IsSizeRefusal, IsThere, parts_of};
+ghost use Rattle.sgb_arrays.specs.Runs.{AreNames, AreRows, AreTips, HaveNameLengths, HaveRowLengths, HaveTipLengths, IsFillRefusal, IsSizeRefusal, IsThere, parts_of};
 ghost use Rattle.sgb_graph.specs.Vertices.{name_at};
+// For the search alone.
+ghost use Rattle.sgb_arrays.specs.Runs.{IsRunRefusal};
 
 use super::OpenGraph;
 use crate::fields::{fill_ints, fill_local_ints};
@@ -16,7 +18,6 @@ use crate::run_arcs::arcs_of_run;
 use crate::run_names::{names_len_of_run, names_of_run};
 use crate::run_rows::rows_with_room;
 use crate::runs::is_there;
-use crate::strided_rows::{arcs_of_strided_run, fill_strided_rows, fill_strided_tips};
 use sgb_gen::{Links, Local};
 use std::alloc::Global;
 
@@ -174,24 +175,6 @@ fn local_arcs_len(alloc: Global, local: &Local, first: u32, count: u32) -> Resul
             return Ok(arcs);
         }
     }
-    arcs_of_local_run(alloc, local, first, count)
-}
-
-// How many arcs are on the lists of a run, of a board by strides where they are had.
-fn arcs_of_local_run(alloc: Global, local: &Local, first: u32, count: u32) -> Result<u128, Wrong>
-    ensures arcs { IfOk result (λ m. IsThere (graph_open (OpenGraph.Listed local.now)) first count
-        × (m ≡ length (parts_of (chain_of (graph_open (OpenGraph.Listed local.now))) first
-        count))) }
-    ensures refused { IfErr result
-        (IsRunRefusal (graph_open (OpenGraph.Listed local.now)) first count) }
-{
-    if let Local::Board(board) = local {
-        let links = Links::new(alloc);
-        let lists = board.lists(&links);
-        if let Some(strided) = lists.strided() {
-            return arcs_of_strided_run(&strided, first, count);
-        }
-    }
     arcs_of_run(alloc, local, first, count)
 }
 
@@ -256,38 +239,6 @@ fn fill_local_rows(
         (IsListed (OpenGraph.Listed local.now) × (length starts.old ≡ count + 1)) why
         × (starts.new ≡ starts.old) × (tips.new ≡ tips.old) × (lengths.new ≡ lengths.old)) }
 {
-    if let Local::Board(board) = local {
-        let links = Links::new(alloc);
-        let lists = board.lists(&links);
-        if let Some(strided) = lists.strided() {
-            return fill_strided_rows(&strided, first, count, starts, tips, lengths);
-        }
-    }
-    fill_listed_rows(alloc, local, first, count, starts, tips, lengths)
-}
-
-// The same, by lists that are made first.
-fn fill_listed_rows(
-    alloc: Global,
-    local: &Local,
-    first: u32,
-    count: u32,
-    starts: &mut [u64],
-    tips: &mut [u32],
-    lengths: &mut [i64],
-) -> Result<(), Wrong>
-    ensures filled { OnOk result (IsThere (graph_open (OpenGraph.Listed local.now)) first count
-        × HaveRowLengths (graph_open (OpenGraph.Listed local.now)) first count
-        starts.old tips.old lengths.old
-        × AreRows (graph_open (OpenGraph.Listed local.now)) first count
-        starts.new tips.new lengths.new) }
-    ensures refused { IfErr result (λ why. IsFillRefusal (graph_open (OpenGraph.Listed local.now))
-        first count
-        (HaveRowLengths (graph_open (OpenGraph.Listed local.now)) first count
-        starts.old tips.old lengths.old)
-        (IsListed (OpenGraph.Listed local.now) × (length starts.old ≡ count + 1)) why
-        × (starts.new ≡ starts.old) × (tips.new ≡ tips.old) × (lengths.new ≡ lengths.old)) }
-{
     match rows_for(alloc, local, first, count, starts.len(), tips.len()) {
         Ok(rows) => rows.copy_to(starts, tips, lengths),
         Err(wrong) => Err(wrong),
@@ -296,37 +247,6 @@ fn fill_listed_rows(
 
 // The same without the lengths of the arcs.
 fn fill_local_tips(
-    alloc: Global,
-    local: &Local,
-    first: u32,
-    count: u32,
-    starts: &mut [u64],
-    tips: &mut [u32],
-) -> Result<(), Wrong>
-    ensures filled { OnOk result (IsThere (graph_open (OpenGraph.Listed local.now)) first count
-        × HaveTipLengths (graph_open (OpenGraph.Listed local.now)) first count
-        starts.old tips.old
-        × AreTips (graph_open (OpenGraph.Listed local.now)) first count
-        starts.new tips.new) }
-    ensures refused { IfErr result (λ why. IsFillRefusal (graph_open (OpenGraph.Listed local.now))
-        first count
-        (HaveTipLengths (graph_open (OpenGraph.Listed local.now)) first count
-        starts.old tips.old)
-        (IsListed (OpenGraph.Listed local.now) × (length starts.old ≡ count + 1)) why
-        × (starts.new ≡ starts.old) × (tips.new ≡ tips.old)) }
-{
-    if let Local::Board(board) = local {
-        let links = Links::new(alloc);
-        let lists = board.lists(&links);
-        if let Some(strided) = lists.strided() {
-            return fill_strided_tips(&strided, first, count, starts, tips);
-        }
-    }
-    fill_listed_tips(alloc, local, first, count, starts, tips)
-}
-
-// The same, by lists that are made first.
-fn fill_listed_tips(
     alloc: Global,
     local: &Local,
     first: u32,

@@ -1,7 +1,10 @@
 -- Arcs of a board's vertex by one displacement, evaluated.
-use Rattle.std.specs.Prelude.{◌≡◌, ℕ, ℤ, pos, negsuc, true, false, List, [], ◌∷◌, None, Some, refl}
+use Rattle.std.specs.Prelude.{◌≡◌, ◌+◌, ◌*◌, ℕ, ℤ, pos, negsuc, true, false, List, [], ◌∷◌, None, Some, refl, unwrap_or}
+use Rattle.std.proofs.Common.{zero, suc, ap, arith, subst}
+use Rattle.sgb_vec.specs.Boxes.{box}
 use Rattle.sgb_moves.specs.MovedCoordinates.{part_at, parts_of, parts_put}
-use Rattle.sgb_gen.specs.Spans.{SpanData, arc_along, arcs_of_span}
+use Rattle.sgb_gen.specs.Spans.{FallBy, SpanData, arc_along, arcs_of_span}
+use Rattle.sgb_gen.specs.VectorGraphs.{vertex_among}
 use Rattle.sgb_gen.specs.inner.Spans.{arcs_along, lengths_between}
 
 -- a board of 5 by 7, no side of which wraps around, and its vertex 1.3
@@ -84,3 +87,25 @@ span_of_nothing = refl
 -- around the first side, which wraps around
 pub span_around : arcs_of_span (record { sizes = 5 ∷ 7 ∷ []; wrap = pos 1; x = 1 ∷ 3 ∷ []; parts = (0, negsuc 0) ∷ []; lengths = 2 ∷ [] }) ≡ record { tip = 4 ∷ 3 ∷ []; len = pos 2 } ∷ []
 span_around = refl
+
+-- from vertex 10 two steps ahead and then one lead to 12 and 11
+pub falls_ahead : FallBy (span ((1, pos 1) ∷ []) (2 ∷ 1 ∷ [])) 12 1
+unfolding box
+falls_ahead zero l at = subst (λ m. vertex_among (box sizes) (parts_put sizes (pos 0) x m ((1, pos 1) ∷ []) x) + 0 * 1 ≡ 12) (ap (λ o. unwrap_or o 0) at) refl
+falls_ahead (suc zero) l at = subst (λ m. vertex_among (box sizes) (parts_put sizes (pos 0) x m ((1, pos 1) ∷ []) x) + 1 * 1 ≡ 12) (ap (λ o. unwrap_or o 0) at) refl
+falls_ahead (suc (suc k)) l at = absurd (cc)
+
+-- and one step back to 9, by whatever stride
+pub falls_back : FallBy (span ((1, negsuc 0) ∷ []) (1 ∷ [])) 9 7
+unfolding box
+falls_back zero l at = subst (λ m. vertex_among (box sizes) (parts_put sizes (pos 0) x m ((1, negsuc 0) ∷ []) x) + 0 * 7 ≡ 9) (ap (λ o. unwrap_or o 0) at) refl
+falls_back (suc k) l at = absurd (cc)
+
+-- not from another vertex, nor by another stride
+pub not_from_11 : FallBy (span ((1, pos 1) ∷ []) (2 ∷ 1 ∷ [])) 11 1 → ⊥
+unfolding box
+not_from_11 falls = let e : 12 ≡ 11 = falls 0 2 refl in absurd (omega (arith, e))
+
+pub not_by_2 : FallBy (span ((1, pos 1) ∷ []) (2 ∷ 1 ∷ [])) 12 2 → ⊥
+unfolding box
+not_by_2 falls = let e : 13 ≡ 12 = falls 1 1 refl in absurd (omega (arith, e))

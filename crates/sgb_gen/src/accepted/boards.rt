@@ -17,7 +17,6 @@ ghost use Rattle.sgb_moves.specs.inner.Moves.{destination, longest_move};
 mod board_lists;
 mod counts;
 mod edges;
-mod flat_boards;
 mod given;
 mod list_counts;
 mod lists;
@@ -25,7 +24,6 @@ mod ordered_boards;
 mod orders;
 mod rows;
 mod runs;
-mod strided_boards;
 mod strides;
 mod turns;
 
@@ -33,15 +31,12 @@ use crate::falling_displacements::FallingDisplacements;
 use crate::params::BoardParams;
 use crate::vector_graphs::{put_coordinates, vector_names};
 pub use board_lists::BoardLists;
-pub use flat_boards::FlatLists;
 pub use ordered_boards::OrderedBoard;
 use sgb_graph::{Graph, Id, IdWriter, Names};
 use sgb_moves::{Displacements, Parts, Step, entry_bounds, put_parts_of};
 use sgb_vec::{BoxFamily, Family, Panic, Shape, Vector, Vectors, board_sizes};
 use std::alloc::Global;
 use std::marker::Model;
-pub use strided_boards::StridedBoard;
-pub use strides::{Stride, Strides};
 
 // The piece of a board is at most this number, and at least its negative.
 const MOST_PIECE: u64 = 2_147_483_647;

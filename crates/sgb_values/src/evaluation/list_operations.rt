@@ -4,15 +4,16 @@ ghost use Rattle.sgb_vec.specs.Results.{IsValue};
 ghost use Rattle.sgb_vec.specs.declared.panics.Panic.{Panic};
 ghost use Rattle.sgb_graph.specs.Descriptions.{IsAnswerOf};
 ghost use Rattle.sgb_graph.specs.Made.{graph_described};
-ghost use Rattle.sgb_gen.specs.Boards.{board_vector_graph};
 ghost use Rattle.sgb_gen.specs.Generators.{IsGeneratorRefused, described, generator_value, made};
-ghost use Rattle.sgb_gen.specs.VectorGraphs.{described_by};
 ghost use Rattle.sgb_expr.specs.Expression.{Lines};
 ghost use Rattle.sgb_ops.specs.Induced.{induced_of};
 ghost use Rattle.sgb_values.specs.Values.{of_graph, of_graphs};
 ghost use Rattle.sgb_values.specs.inner.Operands.{graph_held, on_list, on_lists};
+// For the search alone.
+ghost use Rattle.sgb_gen.specs.Boards.{board_vector_graph};
+ghost use Rattle.sgb_gen.specs.VectorGraphs.{described_by};
 
-use sgb_gen::{FlatLists, Generator, Local, LocalLists, local_of};
+use sgb_gen::{Generator, Local, LocalLists, local_of};
 use sgb_graph::Graph;
 use sgb_ops::{
     KeptEntry, Source, complement_of, directed_lines_of, gunion_of, induced_of, intersection_of,
@@ -108,17 +109,6 @@ pub(crate) enum Operand {
 }
 
 impl Operand {
-    // What its lists have in common, where it is a board with no side that wraps around. `None` where it may be another graph.
-    fn flat_lists(&self, alloc: Global) -> Option<FlatLists<'_>>
-        ensures { IfSome result (λ b. graph_held self.now
-            ≡ graph_described (described_by (board_vector_graph b))) }
-    {
-        match self {
-            Operand::Listed(Local::Board(board)) => board.flat_lists(alloc),
-            _ => None,
-        }
-    }
-
     // What its lists have in common, where it is a generator's. `None` where that is not kept, or out of memory.
     fn lists(&self, alloc: Global) -> Option<LocalLists<'_>>
         ensures { IfSome result (λ l. graph_held self.now ≡ graph_described (described l)) }
@@ -172,8 +162,8 @@ pub(crate) fn generated_graph(alloc: Global, generator: &Generator) -> Result<Gr
     generator.graph(alloc)
 }
 
-/// The answer of an operation on an operand, which is then dropped. The lists of a generator's graph are read with no graph built:
-/// those of a board with no side that wraps around by strides, and others as they are handed out.
+/// The answer of an operation on an operand, which is then dropped. The lists of a generator's graph are read as
+/// they are handed out, with no graph built.
 ///
 /// The refusal of the operation, or `NoRoom` when out of memory. It stands by itself, as `answer_of` does.
 #[inline(never)]
@@ -184,9 +174,6 @@ pub(crate) fn answer_of_one(
 ) -> Result<Graph, Panic>
     ensures { IsAnswerOf (of_graph (on_list operation) (graph_held operand)) result }
 {
-    if let Some(lists) = operand.flat_lists(alloc) {
-        return operation.answer(alloc, &Source::flat(&lists));
-    }
     if let Some(lists) = operand.lists(alloc) {
         return operation.answer(alloc, &Source::listed(&lists));
     }
@@ -228,10 +215,6 @@ pub(crate) fn induced_of_operand(
     ensures { IsAnswerOf (induced_of (graph_held operand) entries.items self_loops multi directed)
         result }
 {
-    if let Some(lists) = operand.flat_lists(alloc) {
-        let source = Source::flat(&lists);
-        return induced_of(alloc, &source, entries, self_loops, multi, directed);
-    }
     if let Some(lists) = operand.lists(alloc) {
         let source = Source::listed(&lists);
         return induced_of(alloc, &source, entries, self_loops, multi, directed);
@@ -271,10 +254,6 @@ fn answer_of_two(
 {
     let second = operation.second(alloc, second)?;
     let most_arcs = first.most_arcs(alloc);
-    if let Some(lists) = first.flat_lists(alloc) {
-        let source = Source::flat(&lists).with_most_arcs(most_arcs);
-        return answer_with(alloc, operation, &source, second);
-    }
     if let Some(lists) = first.lists(alloc) {
         let source = Source::listed(&lists).with_most_arcs(most_arcs);
         return answer_with(alloc, operation, &source, second);
@@ -293,10 +272,6 @@ fn answer_with(
     ensures { IsAnswerOf (of_graphs (on_lists operation) first.now (graph_held second)) result }
 {
     let most_arcs = second.most_arcs(alloc);
-    if let Some(lists) = second.flat_lists(alloc) {
-        let source = Source::flat(&lists).with_most_arcs(most_arcs);
-        return operation.answer(alloc, first, &source);
-    }
     if let Some(lists) = second.lists(alloc) {
         let source = Source::listed(&lists).with_most_arcs(most_arcs);
         return operation.answer(alloc, first, &source);

@@ -13,7 +13,7 @@ ghost use Rattle.sgb_moves.specs.inner.EntryBounds.{displacements_within, entry_
 
 use super::Board;
 use super::runs::{have_runs, lead_onward, widest_of};
-use super::strides::strides_of;
+use super::strides::{have_strides, kept_strides, strides_of};
 use crate::arc_sinks::ArcSink;
 use crate::displacement_tables::DisplacementTable;
 use crate::kept_arcs::KeptArcs;
@@ -176,7 +176,7 @@ impl<'a> BoardLists<'a> {
         out: &mut S,
     ) -> Result<(), K::Fault>
         requires member { Contains (box self.now.sizes) x.now }
-        requires at { K.at sink.now x.now }
+        requires at { K.at sink.now (box self.now.sizes) x.now }
         requires width { K.width sink.now ≡ length x.now }
         requires ready { K.ready sink.now room.old out.old }
         ensures given { AreGiven (K.took sink.now) (K.cut sink.now) room.old out.old
@@ -189,7 +189,9 @@ impl<'a> BoardLists<'a> {
             Some(table) => {
                 let near = board.is_inside(x, self.widest);
                 if have_runs(self.straight, self.leaping, near) {
-                    return board.give_runs(x, table, near, sink, room, out);
+                    let flat = have_strides(self.straight, board.is_flat(), self.leaping, near);
+                    let strides = kept_strides(&self.strides, flat);
+                    return board.give_runs(x, table, strides, near, sink, room, out);
                 }
                 board.give_kept(x, table, self.in_order, starts, sink, room, out)
             }
@@ -209,7 +211,7 @@ impl<'a> BoardLists<'a> {
         out: &mut S,
     ) -> Result<Result<(), K::Fault>, Panic>
         requires member { Contains (box self.now.sizes) x.now }
-        requires at { K.at sink.now x.now }
+        requires at { K.at sink.now (box self.now.sizes) x.now }
         requires width { K.width sink.now ≡ length x.now }
         requires ready { K.ready sink.now room.old out.old }
         ensures given { IfOk result (AreGiven (K.took sink.now) (K.cut sink.now) room.old out.old

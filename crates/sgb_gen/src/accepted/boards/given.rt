@@ -3,7 +3,7 @@
 //!
 //! Where the arcs by a displacement come in order with no sort they are handed out as they are found; else their starts are
 //! sorted, as many as there is room for (`give_sorted`). No memory is wanted.
-ghost use Rattle.std.specs.Prelude.{◌≡◌, ◌+◌, ◌-◌, ◌≤◌, false, length, map, nat_abs, reverse, All, Contains, OnOk};
+ghost use Rattle.std.specs.Prelude.{◌≡◌, ◌+◌, ◌-◌, ◌≤◌, false, length, map, nat_abs, reverse, All, Contains, IfSome, OnOk};
 ghost use Rattle.std.specs.Bool.{OnFalse, OnTrue};
 ghost use Rattle.std.specs.List.{range_with_len};
 ghost use Rattle.sgb_vec.specs.Boxes.{box};
@@ -14,7 +14,7 @@ ghost use Rattle.sgb_gen.specs.LocalLists.{list_at};
 ghost use Rattle.sgb_moves.specs.MovedCoordinates.{parts_of};
 ghost use Rattle.sgb_moves.specs.Moves.{opposite, sides_of};
 ghost use Rattle.sgb_gen.specs.Spans.{arc_along, arcs_of_span};
-ghost use Rattle.sgb_gen.specs.inner.Spans.{arcs_along};
+ghost use Rattle.sgb_gen.specs.inner.Spans.{LeadBack, LeadOn, arcs_along};
 ghost use Rattle.sgb_moves.specs.inner.EntryBounds.{displacements_within, entry_bounds};
 ghost use Rattle.sgb_gen.specs.inner.LocalBoards.{arcs_onward, moves_by};
 ghost use Rattle.sgb_gen.specs.inner.StraightLists.{IsInOrder, NeedsNoSort, arcs_back};
@@ -44,7 +44,7 @@ impl Board {
         requires table { table.now ≡ displacements_within (nat_abs self.now.piece)
             (entry_bounds (nat_abs self.now.piece) (sides_of self.now.sizes self.now.wrap)) }
         requires sorted { OnTrue in_order (All (NeedsNoSort self.now) table.now) }
-        requires at { K.at sink.now x.now }
+        requires at { K.at sink.now (box self.now.sizes) x.now }
         requires width { K.width sink.now ≡ length x.now }
         requires ready { K.ready sink.now room.old out.old }
         ensures given { AreGiven (K.took sink.now) (K.cut sink.now) room.old out.old
@@ -76,7 +76,7 @@ impl Board {
         out: &mut S,
     ) -> Result<(), K::Fault>
         requires member { Contains (box self.now.sizes) x.now }
-        requires at { K.at sink.now x.now }
+        requires at { K.at sink.now (box self.now.sizes) x.now }
         requires width { K.width sink.now ≡ length x.now }
         requires ready { K.ready sink.now room.old out.old }
         ensures given { AreGiven (K.took sink.now) (K.cut sink.now) room.old out.old
@@ -120,7 +120,7 @@ impl Board {
         requires dimensions { length t.now ≡ length self.now.sizes }
         requires back { back.now ≡ opposite t.now }
         requires sorted { OnTrue in_order (NeedsNoSort self.now t.now) }
-        requires at { K.at sink.now x.now }
+        requires at { K.at sink.now (box self.now.sizes) x.now }
         requires width { K.width sink.now ≡ length x.now }
         requires ready { K.ready sink.now room.old out.old }
         ensures given { AreGiven (K.took sink.now) (K.cut sink.now) room.old out.old
@@ -171,7 +171,7 @@ impl Board {
         requires sorted { IsInOrder self.now t.now behind }
         requires behind { arcs_back self.now x.now back.now ≡ arcs_along self.now.sizes
             self.now.wrap x.now (parts_of back.now) behind }
-        requires at { K.at sink.now x.now }
+        requires at { K.at sink.now (box self.now.sizes) x.now }
         requires width { K.width sink.now ≡ length x.now }
         requires ready { K.ready sink.now room.old out.old }
         ensures given { AreGiven (K.took sink.now) (K.cut sink.now) room.old out.old
@@ -182,15 +182,16 @@ impl Board {
     {
         let near = self.lengths_near(x, t, behind);
         let ahead = self.lengths_by(x, t);
-        let around = self.span_from(x, back, near, behind);
+        let around = self.span_from(x, back, near, behind, None);
         sink.put_span(&around, there, room, out)?;
-        let onward = self.span_down(x, t, ahead);
+        let onward = self.span_down(x, t, ahead, None);
         sink.put_span(&onward, there, room, out)?;
-        let before = self.span_from(x, back, 0, near);
+        let before = self.span_from(x, back, 0, near, None);
         sink.put_span(&before, there, room, out)
     }
 
-    // The arcs from `x` by `t` of the lengths above `from` up to `to`, the shortest first.
+    // The arcs from `x` by `t` of the lengths above `from` up to `to`, the shortest first; and how many places back a unit of length
+    // leads, where that is known.
     #[inline(always)]
     pub(super) fn span_from<'b>(
         &'b self,
@@ -198,29 +199,40 @@ impl Board {
         t: &'b Step<'_>,
         from: u32,
         to: u32,
+        stride: Option<u32>,
     ) -> Span<'b>
         requires below { IsBelow x.now self.now.sizes }
         requires dimensions { length t.now ≡ length self.now.sizes }
         requires lengths { from ≤ to }
+        requires stride { IfSome stride (LeadBack self.now.sizes self.now.wrap x.now (parts_of t.now) to) }
         ensures vector { result.x ≡ x.now }
+        ensures sizes { result.sizes ≡ self.now.sizes }
         ensures arcs { arcs_of_span result ≡ map
             (arc_along self.now.sizes self.now.wrap x.now (parts_of t.now))
             (range_with_len (from + 1) (to - from)) }
     {
         prove!(self.sizes().len() == self.family.dims());
-        Span::rising(self.sizes(), self.wrap, x, t.parts(), from, to)
+        Span::rising(self.sizes(), self.wrap, x, t.parts(), from, to, stride)
     }
 
-    // Those of the lengths from `to` down to 1.
+    // Those of the lengths from `to` down to 1; and how many places on a unit of length leads, where that is known.
     #[inline(always)]
-    pub(super) fn span_down<'b>(&'b self, x: &'b [u32], t: &'b Step<'_>, to: u32) -> Span<'b>
+    pub(super) fn span_down<'b>(
+        &'b self,
+        x: &'b [u32],
+        t: &'b Step<'_>,
+        to: u32,
+        stride: Option<u32>,
+    ) -> Span<'b>
         requires below { IsBelow x.now self.now.sizes }
         requires dimensions { length t.now ≡ length self.now.sizes }
+        requires stride { IfSome stride (LeadOn self.now.sizes self.now.wrap x.now (parts_of t.now) to) }
         ensures vector { result.x ≡ x.now }
+        ensures sizes { result.sizes ≡ self.now.sizes }
         ensures arcs { arcs_of_span result ≡ reverse
             (arcs_along self.now.sizes self.now.wrap x.now (parts_of t.now) to) }
     {
         prove!(self.sizes().len() == self.family.dims());
-        Span::falling(self.sizes(), self.wrap, x, t.parts(), to)
+        Span::falling(self.sizes(), self.wrap, x, t.parts(), to, stride)
     }
 }

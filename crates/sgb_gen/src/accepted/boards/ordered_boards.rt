@@ -56,7 +56,7 @@ impl<'a> OrderedBoard<'a> {
         out: &mut S,
     ) -> Result<(), K::Fault>
         requires member { Contains (box self.old.sizes) x.now }
-        requires at { K.at sink.now x.now }
+        requires at { K.at sink.now (box self.old.sizes) x.now }
         requires width { K.width sink.now ≡ length x.now }
         requires ready { K.ready sink.now room.old out.old }
         ensures given { AreGiven (K.took sink.now) (K.cut sink.now) room.old out.old

@@ -6,42 +6,31 @@
 //! as much room on both sides as the greatest entry of a displacement. All moves of length 1 then stay on the board,
 //! which is looked at once for the vertex. What a yes of `is_inside` and of `lead_onward` means is proved, and not when
 //! it comes.
-ghost use Rattle.std.specs.Prelude.{◌≡◌, ◌<◌, ◌≤◌, ◌&&◌, ◌||◌, ℕ, length, nat_abs, pos, reverse, true, All, Contains, IfSome, OnOk};
+ghost use Rattle.std.specs.Prelude.{◌≡◌, ◌<◌, ◌≤◌, ◌&&◌, ◌||◌, ℕ, length, map, nat_abs, pos, reverse, slice_get, true, All, Contains, IfNone, IfSome, None, OnOk, Some};
 ghost use Rattle.std.specs.Bool.{OnTrue};
-ghost use Rattle.sgb_vec.specs.Boxes.{box};
+ghost use Rattle.sgb_vec.specs.Boxes.{box, product_of};
 ghost use Rattle.sgb_vec.specs.Lexicographic.{IsBelow};
+ghost use Rattle.sgb_vec.specs.Limits.{most_vertices};
 ghost use Rattle.sgb_gen.specs.ArcSinks.{AreGiven};
 ghost use Rattle.sgb_gen.specs.Boards.{moves_of_board};
 ghost use Rattle.sgb_gen.specs.LocalLists.{list_at};
 ghost use Rattle.sgb_moves.specs.MovedCoordinates.{parts_of};
-ghost use Rattle.sgb_moves.specs.Moves.{opposite, place, sides_of};
+ghost use Rattle.sgb_moves.specs.Moves.{place, sides_of};
 ghost use Rattle.sgb_gen.specs.inner.Spans.{arcs_along};
 ghost use Rattle.sgb_moves.specs.inner.EntryBounds.{displacements_within, entry_bounds};
 ghost use Rattle.sgb_moves.specs.inner.Moves.{destination, longest_move};
 ghost use Rattle.sgb_moves.specs.inner.MovedCoordinates.{IsInside, StayAtOne, parts_stay};
 ghost use Rattle.sgb_gen.specs.inner.LocalBoards.{arcs_onward, moves_by};
 ghost use Rattle.sgb_gen.specs.inner.StraightLists.{AreOnward, IsLeaper, IsRun, arcs_back, arcs_from};
+ghost use Rattle.sgb_gen.specs.inner.Strides.{LeadsByStride, stride_of};
+// For the search alone.
+ghost use Rattle.sgb_moves.specs.Moves.{opposite};
 
 use super::Board;
 use crate::arc_sinks::ArcSink;
 use crate::displacement_tables::{DisplacementTable, KeptPair};
 use sgb_moves::{Step, is_inside, leads_onward, reach_from};
 use sgb_vec::Vector;
-
-/// The arcs of a vertex by a displacement and its opposite: those ahead, of the lengths from `farthest` down to 1, and then
-/// those back, of the lengths from 1 up to `farthest_back`. Each coordinate that is moved stands with how far it goes for
-/// each unit of length.
-#[derive(Drop)]
-pub(super) struct Run<'b> {
-    /// The coordinates that are moved ahead.
-    pub(super) ahead: &'b [(usize, i32)],
-    /// The greatest length of an arc ahead.
-    pub(super) farthest: u32,
-    /// Those of `ahead`, moved back.
-    pub(super) back: &'b [(usize, i32)],
-    /// The greatest length of an arc back, or 0.
-    pub(super) farthest_back: u32,
-}
 
 impl Board {
     /// Whether the piece is a leaper, and all displacements in this table lead onward where no side wraps around.
@@ -74,39 +63,6 @@ impl Board {
         is_inside(self.sizes(), x, room)
     }
 
-    // The run of `x` by a displacement and its opposite.
-    pub(super) fn run_by<'b>(&self, x: &[u32], pair: &'b KeptPair, near: bool) -> Run<'b>
-        requires below { IsBelow x.now self.now.sizes }
-        requires dimensions { length pair.now ≡ length self.now.sizes }
-        requires run { IsRun self.now x.now pair.now }
-        requires near { OnTrue near (StayAtOne self.now.sizes self.now.wrap x.now pair.now) }
-        ensures ahead { result.ahead.now ≡ parts_of pair.now }
-        ensures farthest { arcs_from self.now x.now pair.now ≡ arcs_along self.now.sizes
-            self.now.wrap x.now (parts_of pair.now) result.farthest }
-        ensures back { result.back.now ≡ parts_of (opposite pair.now) }
-        ensures farthest_back { arcs_back self.now x.now (opposite pair.now) ≡ arcs_along
-            self.now.sizes self.now.wrap x.now (parts_of (opposite pair.now))
-            result.farthest_back }
-        ensures stay { (l : ℕ) → 0 < l → l ≤ result.farthest
-            → parts_stay self.now.sizes self.now.wrap x.now l (parts_of pair.now) ≡ true }
-        ensures stay_back { (l : ℕ) → 0 < l → l ≤ result.farthest_back
-            → parts_stay self.now.sizes self.now.wrap x.now l (parts_of (opposite pair.now))
-            ≡ true }
-        ensures within { result.farthest
-            ≤ longest_move (sides_of self.now.sizes self.now.wrap) self.now.piece }
-        ensures within_back { result.farthest_back
-            ≤ longest_move (sides_of self.now.sizes self.now.wrap) self.now.piece }
-    {
-        let ahead = pair.ahead();
-        let back = pair.back();
-        Run {
-            farthest: self.farthest(x, &ahead, near),
-            farthest_back: self.farthest_back(x, &back, near),
-            ahead: ahead.into_parts(),
-            back: back.into_parts(),
-        }
-    }
-
     // How far the moves from `x` by `t` lead, where these never come home.
     #[inline(always)]
     pub(super) fn farthest(&self, x: &[u32], t: &Step, near: bool) -> u32
@@ -123,6 +79,7 @@ impl Board {
             → parts_stay self.now.sizes self.now.wrap x.now l (parts_of t.now) ≡ true }
         ensures within { result
             ≤ longest_move (sides_of self.now.sizes self.now.wrap) self.now.piece }
+        ensures few { product_of self.now.sizes ≤ most_vertices }
     {
         reach_from(
             near,
@@ -157,11 +114,13 @@ impl Board {
     }
 
     // Hands the arcs of the vertex of `x` to a sink, run by run, by the displacements in a table, of which no entry is greater than
-    // `widest`: where all of them lead to later vectors (`straight`), or those of a leaper do (`leaping`) and no side is near.
+    // `widest`: where all of them lead to later vectors (`straight`), or those of a leaper do (`leaping`) and no side is near. The
+    // strides tell how many places each of them leads on, where no side is crossed that wraps around.
     pub(super) fn give_runs<K: ArcSink<R, S>, R, S>(
         &self,
         x: &[u32],
         table: &DisplacementTable,
+        strides: Option<&[u32]>,
         near: bool,
         sink: &K,
         room: &mut R,
@@ -173,7 +132,9 @@ impl Board {
         requires runs { All (IsRun self.now x.now) table.now }
         requires near { OnTrue near
             (All (StayAtOne self.now.sizes self.now.wrap x.now) table.now) }
-        requires at { K.at sink.now x.now }
+        requires strides { IfSome strides (λ s. map pos s.now ≡ map (stride_of self.now.sizes) table.now) }
+        requires leads { IfSome strides (λ _. All (LeadsByStride self.now x.now) table.now) }
+        requires at { K.at sink.now (box self.now.sizes) x.now }
         requires width { K.width sink.now ≡ length x.now }
         requires ready { K.ready sink.now room.old out.old }
         ensures given { AreGiven (K.took sink.now) (K.cut sink.now) room.old out.old
@@ -183,17 +144,19 @@ impl Board {
     {
         let mut there = Vector::new();
         for k in (0..table.len()).rev() {
-            self.give_run(x, table.at(k), near, &mut there, sink, room, out)?;
+            let stride = stride_kept(strides, k);
+            self.give_run(x, table.at(k), stride, near, &mut there, sink, room, out)?;
         }
         Ok(())
     }
 
-    // Hands out those by a displacement and its opposite.
+    // Hands out those by a displacement, which leads so many places on where that is known, and its opposite.
     #[inline(always)]
     fn give_run<K: ArcSink<R, S>, R, S>(
         &self,
         x: &[u32],
         pair: &KeptPair,
+        stride: Option<u32>,
         near: bool,
         there: &mut Vector,
         sink: &K,
@@ -204,7 +167,9 @@ impl Board {
         requires dimensions { length pair.now ≡ length self.now.sizes }
         requires run { IsRun self.now x.now pair.now }
         requires near { OnTrue near (StayAtOne self.now.sizes self.now.wrap x.now pair.now) }
-        requires at { K.at sink.now x.now }
+        requires stride { IfSome stride (λ s. pos s ≡ stride_of self.now.sizes pair.now) }
+        requires leads { IfSome stride (λ _. LeadsByStride self.now x.now pair.now) }
+        requires at { K.at sink.now (box self.now.sizes) x.now }
         requires width { K.width sink.now ≡ length x.now }
         requires ready { K.ready sink.now room.old out.old }
         ensures given { AreGiven (K.took sink.now) (K.cut sink.now) room.old out.old
@@ -215,12 +180,22 @@ impl Board {
     {
         let (t, back) = (pair.ahead(), pair.back());
         let farthest = self.farthest(x, &t, near);
-        let onward = self.span_down(x, &t, farthest);
+        let onward = self.span_down(x, &t, farthest, stride);
         sink.put_span(&onward, there, room, out)?;
         let behind = self.farthest_back(x, &back, near);
-        let before = self.span_from(x, &back, 0, behind);
+        let before = self.span_from(x, &back, 0, behind, stride);
         sink.put_span(&before, there, room, out)
     }
+}
+
+// The stride of displacement number `k`, where strides are known.
+#[inline(always)]
+fn stride_kept(strides: Option<&[u32]>, k: usize) -> Option<u32>
+    ensures kept { IfSome result (λ r. IfSome strides.entry (λ s. slice_get s.now k ≡ Some r)) }
+    ensures none { IfNone strides.entry (result ≡ None) }
+{
+    let kept = strides?;
+    kept.get(k).copied()
 }
 
 // Whether lists are had so: all of them, or those of vertices that no side is near.

@@ -103,7 +103,7 @@ impl ArcSink<u64, ()> for ArcCounter {
 
     ghost width = { λ s. s.width };
 
-    ghost at = { λ _ _. ⊤ };
+    ghost at = { λ _ _ _. ⊤ };
 
     ghost ready = { λ _ _ _. ⊤ };
 

@@ -1,14 +1,17 @@
-use Rattle.std.proofs.Common.{◌≡◌, ◌<◌, ℕ, All, length, map, pos, subst, sym, arith}
-use Rattle.sgb_vec.specs.Boxes.{box}
-use Rattle.sgb_vec.proofs.BoxPlaces.{length-box}
-use Rattle.sgb_graph.specs.Graphs.{chain_of}
-use Rattle.sgb_graph.specs.declared.fields.Link.{Link}
-use Rattle.sgb_gen.specs.Boards.{BoardData}
-use Rattle.sgb_arrays.specs.inner.StridedRows.{graph_of_board}
+use Rattle.std.proofs.Common.{length}
+use Rattle.std.specs.Prelude.{◌≡◌, ◌+◌}
+use Rattle.std.proofs.lemmas.Result.{on_ok_weaker}
+use Rattle.sgb_arrays.specs.OpenGraphs.{IsListed, graph_open}
+use Rattle.sgb_arrays.proofs.CopiedRuns.{rows_copied, rows_refused}
+use Rattle.sgb_arrays.specs.declared.open_graphs.OpenGraph.TheVariants.{Listed}
 use Rattle.sgb_arrays.proofs.open_graphs.open_runs.fill_local_rows.Goals as goal
 
-pub fill_strided_rows-requires : goal.fill_strided_rows-requires
-fill_strided_rows-requires c = record {
-  ones = subst (λ (b : BoardData). (v : ℕ) → v < length (box b.sizes) → All (λ n. n ≡ pos 1) (map (λ (l : Link). l.len) (chain_of (graph_of_board b) v))) (sym c.in-Some.ensures.board)
-      (λ v within. c.in-Some.ensures.ones v (omega (arith, within, length-box c.lists-lists.result.sizes)));
-}
+pub returns-in-Ok-clause-filled : goal.returns-in-Ok-clause-filled
+returns-in-Ok-clause-filled c =
+    let (there, are) = c.in-Ok.ensures.rows in
+    on_ok_weaker c.copy_to.result (rows_copied (graph_open (Listed c.args.local.now)) c.args.first c.args.count c.in-Ok.rows are c.args.starts.now c.args.tips.now c.args.lengths.now c.copy_to.new.starts c.copy_to.new.tips c.copy_to.new.lengths there) c.copy_to.ensures.copied
+
+pub returns-in-Ok-clause-refused : goal.returns-in-Ok-clause-refused
+returns-in-Ok-clause-refused c =
+    let (there, are) = c.in-Ok.ensures.rows in
+    rows_refused (graph_open (Listed c.args.local.now)) c.args.first c.args.count c.in-Ok.rows are c.args.starts.now c.args.tips.now c.args.lengths.now (IsListed (Listed c.args.local.now) × (length c.args.starts.now ≡ c.args.count + 1)) c.copy_to.result c.copy_to.new.starts c.copy_to.new.tips c.copy_to.new.lengths there c.copy_to.ensures.refused

@@ -6,8 +6,5 @@ use Rattle.sgb_ops.proofs.sources.Source.n.Goals as goal
 pub returns-in-Built-clause-tips : goal.returns-in-Built-clause-tips
 returns-in-Built-clause-tips c = subst HasTips (ap graph_kept (sym c.in-Built.is) ∙ c.self.view_is) (kept_tips c.in-Built.graph.now c.n.ensures.kept)
 
-pub returns-in-Flat-clause-tips : goal.returns-in-Flat-clause-tips
-returns-in-Flat-clause-tips c = subst HasTips (ap graph_kept (sym c.in-Flat.is) ∙ c.self.view_is) c.size.ensures.tips
-
 pub returns-in-Listed-clause-tips : goal.returns-in-Listed-clause-tips
-returns-in-Listed-clause-tips c = subst HasTips (ap graph_kept (sym c.in-Listed.is) ∙ c.self.view_is) c.size-in-Listed.ensures.tips
+returns-in-Listed-clause-tips c = subst HasTips (ap graph_kept (sym c.in-Listed.is) ∙ c.self.view_is) c.size.ensures.tips

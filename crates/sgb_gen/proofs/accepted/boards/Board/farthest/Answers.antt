@@ -19,4 +19,5 @@ returns c =
           (λ less. sym (seen (n + 1)) ∙ c.reach_from.ensures.end (omega (arith, c.longest_move.ensures, less)));
       stay = λ m some within. sym (seen m) ∙ c.reach_from.ensures.stay m within;
       within = omega (arith, c.longest_move.ensures, c.reach_from.ensures.within);
+      few = search rules;
     }

@@ -9,6 +9,7 @@ use Rattle.sgb_gen.proofs.BoundedMoves.{moves_within}
 use Rattle.sgb_gen.proofs.GivenArcs.{last_apart}
 use Rattle.sgb_gen.proofs.ListsOfBoards.{list_of_board}
 use Rattle.sgb_gen.proofs.RunsOfLists.{at_has, none_first, width_in_table}
+use Rattle.sgb_gen.proofs.StrideTips.{lead_known, stride_known}
 use Rattle.sgb_gen.proofs.accepted.boards.Board.give_runs.Goals as goal
 
 pub loop-k-init : goal.loop-k-init
@@ -45,3 +46,13 @@ loop-k-preserved g c = (
 pub returns-clause-given : goal.returns-clause-given
 returns-clause-given g c =
     so_far_all (g.met.K.ArcSink.laws c.args.sink.now) _ _ _ _ _ _ (none_first c.args.self.now c.args.x.now c.args.table.now c.loop-k.k (omega arith)) c.loop-k.invariant.0
+
+pub give_run-requires-clause-stride : goal.give_run-requires-clause-stride
+give_run-requires-clause-stride g c =
+    stride_known (λ s. s.now) c.args.strides c.stride_kept-stride.result c.args.self.now.sizes c.args.table.now (c.loop-k.k - 1) c.at.result.now c.requires.strides c.at.ensures
+    c.stride_kept-stride.ensures.kept c.stride_kept-stride.ensures.none
+
+pub give_run-requires-clause-leads : goal.give_run-requires-clause-leads
+give_run-requires-clause-leads g c =
+    lead_known c.args.self.now c.args.x.now c.args.strides c.stride_kept-stride.result c.args.table.now (c.loop-k.k - 1) c.at.result.now c.requires.leads c.at.ensures
+    c.stride_kept-stride.ensures.none
