@@ -14,8 +14,6 @@ mod InsideVertices
 mod InsideRuns
 -- where they lead among the vectors: equal strides on
 mod StrideTips
--- vectors one after another that no side is near
-mod InsideRows
 -- the arcs of a span, one after another
 pub mod SpanArcs
 -- a board's arcs that are handed out one by one
@@ -26,8 +24,8 @@ pub mod MostLengths
 pub mod MostMoves
 -- how many arcs the edges of a displacement make
 mod BoardListCounts
--- the moves by a displacement, row by row
-mod RowMoves
+-- moves that lead by equal strides
+mod StridedMoves
 -- where a move leads
 pub mod Destinations
 -- how far a piece moves

@@ -28,8 +28,8 @@ pub mod StraightLists
 pub mod Spans
 -- how far a displacement leads on among the vectors
 pub mod Strides
--- moves from the vectors of a row
-pub mod Rows
+-- moves that lead by equal strides
+pub mod StridedMoves
 -- counts by which the vectors of a sum are found
 pub mod KeptCounts
 -- from how many places a piece moves by a displacement, at one length

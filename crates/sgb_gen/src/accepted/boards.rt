@@ -10,6 +10,7 @@ ghost use Rattle.sgb_graph.specs.Descriptions.{IsAnswerOf};
 ghost use Rattle.sgb_graph.specs.Growth.{AddsEvents, HasPlainArcs};
 ghost use Rattle.sgb_graph.specs.Made.{graph_described};
 ghost use Rattle.sgb_gen.specs.VectorGraphs.{described_by, event_among, vertex_among};
+ghost use Rattle.sgb_gen.specs.inner.StridedMoves.{LeadsOn};
 ghost use Rattle.sgb_moves.specs.Moves.{sides_of, moves_from};
 ghost use Rattle.sgb_moves.specs.inner.EntryBounds.{displacements_within, entry_bounds};
 ghost use Rattle.sgb_moves.specs.inner.Moves.{destination, longest_move};
@@ -22,8 +23,8 @@ mod list_counts;
 mod lists;
 mod ordered_boards;
 mod orders;
-mod rows;
 mod runs;
+mod strided_moves;
 mod strides;
 mod turns;
 
@@ -281,7 +282,7 @@ impl Board {
         Ok(())
     }
 
-    // Adds the moves by the displacement `t`, from each vertex in order: row by row where they lead by equal strides.
+    // Adds the moves by the displacement `t`, from each vertex in order.
     fn add_moves_by(&self, graph: &mut Graph, t: &Step) -> Result<(), Panic>
         requires dimensions { length t.now ≡ length self.now.sizes }
         requires vertices { length graph.old.vertices ≡ length (box self.now.sizes) }
@@ -292,33 +293,44 @@ impl Board {
             t.now) (box self.now.sizes)))) }
         ensures memory { IsOkUnless result Panic.NoRoom }
     {
-        match self.places_by(t) {
-            Some(places) => self.add_strides_by(graph, t, places),
-            None => self.add_moves_one_by_one(graph, t),
-        }
-    }
-
-    // The same vector by vector.
-    fn add_moves_one_by_one(&self, graph: &mut Graph, t: &Step) -> Result<(), Panic>
-        requires dimensions { length t.now ≡ length self.now.sizes }
-        requires vertices { length graph.old.vertices ≡ length (box self.now.sizes) }
-        requires plain { HasPlainArcs graph.old }
-        ensures ok { OnOk result (AddsEvents self.now.directed graph.old graph.new
-            (map (event_among (box self.now.sizes))
-            (flat_map (λ x. moves_from (sides_of self.now.sizes self.now.wrap) self.now.piece x
-            t.now) (box self.now.sizes)))) }
-        ensures memory { IsOkUnless result Panic.NoRoom }
-    {
+        let places = self.places_by(t);
         let mut there = Vector::new();
         let mut left = Vectors::all(&self.family);
         for u in 0..self.family.size() {
             let Some(x) = left.front() else {
                 return Ok(());
             };
-            self.add_moves(graph, u, x, t, &mut there)?;
+            self.add_moves_from(graph, u, x, t, places, &mut there)?;
             let _some = left.advance();
         }
         Ok(())
+    }
+
+    // Adds those from vertex `u`, which is the vector `x`: by sums, where a unit of length leads so many places on.
+    #[inline(always)]
+    fn add_moves_from(
+        &self,
+        graph: &mut Graph,
+        u: u32,
+        x: &[u32],
+        t: &Step,
+        places: Option<u32>,
+        there: &mut Vector,
+    ) -> Result<(), Panic>
+        requires vertex { slice_get (box self.now.sizes) u ≡ Some x.now }
+        requires dimensions { length t.now ≡ length self.now.sizes }
+        requires places { IfSome places (LeadsOn self.now t.now) }
+        requires vertices { length graph.old.vertices ≡ length (box self.now.sizes) }
+        requires plain { HasPlainArcs graph.old }
+        ensures ok { OnOk result (AddsEvents self.now.directed graph.old graph.new
+            (map (event_among (box self.now.sizes))
+            (moves_from (sides_of self.now.sizes self.now.wrap) self.now.piece x.now t.now))) }
+        ensures memory { IsOkUnless result Panic.NoRoom }
+    {
+        match places {
+            Some(places) => self.add_strided_moves(graph, u, x, t, places),
+            None => self.add_moves(graph, u, x, t, there),
+        }
     }
 
     // Adds the arcs of the board, or its edges: for each displacement, for each vertex in order.

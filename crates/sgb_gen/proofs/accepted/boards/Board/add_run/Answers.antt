@@ -2,9 +2,9 @@ use Rattle.std.proofs.Common.{◌<◌, ◌+◌, ◌-◌, ◌*◌, ap, map, pos, 
 use Rattle.std.specs.List.{range_with_len}
 use Rattle.std.proofs.lemmas.Int.{to_z-of_z}
 use Rattle.sgb_graph.proofs.AddedEvents.{AddsUpTo, up_to-all, up_to-more, up_to-none}
-use Rattle.sgb_gen.specs.inner.Rows.{event_of_stride, events_of_stride}
+use Rattle.sgb_gen.specs.inner.StridedMoves.{event_of_stride, events_of_stride}
 use Rattle.sgb_gen.proofs.BoardEvents.{event_as}
-use Rattle.sgb_gen.proofs.RowMoves.{all_of_stride, first_of_stride, none_of_stride}
+use Rattle.sgb_gen.proofs.StridedMoves.{all_of_stride, first_of_stride, none_of_stride}
 use Rattle.sgb_gen.proofs.accepted.boards.Board.add_run.Goals as goal
 
 pub loop-shorter-init : goal.loop-shorter-init

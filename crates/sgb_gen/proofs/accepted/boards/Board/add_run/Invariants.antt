@@ -1,7 +1,7 @@
 use Rattle.std.proofs.Common.{◌+◌, ◌-◌, map}
 use Rattle.std.specs.List.{range_with_len}
 use Rattle.sgb_graph.proofs.AddedEvents.{AddsUpTo}
-use Rattle.sgb_gen.specs.inner.Rows.{event_of_stride, events_of_stride}
+use Rattle.sgb_gen.specs.inner.StridedMoves.{event_of_stride, events_of_stride}
 use Rattle.sgb_gen.proofs.accepted.boards.Board.add_run.Given as goal
 
 -- the moves of the greater lengths are still to come

@@ -1,23 +1,14 @@
--- The moves by a displacement from the vectors of a row, which differ in their last entries alone.
-use Rattle.std.specs.Prelude.{◌≡◌, ◌<◌, ◌≤◌, ◌+◌, ◌-◌, ◌*◌, ℕ, ℤ, pos, true, false, List, [], get_or, length, map, take}
+-- Moves by a displacement that lead by equal strides.
+use Rattle.std.specs.Prelude.{◌≡◌, ◌<◌, ◌≤◌, ◌+◌, ◌*◌, ℕ, ℤ, pos, true, false, List, map}
 use Rattle.std.specs.List.{range_with_len}
-use Rattle.sgb_vec.specs.Boxes.{box, product_of}
+use Rattle.sgb_vec.specs.Boxes.{product_of}
 use Rattle.sgb_vec.specs.Limits.{most_vertices}
 use Rattle.sgb_graph.specs.Events.{Event}
 use Rattle.sgb_gen.specs.Boards.{BoardData}
-use Rattle.sgb_moves.specs.MovedCoordinates.{parts_of}
 use Rattle.sgb_moves.specs.Moves.{sides_of}
 use Rattle.sgb_moves.specs.inner.MovedCoordinates.{parts_stay}
 use Rattle.sgb_moves.specs.inner.Moves.{leads_onward, longest_move}
 use Rattle.sgb_gen.specs.inner.Strides.{stride_of}
-
--- the vector of vertex u
-abbrev pub vector_at : List ℕ → ℕ → List ℕ
-vector_at sizes u = get_or (box sizes) u []
-
--- the number of the last side
-abbrev pub last_side : List ℕ → ℕ
-last_side sizes = length sizes - 1
 
 -- from x the piece goes so many lengths on by these coordinates that it moves, and no farther
 pub record IsFarthest (b : BoardData) (x : List ℕ) (parts : List (ℕ × ℤ)) (n : ℕ) : Type 0 where
@@ -27,16 +18,10 @@ pub record IsFarthest (b : BoardData) (x : List ℕ) (parts : List (ℕ × ℤ))
 
 -- no side wraps around, and the displacement leads to later vectors: a unit of length so many vertices on
 pub record LeadsOn (b : BoardData) (t : List ℤ) (places : ℕ) : Type 0 where
-  pub sides : 0 < length b.sizes
   pub flat : b.wrap ≡ pos 0
   pub onward : leads_onward b.wrap 0 t ≡ true
   pub stride : pos places ≡ stride_of b.sizes t
   pub few : product_of b.sizes ≤ most_vertices
-
--- where its row goes on, the vector of vertex u has this last entry, and the other sides let the piece go so many lengths on from it
-abbrev pub IsRowAt : BoardData → List ℤ → ℕ → ℕ → ℕ → Type 0
-IsRowAt b t u coordinate most = u < length (box b.sizes) → coordinate < get_or b.sizes (last_side b.sizes) 0
-    → (get_or (vector_at b.sizes u) (last_side b.sizes) 0 ≡ coordinate) × IsFarthest b (vector_at b.sizes u) (parts_of (take (last_side b.sizes) t)) most
 
 -- the move from vertex u of length l, where a unit of length leads so many vertices on
 abbrev pub event_of_stride : ℕ → ℕ → ℕ → Event

@@ -3,7 +3,7 @@ use Rattle.std.specs.List.{flat_map}
 use Rattle.sgb_vec.specs.Boxes.{box}
 use Rattle.sgb_graph.proofs.AddedEvents.{AddsUpTo}
 use Rattle.sgb_gen.proofs.BoardEvents.{events_by, events_from}
-use Rattle.sgb_gen.proofs.accepted.boards.Board.add_moves_one_by_one.Given as goal
+use Rattle.sgb_gen.proofs.accepted.boards.Board.add_moves_by.Given as goal
 
 -- the moves of the vectors from number u on are still to come
 abbrev pub invariant-loop-u : goal.invariant-loop-u
