@@ -4,10 +4,11 @@ ghost use Rattle.sgb_vec.specs.Boxes.{box};
 ghost use Rattle.sgb_vec.specs.Lexicographic.{IsBelow};
 ghost use Rattle.sgb_vec.specs.Limits.{most_vertices};
 ghost use Rattle.sgb_graph.specs.Growth.{AddsEvents, HasPlainArcs};
-ghost use Rattle.sgb_moves.specs.MovedCoordinates.{parts_of};
 ghost use Rattle.sgb_moves.specs.Moves.{moves_from, sides_of};
 ghost use Rattle.sgb_gen.specs.VectorGraphs.{event_among};
 ghost use Rattle.sgb_gen.specs.inner.StridedMoves.{IsFarthest, LeadsOn, events_of_stride};
+// For the search alone.
+ghost use Rattle.sgb_moves.specs.MovedCoordinates.{parts_of};
 
 use super::Board;
 use super::strides::stride_by;
