@@ -19,7 +19,7 @@ pub(crate) struct PlacedArcs<'p, P: VectorPlaces> {
 impl<'p, P: VectorPlaces> ArcSink<Rows, ()> for PlacedArcs<'p, P> {
     ghost use Rattle.std.specs.Prelude.{◌≡◌, slice_get, Some, ⊤};
     ghost use Rattle.sgb_vec.specs.declared.panics.Panic.TheVariants.{NoRoom};
-    ghost use Rattle.sgb_arrays.specs.inner.PlacedArcs.{PutsArcs, arcs_in_turn};
+    ghost use Rattle.sgb_arrays.specs.inner.PlacedArcs.{PutsArcs, more_arcs_put, no_arc_put};
 
     type Fault = Panic;
 
@@ -33,7 +33,12 @@ impl<'p, P: VectorPlaces> ArcSink<Rows, ()> for PlacedArcs<'p, P> {
 
     ghost cut = { λ _ _ _ _ _ _ f. f ≡ NoRoom };
 
-    ghost laws = { λ s. arcs_in_turn (P.vectors s.places.now) };
+    ghost laws = { λ s. record {
+      none = λ rows _. no_arc_put (P.vectors s.places.now) rows;
+      more = λ xs ys old _ mid _ new _ p q. more_arcs_put (P.vectors s.places.now) xs ys old mid new p q;
+      cut_after = λ _ _ _ _ _ _ _ _ _ _ q. q;
+      cut_more = λ _ _ _ _ _ _ _ q. q;
+    } };
 
     #[inline(always)]
     fn put_arc(&self, tip: &[u32], len: u32, rows: &mut Rows, _out: &mut ()) -> Result<(), Panic> {

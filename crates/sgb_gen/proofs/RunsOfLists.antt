@@ -46,11 +46,6 @@ pub onward_run : (b : BoardData) (x : List ℕ) (t : List ℤ) (d : Bool) → b.
     → reverse (arcs_onward b.directed x (moves_by (sides_of b.sizes b.wrap) b.piece (box b.sizes) t)) ≡ reverse (arcs_from b x t) ++ arcs_back b x (opposite t)
 onward_run b x t d directed below long onward = grind (arith, directed_run, edges_run, edges_in_order)
 
--- the arcs by the first of some displacements, with the next one
-pub next_run_first : (b : BoardData) (x : List ℕ) (ts : List (List ℤ)) (k : ℕ) (t : List ℤ) → slice_get ts k ≡ Some t → IsRun b x t
-    → arcs_by_all b x (take (k + 1) ts) ≡ reverse (arcs_from b x t) ++ arcs_back b x (opposite t) ++ arcs_by_all b x (take k ts)
-next_run_first b x ts k t at run =
-    cc (take_more ts k t (slice_get_within ts k t at), get_or_from_slice_get ts k t t at, last_first b x (take k ts) t, run.arcs)
 
 -- one of them has what all have
 pub at_has : (P : List ℤ → Type 0) (ts : List (List ℤ)) (k : ℕ) (t : List ℤ) → All P ts → slice_get ts k ≡ Some t → P t

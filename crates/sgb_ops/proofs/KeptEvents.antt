@@ -14,6 +14,7 @@ use Rattle.std.proofs.lemmas.Bool.{OnTrue_at}
 use Rattle.std.proofs.lemmas.Option.{slice_get-get_or}
 use Rattle.sgb_vec.specs.Boxes.{box}
 use Rattle.sgb_gen.specs.ArcSinks.{AreGiven}
+use Rattle.sgb_gen.specs.inner.ArcSinks.{AreTakenInTurn}
 use Rattle.sgb_gen.specs.Spans.{FallBy, SpanData, arc_along, arcs_of_span}
 use Rattle.sgb_gen.specs.LocalLists.{LocalArc, list_in}
 use Rattle.sgb_gen.specs.VectorGraphs.{VectorGraph, described_by, event_among, vertex_among}
@@ -25,7 +26,7 @@ use Rattle.sgb_taken.specs.Taken.{each_edge_once, taken}
 use Rattle.sgb_ops.specs.inner.Ends.{event_of}
 use Rattle.sgb_ops.specs.inner.Sources.{bare, event_to}
 use Rattle.sgb_taken.specs.inner.TakenArcs.{taken_of}
-use Rattle.sgb_ops.specs.inner.TakenEvents.{TakesArcs, after_append, are_once, events_kept, is_wanted, link_among, second_after, seconds_append, without_seconds}
+use Rattle.sgb_ops.specs.inner.TakenEvents.{TakesArcs, more_arcs_taken, no_arc_taken, after_append, are_once, events_kept, is_wanted, link_among, second_after, seconds_append, without_seconds}
 use Rattle.sgb_ops.proofs.ListedEvents.{taken_is}
 use Rattle.sgb_taken.proofs.Taking.{numbers_at, numbers_from_first, one_edge, taken_apart}
 
@@ -125,6 +126,16 @@ one_kept directed once v n second l = by_loop (once && (l.tip == v)) second
     by_loop true true = refl
     by_loop true false = by_test (directed || nat_le v l.tip) (nat_lt l.tip n)
     by_loop false own = by_test (directed || nat_le v l.tip) (nat_lt l.tip n)
+
+-- arcs are taken in turn
+pub events_in_turn : {S : Type 0} (items : S → List Event) (vectors : List (List ℕ)) (directed once : Bool) (v n : ℕ)
+    → AreTakenInTurn {R = Bool} {S = S} {F = Panic} (λ second old arcs after new. TakesArcs vectors directed once v n second (items old) arcs after (items new)) (λ _ _ _ _ _ f. f ≡ NoRoom)
+events_in_turn items vectors directed once v n = record {
+  none = λ second events. no_arc_taken vectors directed once v n second (items events);
+  more = λ xs ys second old between mid after new p q. more_arcs_taken vectors directed once v n xs ys second between after (items old) (items mid) (items new) p q;
+  cut_after = λ _ _ _ _ _ _ _ _ _ _ q. q;
+  cut_more = λ _ _ _ _ _ _ _ q. q;
+}
 
 -- a test that fails, and another one
 both_fail : (a b : Bool) → b ≡ false → (a && b) ≡ false

@@ -29,7 +29,7 @@ pub(crate) struct TakenEvents<'p, P: VectorPlaces> {
 impl<'p, P: VectorPlaces> ArcSink<bool, Vec<Event>> for TakenEvents<'p, P> {
     ghost use Rattle.std.specs.Prelude.{◌≡◌, slice_get, Some, ⊤};
     ghost use Rattle.sgb_vec.specs.declared.panics.Panic.TheVariants.{NoRoom};
-    ghost use Rattle.sgb_ops.specs.inner.TakenEvents.{TakesArcs, events_in_turn};
+    ghost use Rattle.sgb_ops.specs.inner.TakenEvents.{TakesArcs, more_arcs_taken, no_arc_taken};
 
     type Fault = Panic;
 
@@ -45,7 +45,14 @@ impl<'p, P: VectorPlaces> ArcSink<bool, Vec<Event>> for TakenEvents<'p, P> {
 
     ghost cut = { λ _ _ _ _ _ _ f. f ≡ NoRoom };
 
-    ghost laws = { λ s. events_in_turn (λ events. events.items) (P.vectors s.places.now) s.directed s.loops_once s.vertex s.n };
+    ghost laws = { λ s. record {
+      none = λ second events. no_arc_taken (P.vectors s.places.now) s.directed s.loops_once s.vertex s.n second events.items;
+      more = λ xs ys second old between mid after new p q.
+          more_arcs_taken (P.vectors s.places.now) s.directed s.loops_once s.vertex s.n xs ys second between after
+          old.items mid.items new.items p q;
+      cut_after = λ _ _ _ _ _ _ _ _ _ _ q. q;
+      cut_more = λ _ _ _ _ _ _ _ q. q;
+    } };
 
     #[inline(always)]
     fn put_arc(

@@ -4,9 +4,6 @@ use Rattle.std.proofs.Common.{sym, ap, refl, subst, ◌∙◌, append-nil, appen
 use Rattle.std.proofs.lemmas.List.{get_or_append_left, get_or-append_right, map-append}
 use Rattle.sgb_gen.specs.LocalLists.{LocalArc}
 use Rattle.sgb_gen.specs.VectorGraphs.{vertex_among}
-use Rattle.sgb_gen.specs.inner.ArcSinks.{AreTakenInTurn}
-use Rattle.sgb_vec.specs.declared.panics.Panic.{Panic}
-use Rattle.sgb_vec.specs.declared.panics.Panic.TheVariants.{NoRoom}
 use Rattle.sgb_arrays.specs.declared.rows.Rows.{Rows}
 
 -- the arc leads to one of the vectors
@@ -51,12 +48,3 @@ more_arcs_put vectors xs ys old mid new p q all =
       put_after (λ (a : LocalArc). a.len) xs ys old.lengths.items mid.lengths.items new.lengths.items first.1 last.1,
       last.2 ∙ first.2,
     )
-
--- so they are put in turn
-pub arcs_in_turn : (vectors : List (List ℕ)) → AreTakenInTurn {R = Rows} {S = ℕ} {F = Panic} (λ old _ arcs new _. PutsArcs vectors old arcs new) (λ _ _ _ _ _ f. f ≡ NoRoom)
-arcs_in_turn vectors = record {
-  none = λ rows _. no_arc_put vectors rows;
-  more = λ xs ys old _ mid _ new _ p q. more_arcs_put vectors xs ys old mid new p q;
-  cut_after = λ _ _ _ _ _ _ _ _ _ _ q. q;
-  cut_more = λ _ _ _ _ _ _ _ q. q;
-}

@@ -8,9 +8,6 @@ use Rattle.sgb_graph.specs.Events.{Event}
 use Rattle.sgb_graph.specs.declared.fields.Link.{Link}
 use Rattle.sgb_gen.specs.LocalLists.{LocalArc}
 use Rattle.sgb_gen.specs.VectorGraphs.{vertex_among}
-use Rattle.sgb_gen.specs.inner.ArcSinks.{AreTakenInTurn}
-use Rattle.sgb_vec.specs.declared.panics.Panic.{Panic}
-use Rattle.sgb_vec.specs.declared.panics.Panic.TheVariants.{NoRoom}
 use Rattle.sgb_ops.specs.inner.Ends.{event_of}
 
 -- whether loops are taken once: for an undirected result, of edges
@@ -107,13 +104,3 @@ more_arcs_taken vectors directed once v n xs ys second between after old mid new
           ∙ ap (λ es. old ++ es) (sym (ap (events_kept directed once v n second) both ∙ parts)))),
       last.1 ∙ (ap (λ b. second_after once v b others) first.1 ∙ sym (ap (second_after once v second) both ∙ after_append once v second arcs others)),
     )
-
--- so they are taken in turn
-pub events_in_turn : {S : Type 0} (items : S → List Event) (vectors : List (List ℕ)) (directed once : Bool) (v n : ℕ)
-    → AreTakenInTurn {R = Bool} {S = S} {F = Panic} (λ second old arcs after new. TakesArcs vectors directed once v n second (items old) arcs after (items new)) (λ _ _ _ _ _ f. f ≡ NoRoom)
-events_in_turn items vectors directed once v n = record {
-  none = λ second events. no_arc_taken vectors directed once v n second (items events);
-  more = λ xs ys second old between mid after new p q. more_arcs_taken vectors directed once v n xs ys second between after (items old) (items mid) (items new) p q;
-  cut_after = λ _ _ _ _ _ _ _ _ _ _ q. q;
-  cut_more = λ _ _ _ _ _ _ _ q. q;
-}

@@ -1,11 +1,10 @@
-use Rattle.std.proofs.Common.{◌≡◌, List, ℕ, Ok, arith, refl, subst, sym}
+use Rattle.std.proofs.Common.{◌≡◌, List, ℕ, arith, refl, subst, sym}
 use Rattle.std.specs.List.{Contains}
 use Rattle.sgb_gen.specs.VectorGraphs.{vertex_among}
 use Rattle.sgb_gen.proofs.ArcsInTurn.{exit_part, so_far_all, so_far_begun, so_far_more}
 use Rattle.sgb_gen.proofs.SpanArcs.{next-apart, none-left}
 use Rattle.sgb_moves.specs.MovedCoordinates.{parts_put}
-use Rattle.sgb_arrays.specs.inner.PlacedArcs.{arcs_in_turn}
-use Rattle.sgb_arrays.proofs.PlacedRows.{arc_given}
+use Rattle.sgb_arrays.proofs.PlacedRows.{arc_given, arcs_in_turn}
 use Rattle.sgb_arrays.proofs.placed_arcs.PlacedArcsArcSinkRowsUnit.put_span.Goals as goal
 
 pub loop-k-init : goal.loop-k-init

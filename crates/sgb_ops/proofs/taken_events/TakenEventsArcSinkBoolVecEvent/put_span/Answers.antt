@@ -4,8 +4,7 @@ use Rattle.sgb_gen.specs.VectorGraphs.{vertex_among}
 use Rattle.sgb_gen.proofs.ArcsInTurn.{exit_part, so_far_all, so_far_begun, so_far_more}
 use Rattle.sgb_gen.proofs.SpanArcs.{next-apart, none-left}
 use Rattle.sgb_moves.specs.MovedCoordinates.{parts_put}
-use Rattle.sgb_ops.specs.inner.TakenEvents.{events_in_turn}
-use Rattle.sgb_ops.proofs.KeptEvents.{arc_given, before_given}
+use Rattle.sgb_ops.proofs.KeptEvents.{arc_given, before_given, events_in_turn}
 use Rattle.sgb_ops.proofs.taken_events.TakenEventsArcSinkBoolVecEvent.put_span.Goals as goal
 
 pub loop-k-init : goal.loop-k-init
