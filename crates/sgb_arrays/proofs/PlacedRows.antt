@@ -10,9 +10,9 @@ use Rattle.sgb_graph.specs.Graphs.{chain_of}
 use Rattle.sgb_graph.specs.Made.{graph_described}
 use Rattle.sgb_graph.specs.declared.fields.Link.{Link}
 use Rattle.sgb_gen.specs.ArcSinks.{AreGiven}
-use Rattle.sgb_gen.specs.inner.ArcSinks.{AreTakenInTurn}
 use Rattle.sgb_gen.specs.LocalLists.{LocalArc, list_in}
 use Rattle.sgb_gen.specs.VectorGraphs.{HasEnds, VectorGraph, described_by, vertex_among}
+use Rattle.sgb_gen.proofs.ArcsInTurn.{TakesInTurn}
 use Rattle.sgb_gen.proofs.LocalChains.{chain_said}
 use Rattle.sgb_gen.proofs.MoveLists.{tips_of_list}
 use Rattle.sgb_arrays.specs.declared.rows.Rows.{Rows}
@@ -80,7 +80,7 @@ arc_given places tip len place old new (Ok y) found tips lengths starts memory =
 arc_given places tip len place old new (Err e) found tips lengths starts memory = memory
 
 -- arcs are put in turn
-pub arcs_in_turn : (vectors : List (List ℕ)) → AreTakenInTurn {R = Rows} {S = ℕ} {F = Panic} (λ old _ arcs new _. PutsArcs vectors old arcs new) (λ _ _ _ _ _ f. f ≡ NoRoom)
+pub arcs_in_turn : (vectors : List (List ℕ)) → TakesInTurn {R = Rows} {S = ℕ} {F = Panic} (λ old _ arcs new _. PutsArcs vectors old arcs new) (λ _ _ _ _ _ f. f ≡ NoRoom)
 arcs_in_turn vectors = record {
   none = λ rows _. no_arc_put vectors rows;
   more = λ xs ys old _ mid _ new _ p q. more_arcs_put vectors xs ys old mid new p q;

@@ -5,6 +5,10 @@ use Rattle.sgb_gen.specs.ArcSinks.{AreGiven}
 use Rattle.sgb_gen.specs.LocalLists.{LocalArc}
 use Rattle.sgb_gen.specs.inner.ArcSinks.{AreTakenInTurn}
 
+-- what a taker of arcs keeps to: for takers of other crates
+abbrev pub TakesInTurn : {R S F : Type 0} → (R → S → List LocalArc → R → S → Type 0) → (R → S → List LocalArc → R → S → F → Type 0) → Type 0
+TakesInTurn took cut = AreTakenInTurn took cut
+
 -- of all arcs, these are left; the others were taken
 abbrev pub TakenSoFar : {R S : Type 0} → (R → S → List LocalArc → R → S → Type 0) → (all left : List LocalArc) → R → S → R → S → Type 0
 TakenSoFar took all left ra oa rb ob = (done : List LocalArc) × (done ++ left ≡ all) × took ra oa done rb ob

@@ -14,10 +14,10 @@ use Rattle.std.proofs.lemmas.Bool.{OnTrue_at}
 use Rattle.std.proofs.lemmas.Option.{slice_get-get_or}
 use Rattle.sgb_vec.specs.Boxes.{box}
 use Rattle.sgb_gen.specs.ArcSinks.{AreGiven}
-use Rattle.sgb_gen.specs.inner.ArcSinks.{AreTakenInTurn}
 use Rattle.sgb_gen.specs.Spans.{FallBy, SpanData, arc_along, arcs_of_span}
 use Rattle.sgb_gen.specs.LocalLists.{LocalArc, list_in}
 use Rattle.sgb_gen.specs.VectorGraphs.{VectorGraph, described_by, event_among, vertex_among}
+use Rattle.sgb_gen.proofs.ArcsInTurn.{TakesInTurn}
 use Rattle.sgb_gen.proofs.ListedGraphs.{IsOfFamily}
 use Rattle.sgb_gen.proofs.LocalChains.{chain_said}
 use Rattle.sgb_gen.proofs.MoveLists.{tips_of_list}
@@ -129,7 +129,7 @@ one_kept directed once v n second l = by_loop (once && (l.tip == v)) second
 
 -- arcs are taken in turn
 pub events_in_turn : {S : Type 0} (items : S → List Event) (vectors : List (List ℕ)) (directed once : Bool) (v n : ℕ)
-    → AreTakenInTurn {R = Bool} {S = S} {F = Panic} (λ second old arcs after new. TakesArcs vectors directed once v n second (items old) arcs after (items new)) (λ _ _ _ _ _ f. f ≡ NoRoom)
+    → TakesInTurn {R = Bool} {S = S} {F = Panic} (λ second old arcs after new. TakesArcs vectors directed once v n second (items old) arcs after (items new)) (λ _ _ _ _ _ f. f ≡ NoRoom)
 events_in_turn items vectors directed once v n = record {
   none = λ second events. no_arc_taken vectors directed once v n second (items events);
   more = λ xs ys second old between mid after new p q. more_arcs_taken vectors directed once v n xs ys second between after (items old) (items mid) (items new) p q;
