@@ -128,19 +128,19 @@ one_kept directed once v n second l = by_loop (once && (l.tip == v)) second
     by_loop false own = by_test (directed || nat_le v l.tip) (nat_lt l.tip n)
 
 -- arcs are taken in turn
-pub events_in_turn : {S : Type 0} (items : S → List Event) (vectors : List (List ℕ)) (directed once : Bool) (v n : ℕ)
-    → TakesInTurn {R = Bool} {S = S} {F = Panic} (λ second old arcs after new. TakesArcs vectors directed once v n second (items old) arcs after (items new)) (λ _ _ _ _ _ f. f ≡ NoRoom)
-events_in_turn items vectors directed once v n = record {
-  none = λ second events. no_arc_taken vectors directed once v n second (items events);
-  more = λ xs ys second old between mid after new p q. more_arcs_taken vectors directed once v n xs ys second between after (items old) (items mid) (items new) p q;
+pub events_in_turn : (vectors : List (List ℕ)) (directed once : Bool) (v n : ℕ)
+    → TakesInTurn {R = Bool} {S = List Event} {F = Panic} (λ own before arcs ended now. TakesArcs vectors directed once v n own before arcs ended now) (λ _ _ _ _ _ f. f ≡ NoRoom)
+events_in_turn vectors directed once v n = record {
+  none = λ second events. no_arc_taken vectors directed once v n second events;
+  more = λ xs ys second old between mid after new p q. more_arcs_taken vectors directed once v n xs ys second between after old mid new p q;
   cut_after = λ _ _ _ _ _ _ _ _ _ _ q. q;
   cut_more = λ _ _ _ _ _ _ _ q. q;
 }
 
 -- a test that fails, and another one
 both_fail : (a b : Bool) → b ≡ false → (a && b) ≡ false
-both_fail true b no = no
-both_fail false b no = refl
+both_fail true b fails = fails
+both_fail false b fails = refl
 
 -- for an undirected result nothing is kept of arcs to earlier vertices
 earlier_left : (once : Bool) (v n : ℕ) (second : Bool) (links : List Link) → All (λ l. l.tip < v) links
@@ -171,13 +171,13 @@ before_taken vectors once v n second old s first stride same falls less all =
     let left = earlier_left once v n second (map (link_among vectors) (arcs_of_span s)) earlier in
     (sym (append-nil old) ∙ ap (λ es. old ++ es) (sym left.0), sym left.1)
 
-pub before_given : {T X : Type 0} (first stride : X → ℕ) (tips : Option X) (vectors : List (List ℕ)) (directed once : Bool) (v n : ℕ) (second : Bool) (old : List Event) (s : SpanData) (before : Bool) (y : T)
-    → directed ≡ false → before ≡ true → vectors ≡ box s.sizes → IfSome tips (λ t. FallBy s (first t) (stride t)) → IfSome tips (λ t. OnTrue before (first t < v)) → IfNone tips (before ≡ false)
-    → AreGiven {R = Bool} {S = List Event} {F = Panic} (λ own now arcs ended then. TakesArcs vectors directed once v n own now arcs ended then) (λ _ _ _ _ _ f. f ≡ NoRoom) second old (arcs_of_span s) second old (Ok y)
-before_given first stride (Some t) vectors directed once v n second old s before y edges yes same falls less none =
+pub before_given : {T X : Type 0} (first stride : X → ℕ) (tips : Option X) (vectors : List (List ℕ)) (directed once : Bool) (v n : ℕ) (second : Bool) (old : List Event) (s : SpanData) (lead : Bool) (y : T)
+    → directed ≡ false → lead ≡ true → vectors ≡ box s.sizes → IfSome tips (λ t. FallBy s (first t) (stride t)) → IfSome tips (λ t. OnTrue lead (first t < v)) → IfNone tips (lead ≡ false)
+    → AreGiven {R = Bool} {S = List Event} {F = Panic} (λ own before arcs ended now. TakesArcs vectors directed once v n own before arcs ended now) (λ _ _ _ _ _ f. f ≡ NoRoom) second old (arcs_of_span s) second old (Ok y)
+before_given first stride (Some t) vectors directed once v n second old s lead y edges yes same falls less none =
     subst (λ b. TakesArcs vectors b once v n second old (arcs_of_span s) second old) (sym edges)
     (before_taken vectors once v n second old s (first t) (stride t) same falls (OnTrue_at yes less))
-before_given first stride None vectors directed once v n second old s before y edges yes same falls less none = absurd (grind (arith, true≢false))
+before_given first stride None vectors directed once v n second old s lead y edges yes same falls less none = absurd (grind (arith, true≢false))
 
 -- it is taken, or found no memory: that left out too
 pub arc_given : {T : Type 0} (vectors : List (List ℕ)) (directed once : Bool) (v n w len : ℕ) (second after : Bool) (tip : List ℕ) (old new : List Event) (r : Result T Panic)

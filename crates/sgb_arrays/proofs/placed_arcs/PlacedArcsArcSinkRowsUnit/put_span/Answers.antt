@@ -1,9 +1,9 @@
 use Rattle.std.proofs.Common.{◌≡◌, List, ℕ, arith, refl, subst, sym}
 use Rattle.std.specs.List.{Contains}
+use Rattle.sgb_gen.specs.Spans.{arc_along}
 use Rattle.sgb_gen.specs.VectorGraphs.{vertex_among}
 use Rattle.sgb_gen.proofs.ArcsInTurn.{exit_part, so_far_all, so_far_begun, so_far_more}
 use Rattle.sgb_gen.proofs.SpanArcs.{next-apart, none-left}
-use Rattle.sgb_moves.specs.MovedCoordinates.{parts_put}
 use Rattle.sgb_arrays.proofs.PlacedRows.{arc_given, arcs_in_turn}
 use Rattle.sgb_arrays.proofs.placed_arcs.PlacedArcsArcSinkRowsUnit.put_span.Goals as goal
 
@@ -19,7 +19,7 @@ pub loop-k-preserved : goal.loop-k-preserved
 loop-k-preserved g c =
     let places = g.P.VectorPlaces.vectors c.args.self.now.places.now in
     let p = c.args.span.now in
-    let tip = parts_put p.sizes p.wrap p.x c.length_at-l.result p.parts p.x in
+    let tip = (arc_along p.sizes p.wrap p.x p.parts c.length_at-l.result).tip in
     let found = subst (λ (vs : List (List ℕ)). Contains vs tip → c.tip_among-tip.result ≡ vertex_among vs tip) (sym c.requires.at.0) c.tip_among-tip.ensures in
     so_far_more (arcs_in_turn places) _ _ _ _ _ _ _ _ _ _
     (next-apart p c.loop-k.k c.length_at-l.result c.length_at-l.ensures) c.loop-k.invariant
