@@ -142,6 +142,10 @@ both_fail : (a b : Bool) → b ≡ false → (a && b) ≡ false
 both_fail true b fails = fails
 both_fail false b fails = refl
 
+-- an earlier vertex is not as great
+not_up : (v t : ℕ) → t < v → nat_le v t ≡ false
+not_up v t less = grind (arith, nat_tests)
+
 -- for an undirected result nothing is kept of arcs to earlier vertices
 earlier_left : (once : Bool) (v n : ℕ) (second : Bool) (links : List Link) → All (λ l. l.tip < v) links
     → (events_kept false once v n second links ≡ []) × (second_after once v second links ≡ second)
@@ -150,7 +154,7 @@ earlier_left once v n second (l ∷ links) all =
     let rest = earlier_left once v n second links (All-tail (λ (k : Link). k.tip < v) l links all) in
     let less : l.tip < v = all 0 l (omega arith) in
     let apart : (once && (l.tip == v)) ≡ false = both_fail once (l.tip == v) (ne_eqb l.tip v (λ same. omega (arith, less, same))) in
-    let down : (nat_le v l.tip && nat_lt l.tip n) ≡ false = ap (λ b. b && nat_lt l.tip n) (leb-false v l.tip less) in (
+    let down : (nat_le v l.tip && nat_lt l.tip n) ≡ false = ap (λ b. b && nat_lt l.tip n) (not_up v l.tip less) in (
       ap (λ b. map (event_of v) (filter (is_wanted false v n) (if b then (if second then without_seconds once v false links else l ∷ without_seconds once v true links) else l ∷ without_seconds once v second links))) apart
           ∙ (ap (λ b. map (event_of v) (if b then l ∷ filter (is_wanted false v n) (without_seconds once v second links) else filter (is_wanted false v n) (without_seconds once v second links))) down
           ∙ rest.0),
@@ -174,10 +178,10 @@ before_taken vectors once v n second old s first stride same falls less all =
 pub before_given : {T X : Type 0} (first stride : X → ℕ) (tips : Option X) (vectors : List (List ℕ)) (directed once : Bool) (v n : ℕ) (second : Bool) (old : List Event) (s : SpanData) (lead : Bool) (y : T)
     → directed ≡ false → lead ≡ true → vectors ≡ box s.sizes → IfSome tips (λ t. FallBy s (first t) (stride t)) → IfSome tips (λ t. OnTrue lead (first t < v)) → IfNone tips (lead ≡ false)
     → AreGiven {R = Bool} {S = List Event} {F = Panic} (λ own before arcs ended now. TakesArcs vectors directed once v n own before arcs ended now) (λ _ _ _ _ _ f. f ≡ NoRoom) second old (arcs_of_span s) second old (Ok y)
-before_given first stride (Some t) vectors directed once v n second old s lead y edges yes same falls less none =
+before_given first stride (Some t) vectors directed once v n second old s lead y edges leads same falls less none =
     subst (λ b. TakesArcs vectors b once v n second old (arcs_of_span s) second old) (sym edges)
-    (before_taken vectors once v n second old s (first t) (stride t) same falls (OnTrue_at yes less))
-before_given first stride None vectors directed once v n second old s lead y edges yes same falls less none = absurd (grind (arith, true≢false))
+    (before_taken vectors once v n second old s (first t) (stride t) same falls (OnTrue_at leads less))
+before_given first stride None vectors directed once v n second old s lead y edges leads same falls less none = absurd (grind (arith, true≢false))
 
 -- it is taken, or found no memory: that left out too
 pub arc_given : {T : Type 0} (vectors : List (List ℕ)) (directed once : Bool) (v n w len : ℕ) (second after : Bool) (tip : List ℕ) (old new : List Event) (r : Result T Panic)

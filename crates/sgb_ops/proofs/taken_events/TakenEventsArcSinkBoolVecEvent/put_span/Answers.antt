@@ -1,6 +1,6 @@
-use Rattle.std.proofs.Common.{◌≡◌, List, ℕ, arith, refl, rules, subst, sym}
+use Rattle.std.proofs.Common.{◌≡◌, ◌+◌, ◌∷◌, [], List, ℕ, Ok, arith, drop, refl, rules, subst, sym}
 use Rattle.std.specs.List.{Contains}
-use Rattle.sgb_gen.specs.Spans.{arc_along}
+use Rattle.sgb_gen.specs.Spans.{arc_along, arcs_of_span}
 use Rattle.sgb_gen.specs.VectorGraphs.{vertex_among}
 use Rattle.sgb_gen.proofs.ArcsInTurn.{exit_part, so_far_all, so_far_begun, so_far_more}
 use Rattle.sgb_gen.proofs.SpanArcs.{next-apart, none-left}
@@ -10,29 +10,33 @@ use Rattle.sgb_ops.proofs.taken_events.TakenEventsArcSinkBoolVecEvent.put_span.G
 pub loop-k-init : goal.loop-k-init
 loop-k-init g c =
     let s = c.args.self.now in
-    so_far_begun (events_in_turn (g.P.VectorPlaces.vectors s.places.now) s.directed s.loops_once s.vertex s.n) _ _ _ _ refl
+    so_far_begun (events_in_turn (g.P.VectorPlaces.vectors s.places.now) s.directed s.loops_once s.vertex s.n) _ _ c.args.after_loop.now c.args.events.now.items refl
 
 pub returns-in_err-push-clause-given : goal.returns-in_err-push-clause-given
 returns-in_err-push-clause-given g c =
     let s = c.args.self.now in
-    exit_part (events_in_turn (g.P.VectorPlaces.vectors s.places.now) s.directed s.loops_once s.vertex s.n) _ _ _ _ _ _ _ _ _ _ _ _ c.from_residual.ensures.1
-    (next-apart c.args.span.now c.loop-k.k c.length_at-l.result c.length_at-l.ensures) c.loop-k.invariant c.in_err-push.ensures.memory
+    let p = c.args.span.now in
+    exit_part (events_in_turn (g.P.VectorPlaces.vectors s.places.now) s.directed s.loops_once s.vertex s.n) _ _ (arc_along p.sizes p.wrap p.x p.parts c.length_at-l.result ∷ []) (drop (c.loop-k.k + 1) (arcs_of_span p))
+    c.args.after_loop.now c.args.events.now.items c.loop-k.after_loop c.loop-k.events.items c.push.new.after_loop c.push.new.events.items _ _ c.from_residual.ensures.1
+    (next-apart p c.loop-k.k c.length_at-l.result c.length_at-l.ensures) c.loop-k.invariant c.in_err-push.ensures.memory
 
 pub loop-k-preserved : goal.loop-k-preserved
 loop-k-preserved g c =
     let s = c.args.self.now in
     let p = c.args.span.now in
-    let tip = (arc_along p.sizes p.wrap p.x p.parts c.length_at-l.result).tip in
-    let found = subst (λ (vs : List (List ℕ)). Contains vs tip → c.tip_among-w.result ≡ vertex_among vs tip) (sym c.requires.at.0) c.tip_among-w.ensures in
-    so_far_more (events_in_turn (g.P.VectorPlaces.vectors s.places.now) s.directed s.loops_once s.vertex s.n) _ _ _ _ _ _ _ _ _ _
+    let places = g.P.VectorPlaces.vectors s.places.now in
+    let arc = arc_along p.sizes p.wrap p.x p.parts c.length_at-l.result in
+    let found = subst (λ (vs : List (List ℕ)). Contains vs arc.tip → c.tip_among-w.result ≡ vertex_among vs arc.tip) (sym c.requires.at.0) c.tip_among-w.ensures in
+    so_far_more (events_in_turn places s.directed s.loops_once s.vertex s.n) _ _ (arc ∷ []) (drop (c.loop-k.k + 1) (arcs_of_span p))
+    c.args.after_loop.now c.args.events.now.items c.loop-k.after_loop c.loop-k.events.items c.push.new.after_loop c.push.new.events.items
     (next-apart p c.loop-k.k c.length_at-l.result c.length_at-l.ensures) c.loop-k.invariant
-    (arc_given (g.P.VectorPlaces.vectors s.places.now) s.directed s.loops_once s.vertex s.n c.tip_among-w.result c.length_at-l.result c.loop-k.after_loop c.push.new.after_loop
-    tip c.loop-k.events.items c.push.new.events.items c.push.result found c.push.ensures.after c.push.ensures.events c.push.ensures.memory)
+    (arc_given {T = ℕ} places s.directed s.loops_once s.vertex s.n c.tip_among-w.result c.length_at-l.result c.loop-k.after_loop c.push.new.after_loop
+    arc.tip c.loop-k.events.items c.push.new.events.items (Ok 0) found c.in_ok-push.ensures.after c.in_ok-push.ensures.events tt)
 
 pub returns-clause-given : goal.returns-clause-given
 returns-clause-given g c =
     let s = c.args.self.now in
-    so_far_all (events_in_turn (g.P.VectorPlaces.vectors s.places.now) s.directed s.loops_once s.vertex s.n) _ _ _ _ _ _
+    so_far_all (events_in_turn (g.P.VectorPlaces.vectors s.places.now) s.directed s.loops_once s.vertex s.n) _ _ c.args.after_loop.now c.args.events.now.items c.loop-k.after_loop c.loop-k.events.items
     (none-left c.args.span.now c.loop-k.k c.len-k-end.result c.len-k-end.ensures (omega arith)) c.loop-k.invariant
 
 pub returns-then-lead_before-clause-given : goal.returns-then-lead_before-clause-given
