@@ -46,7 +46,6 @@ pub onward_run : (b : BoardData) (x : List ℕ) (t : List ℤ) (d : Bool) → b.
     → reverse (arcs_onward b.directed x (moves_by (sides_of b.sizes b.wrap) b.piece (box b.sizes) t)) ≡ reverse (arcs_from b x t) ++ arcs_back b x (opposite t)
 onward_run b x t d directed below long onward = grind (arith, directed_run, edges_run, edges_in_order)
 
-
 -- one of them has what all have
 pub at_has : (P : List ℤ → Type 0) (ts : List (List ℤ)) (k : ℕ) (t : List ℤ) → All P ts → slice_get ts k ≡ Some t → P t
 at_has P ts k t all at = subst P (get_or_from_slice_get ts k t t at) (all k t (slice_get_within ts k t at))
