@@ -69,16 +69,6 @@ line-parts tip len = grind (arith, append_assoc)
 pub rest_of_rest : (members rest after : List (List ℕ)) → IsRest members rest → after ≡ drop 1 rest → IsRest members after
 rest_of_rest members rest after (k, from) one = (k + 1, one ∙ ap (drop 1) from ∙ drop-drop 1 k members)
 
--- how many entries the vector has where the arc at a place leads
-pub tip_width : (n : ℕ) (arcs : List LocalArc) (i : ℕ) (arc : LocalArc) → All (λ (a : LocalArc). length a.tip ≡ n) arcs → slice_get arcs i ≡ Some arc → length arc.tip ≡ n
-tip_width n arcs i arc wide there = grind (arith, get_or_from_slice_get, slice_get_within)
-
--- the line of the arc at a place stands before those after it
-pub lines-first : (arcs : List LocalArc) (i : ℕ) (arc : LocalArc) → slice_get arcs i ≡ Some arc → flat_map local_line (drop i arcs) ≡ local_line arc ++ flat_map local_line (drop (i + 1) arcs)
-lines-first arcs i arc there =
-    let first = drop-cons arcs i arc (slice_get_within arcs i arc there) in
-    grind (arith, get_or_from_slice_get)
-
 -- the names of a generator's vertices, from the members of its family
 pub named_local : {T S : Type 0} (v : Result Description Panic) (l : Local) (members : List (List ℕ)) (resume : Resume) (out : Effect S) (r : Result T Fault)
     → v ≡ Ok (described l) → members ≡ vectors_of l → IsEnded (names_answer (map name_of_vector members) resume) out r

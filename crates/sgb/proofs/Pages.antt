@@ -49,11 +49,6 @@ exit_paged held text holds out r f exit cut = search (rules, err_from_is_err_and
 pub exit_untaken : {T : Type 0} (held text holds : List ℕ) (out : Change) (r : Result T Fault) (f : Fault) → IsErrAnd r (λ g. g ≡ f) → IsCutOff (held ++ []) out f → IsPaged held text holds out r
 exit_untaken held text holds out r f exit cut = exit_paged held text holds out r f exit (rw append-nil at (cut_more (held ++ []) text out f cut))
 
--- the exit of a `?` out of memory, where nothing was put
-pub exit_unput : {T : Type 0} (held text holds : List ℕ) (a : Option (List ℕ)) (failed : Bool) (r : Result T Fault) (p : Panic) → IsErrAnd r (λ f. f ≡ fault.Panic p) → p ≡ NoRoom → failed ≡ false
-    → IsPaged held text holds (record { before = a; after = a; failed = failed }) r
-exit_unput held text holds a failed r p exit memory sound = grind (arith, err_from_is_err_and, prefix_none)
-
 -- the exit of a `?` out of memory, where a page took the first part of a text
 pub exit_begun_by : {T : Type 0} (held text more now holds : List ℕ) (a b : Option (List ℕ)) (failed : Bool) (r : Result T Fault) (p : Panic) → IsErrAnd r (λ f. f ≡ fault.Panic p) → p ≡ NoRoom → failed ≡ false
     → SoFar (held ++ text) now a b → IsPaged held (text ++ more) holds (record { before = a; after = b; failed = failed }) r

@@ -73,17 +73,6 @@ none_left g r k start after from alike is (inr (other, (j, place, enough))) =
     let same : k ≡ j = let e = from ∙ place in cc in
     (other, rw is (sym alike ∙ drop_all k g.vectors (omega (arith, same, enough, names_count g))))
 
--- an answer that has a head is not resumed after all vertices
-pub past_whole : (names : List (List ℕ)) (r : Resume) → r ≡ resume.Whole → IsPast names r → ⊥
-past_whole names r is (inl nowhere) = absurd (let e = rw is at nowhere in cc)
-past_whole names r is (inr (other, place)) = other is
-
--- no vertex has the name
-pub past_nowhere : (names : List (List ℕ)) (r : Resume) (f : Fault) → left_out names r ≡ Err f → IsPast names r
-past_nowhere names resume.Whole f e = absurd cc
-past_nowhere names (resume.Skip k) f e = absurd cc
-past_nowhere names (resume.After name) f e = inl (grind (arith))
-
 -- nothing comes next
 pub none_next : {X : Type 0} (P : Type 0) (next : Option X) (none : Bool) → IfNone next P → is_some next ≡ not none → none ≡ true → P
 none_next P None none left found is = left
@@ -98,10 +87,3 @@ module _ (members : List (List ℕ)) (r : Resume) (start : Option (List ℕ)) (b
   past_all other none =
       let (k, place, alike) = begins.1 in
       inr (other, (k, place, omega (arith, count, length-drop k members, ap length (alike ∙ none))))
-
-  pub past_left : IsPast (map name_of_vector members) r → drop (left_out_after members start) members ≡ []
-  past_left (inl nowhere) = absurd (let e = sym begins.1.1 ∙ nowhere in cc)
-  past_left (inr (other, (j, place, enough))) =
-      let (k, from, alike) = begins.1 in
-      let same : k ≡ j = let e = sym from ∙ place in cc in
-      sym alike ∙ drop_all k members (omega (arith, same, enough, count))

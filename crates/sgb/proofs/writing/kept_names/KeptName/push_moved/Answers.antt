@@ -11,7 +11,7 @@ use Rattle.sgb.proofs.writing.kept_names.KeptName.push_moved.Goals as goal
 
 pub loop-k-init : goal.loop-k-init
 loop-k-init c = record {
-  moved = moved-none (parts_put c.args.span.now.sizes c.args.span.now.wrap c.args.self.now c.args.l) _ _ _ (rw (← c.requires.named) at c.parts.ensures.moved) (rw (name-entries []) (sym (append-nil _)));
+  moved = moved-none (parts_put c.args.span.now.sizes c.args.span.now.wrap c.args.self.now c.args.l) _ _ _ (rw (← c.requires.named) at c.parts-k-items.ensures.moved) (rw (name-entries []) (sym (append-nil _)));
   short = omega arith;
   within = omega arith;
 }
@@ -20,9 +20,12 @@ pub loop-k-preserved : goal.loop-k-preserved
 loop-k-preserved c =
     let r = c.args.span.now in
     let put = parts_put r.sizes r.wrap c.args.self.now c.args.l in
-    let p = slice_index_or c.args.span.now.parts c.loop-k.k-index (0, pos 0) in
-    let rest = drop (c.loop-k.k-index + 1) c.args.span.now.parts in
-    let first : drop c.loop-k.k-index c.args.span.now.parts ≡ p ∷ rest = at_drop_more (λ us. us) c.args.span.now.parts c.loop-k.k-index (0, pos 0) (omega arith) in
+    let items = c.parts-k-items.result.now in
+    let same = c.parts-k-items.ensures.same in
+    let p = slice_index_or items c.loop-k.k-index (0, pos 0) in
+    let rest = drop (c.loop-k.k-index + 1) r.parts in
+    let first : drop c.loop-k.k-index r.parts ≡ p ∷ rest =
+    ap (drop c.loop-k.k-index) (sym same) ∙ at_drop_more (λ us. us) items c.loop-k.k-index (0, pos 0) (omega arith) ∙ ap (λ us. p ∷ drop (c.loop-k.k-index + 1) us) same in
     let value : c.entry_at.result ≡ unwrap_or (part_at r.sizes r.wrap c.args.self.now c.args.l p) 0 = rw (c.entry_at.ensures, to_z-of_z w32 p.1 (search rules), c.requires.named) refl in
     let order = moved-order put _ _ p _ rest c.loop-k.place _ _ first c.loop-k.invariant.moved in
     record {
@@ -40,7 +43,7 @@ pub returns : goal.returns
 returns c =
     let r = c.args.span.now in
     let text = c.self.inside.text in
-    let none = drop_all c.loop-k.k-index c.args.span.now.parts (omega arith) in
+    let none = drop_all c.loop-k.k-index c.args.span.now.parts (omega (arith, ap length c.parts-k-items.ensures.same)) in
     let name = c.self.invariant.name ∙ ap name_of_vector c.self.view_is in
     let back = kept-back _ _ _ _ _ _ c.self.invariant c.self.view_is c.loop-k.invariant.within c.end_of.ensures.value in
     record {
