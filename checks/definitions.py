@@ -42,8 +42,10 @@ ABOVE = ("--", "infix")
 LOWER_PARTS = {"sgb_moves": "sgb_gen", "sgb_taken": "sgb_ops"}
 CLAP = ("fault_of", "subcommand_of")
 
-Definition = collections.namedtuple("Definition", "crate module names text count")
-Public = collections.namedtuple("Public", "crate name is_law text uses")
+# first is the number of its first line, that of its comment; a place is the path and the first and last line of a head with
+# its clauses, and the type or trait that it is of
+Definition = collections.namedtuple("Definition", "crate module names text count first")
+Public = collections.namedtuple("Public", "crate name is_law text uses place")
 
 
 class Unread(Exception):
@@ -131,7 +133,7 @@ def definitions_in(crate, module, path):
         while begin > 0 and lines[begin - 1].startswith(ABOVE):
             begin -= 1
         body = [re.sub(r"--.*", "", line) for line in lines[start:end]]
-        yield Definition(crate, module, names_in(f"{path}:{start + 1}", body), "\n".join(body), end - begin)
+        yield Definition(crate, module, names_in(f"{path}:{start + 1}", body), "\n".join(body), end - begin, begin + 1)
 
 
 class Definitions:
@@ -182,8 +184,8 @@ class Definitions:
             if isinstance(here, tuple):
                 new = self.types[here]
             else:
-                crate, module, _, text, _ = self.all[here]
-                new = self.cited(text, crate, module, self.uses[crate, module])
+                crate, module = self.all[here][:2]
+                new = self.cited(self.all[here].text, crate, module, self.uses[crate, module])
             work += new - reached
             reached |= new
         return {k for k in reached if not isinstance(k, tuple)}
@@ -246,18 +248,18 @@ def blocks_of(text, names, private):
 
 
 def clauses_after(text, place):
-    """The clauses of the function whose name ends at `place`, and whether its body is empty. Its parameters and its
-    result may have brackets of any kind."""
+    """The clauses of the function whose name ends at `place`, whether its body is empty, and where its body begins. Its
+    parameters and its result may have brackets of any kind."""
     clauses = ""
     while True:
         found = re.compile(r"[(\[]|\b(?:requires|ensures)\b(?:\s+\w+)?\s*\{|\{|;").search(text, place)
         if not found:
             raise Unread(f"a function without an end: {text[place:place + 60]!r}")
         if found.group() == ";":
-            return clauses, False
+            return clauses, False, found.start()
         end = closing(text, found.end() - 1)
         if found.group() == "{":
-            return clauses, not text[found.end():end].strip()
+            return clauses, not text[found.end():end].strip(), found.start()
         if found.group() not in ("(", "["):
             clauses += text[found.end():end] + "\n"
         place = end + 1
@@ -280,8 +282,9 @@ def public_texts(crate, laws):
             for found in re.finditer(wanted, text[start:end]) if is_public else ():
                 if found.group(1) not in laws | {"view", "invariant", "coded"}:
                     brace = start + found.end() - 1
-                    member = text[brace + 1:closing(text, brace)]
-                    yield Public(crate, f"{head.strip()} {found.group(1)}", False, member, uses)
+                    end = closing(text, brace)
+                    place = (path, text.count("\n", 0, start + found.start()) + 1, text.count("\n", 0, end) + 1, head.strip())
+                    yield Public(crate, f"{head.strip()} {found.group(1)}", False, text[brace + 1:end], uses, place)
         for found in re.finditer(r"^[ \t]*(pub(?:\([^)]*\))? )?(?:const )?(?:unsafe )?(?:extern \S* ?)?fn (\w+)", text, re.M):
             inside = [block for block in blocks if block[0] < found.start() < block[1]]
             says_public = (found.group(1) or "").strip() == "pub"
@@ -291,9 +294,11 @@ def public_texts(crate, laws):
             else:
                 is_public = says_public and (found.group(2) in names or module_of(path, folder) in modules)
             if is_public:
-                clauses, is_empty = clauses_after(text, found.end())
+                clauses, is_empty, end = clauses_after(text, found.end())
                 is_law = is_empty or module_of(path, folder) == "laws"
-                yield Public(crate, found.group(2), is_law, clauses, uses)
+                last = text.count("\n", 0, found.start() + len(text[found.start():end].rstrip())) + 1
+                place = (path, text.count("\n", 0, found.start()) + 1, last, inside[-1][3].strip() if inside else "")
+                yield Public(crate, found.group(2), is_law, clauses, uses, place)
 
 
 def laws_of_traits(order):
