@@ -88,7 +88,11 @@ class Book:
         self.render = pages.Renderer(self.sources, self.notation, self.page_of)
         self.calls = self.place_calls()
         self.promises = self.read_promises()
-        self.counts, self.names = {}, []
+        self.counts, self.names, self.by_word = {}, [], collections.defaultdict(list)
+        for k in sorted(self.sources.reached):
+            for name in all_of[k].names:
+                self.by_word[name].append(k)
+        self.home_of = {n: file for file, those in self.calls.items() for n in those}
 
     # ---- contracts
 
@@ -106,10 +110,10 @@ class Book:
 
     def call_id(self, n):
         one = self.sources.publics[n]
-        return anchor("call", one.crate, re.sub(r"\W+", "_", one.name), str(one.place[1]))
+        return anchor("call", one.crate, os.path.basename(one.place[0]), re.sub(r"\W+", "_", one.name), str(one.place[1]))
 
     def call_href(self, n):
-        return next((f"{file}#{self.call_id(n)}" for file, those in self.calls.items() if n in those), None)
+        return f"{self.home_of[n]}#{self.call_id(n)}" if n in self.home_of else None
 
     def read_promises(self):
         """The promises of PROVED by crate and the last part of the call's name."""
@@ -134,10 +138,8 @@ class Book:
         """What a name in a page's words leads to, the first of these crates before others."""
         def href(name):
             word = name.split()[0] if name.split() else ""
-            those = [k for k in sorted(self.sources.reached) if word in self.sources.defs.all[k].names]
-            those.sort(key=lambda k: self.sources.defs.all[k].crate not in crates)
-            if those:
-                return self.render.href(those[0], word)
+            if self.by_word.get(word):
+                return self.render.href(min(self.by_word[word], key=lambda k: self.sources.defs.all[k].crate not in crates), word)
             calls = [n for n, one in enumerate(self.sources.publics) if one.name == word and self.call_href(n)]
             calls.sort(key=lambda n: self.sources.publics[n].crate not in crates)
             return self.call_href(calls[0]) if calls else None
@@ -170,7 +172,7 @@ class Book:
             self.names.append([name, self.render.href(k, name)])
         users = [f'<a href="{self.render.href(j)}">{esc(book.defs.all[j].names[0])}</a>' for j in sorted(book.used_by[k] & book.reached)]
         calls = [f'<a href="{self.call_href(n)}">{esc(book.publics[n].name)}</a>' for n in book.called_by[k] if self.call_href(n)]
-        at = [f"{path}:{d.first}"]
+        at = [f"{path}:{d.first}", *(() if k in book.tool else ["* not needed for the tool"])]
         at += ["used by " + ", ".join(users)] if users else []
         at += ["in the contracts of " + ", ".join(calls)] if calls else []
         out = f'<section class=def data-source="{path}:{d.first}">'
@@ -226,9 +228,9 @@ class Book:
             else:
                 out += self.words([(kind, one, more)], look)
         out += self.modules(taken(list(left)))
-        read = re.sub(r"<pre>.*?</pre>|<p class=at>.*?</p>|<details.*?</details>|<[^>]*>", " ", "".join(out), flags=re.S)
-        lines = sum(self.sources.defs.all[k].text.count("\n") + 1 for k in self.page_of if self.page_of[k] == chapter.file)
-        self.counts[chapter.file] = (len(read.split()), lines)
+        words = re.sub(r"<section.*?</section>|<[^>]*>", " ", "".join(out), flags=re.S)
+        here = {k for k in self.page_of if self.page_of[k] == chapter.file}
+        self.counts[chapter.file] = [len(words.split()), *(self.sources.defs.lines(those) for those in (here, here & self.sources.tool))]
         out.append("<h2>Public contracts</h2>")
         for n in self.calls[chapter.file]:
             out.append(self.call(n, look))
@@ -265,17 +267,19 @@ class Book:
         yield (f'<p>One clause carries that: <code>read</code> of <a href="{self.call_href(n)}"><code>run_program</code></a>, '
                f"from which {tool:,} lines of definitions are reached. All public calls together reach {every:,}.</p>")
         yield f"<pre>{clause}</pre><p class=at>{path}:{first + start}</p>"
-        rows, total = [], 0
+        cells = lambda row: "".join(f"<td class=number>{cell}</td>" for cell in row)  # noqa: E731
+        rows, total = [], [0] * 5
         for chapter in self.chapters:
-            words, count = self.counts[chapter.file]
-            minutes = round(10 * words / WORDS_IN_TEN + 10 * count / LINES_IN_TEN)
-            total += minutes
-            rows.append(f'<tr><td><a href="{chapter.file}">{esc(chapter.title)}</a></td>'
-                        f"<td class=number>{words}</td><td class=number>{count}</td><td class=number>{minutes}</td></tr>")
-        yield ("<h2>Chapters</h2><p>From outside in. Each names what it rests on, and a name leads to its definition. "
-               f"Minutes are those of {WORDS_IN_TEN} words or {LINES_IN_TEN} lines of definitions in ten.</p>"
-               "<table><tr><th>chapter</th><th class=number>words</th><th class=number>lines</th><th class=number>minutes</th></tr>"
-               + "\n".join(rows) + f"<tr><td>all</td><td></td><td></td><td class=number>{total}</td></tr></table>")
+            words, lines, of_tool = self.counts[chapter.file]
+            ten = [words / WORDS_IN_TEN + count / LINES_IN_TEN if count else 0 for count in (of_tool, lines)]
+            row = [words, of_tool, round(10 * ten[0]), lines, round(10 * ten[1])]
+            total = [a + b for a, b in zip(total, row)]
+            rows.append(f'<tr><td><a href="{chapter.file}">{esc(chapter.title)}</a></td>{cells(row)}</tr>')
+        heads = "".join(f"<th class=number>{head}</th>" for head in ("words", "lines of the tool", "minutes", "all lines", "minutes"))
+        yield ("<h2>Chapters</h2><p>From outside in. A name leads to its definition. The tool rests on some of them; a star "
+               f"stands at the others. Minutes are those of {WORDS_IN_TEN} words between definitions, or {LINES_IN_TEN} lines of "
+               "definitions with their comments, in ten.</p>"
+               f"<div class=wide><table><tr><th>chapter</th>{heads}</tr>" + "\n".join(rows) + f"<tr><td>all</td>{cells(total)}</tr></table></div>")
         yield "<h2>How to read them</h2><p><a href=notation.html>Notation</a>: what the signs say. On a sign, its row is shown.</p>"
         yield "<h2>What the clause rests on</h2><p>The files of definitions that it reaches; each leads to those under it.</p>"
         yield self.tree()

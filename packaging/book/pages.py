@@ -139,7 +139,7 @@ class Renderer:
                 return self.linked(word, self.href(owner))
             return self.field(word, nearby) if bound is not None or word in self.sources.fields else esc(word)
         if after == "=" and texts[-1:] in (["{"], [";"]) and word not in lexer.KEYWORDS:
-            if texts[-2:-1] == ["record"] or texts[-1:] == [";"] or texts[-3:-2] == ["record"]:
+            if texts[-1:] == [";"] or texts[-2:-1] in (["record"], [")"]) or texts[-3:-2] == ["record"]:
                 return self.field(word, nearby) if bound is not None or word in self.sources.fields else esc(word)
             return esc(word)  # an argument by its name
         if bound is not None and word in bound:
@@ -151,13 +151,11 @@ class Renderer:
         return self.sign(word)
 
     def alias(self, there):
-        """What an alias of a module leads to: the type whose variants it has, or the module."""
+        """What an alias of a module leads to: the type whose variants it has, or the module's first definition."""
         target = self.sources.target((*there[:2], ""))
-        if target is not None and not isinstance(target, Std):
-            return self.href(target)
-        first = next((k for k in sorted(self.sources.reached)
-                      if self.sources.defs.all[k][:2] == tuple(there[:2])), None)
-        return self.href(first) if first is not None else self.href(Std(f"{there[0]}.{there[1]}", "") if target is None else target)
+        if target is None:
+            target = min(k for k in self.sources.reached if self.sources.defs.all[k][:2] == tuple(there[:2]))
+        return self.href(target)
 
 
 def said(text, look):
