@@ -115,6 +115,11 @@ class Book:
     def call_href(self, n):
         return f"{self.home_of[n]}#{self.call_id(n)}" if n in self.home_of else None
 
+    def call_name(self, n):
+        """The name of a call, or of a member of a type or trait, as `graph of BoardLists`."""
+        *head, name = self.sources.publics[n].name.split()
+        return name if not head else f"{name} of {re.findall(r'[A-Za-z_]+', re.sub(r'<.*?>', ' ', ' '.join(head).split(' for ')[-1]))[0]}"
+
     def read_promises(self):
         """The promises of PROVED by crate and the last part of the call's name."""
         found, crate = collections.defaultdict(list), None
@@ -171,7 +176,7 @@ class Book:
         for name in d.names:
             self.names.append([name, self.render.href(k, name)])
         users = [f'<a href="{self.render.href(j)}">{esc(book.defs.all[j].names[0])}</a>' for j in sorted(book.used_by[k] & book.reached)]
-        calls = [f'<a href="{self.call_href(n)}">{esc(book.publics[n].name)}</a>' for n in book.called_by[k] if self.call_href(n)]
+        calls = [f'<a href="{self.call_href(n)}">{esc(self.call_name(n))}</a>' for n in book.called_by[k] if self.call_href(n)]
         at = [f"{path}:{d.first}", *(() if k in book.tool else ["* not needed for the tool"])]
         at += ["used by " + ", ".join(users)] if users else []
         at += ["in the contracts of " + ", ".join(calls)] if calls else []
@@ -244,7 +249,7 @@ class Book:
         while above and lines[above - 1].strip().startswith(("///", "#[")):
             above -= 1
         said_there = " ".join(line.strip()[3:].strip() for line in lines[above:first - 1] if line.strip().startswith("///"))
-        self.names.append([one.name, self.call_href(n)])
+        self.names.append([self.call_name(n), self.call_href(n)])
         code = self.render.contract("\n".join(lines[first - 1:last]), one.uses)
         promises = "".join(f"<p class=promise>{said(promise, look)}</p>" for promise in self.promises_of(one))
         where = f"{path}:{first}" + (f" · of {esc(owner)}" if owner else "")
@@ -330,7 +335,7 @@ class Book:
         for one in sorted(self.render.std):
             groups[one.module].append(one.name)
         for module, names in groups.items():
-            yield f"<h2>{esc(module)}</h2><table>"
+            yield f"<h2>{esc(module)}</h2><div class=wide><table>"
             for name in names:
                 sentence = sources.sentence_of(folder, module, name) if folder else None
                 rows = next((self.notation.of[part] for part in [name, *name.split("◌")] if part in self.notation.of), [])
@@ -340,7 +345,7 @@ class Book:
                     parts = module.split(".")
                     sentence = f"a variant of {parts[-2]}" if parts[-1] == "TheVariants" else "named by itself"
                 yield f'<tr><td id="{anchor(module, name)}"><code>{esc(name) or "all"}</code></td><td>{said(sentence, lambda name: None)}</td></tr>'
-            yield "</table>"
+            yield "</table></div>"
 
     def types(self):
         yield "<h1>Types of the code</h1><p>Data types that definitions use, as the code has them. Where contracts see one by a value, it stands below.</p>"
