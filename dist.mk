@@ -1,9 +1,11 @@
 # What runs on machines without the toolchain. The Makefile includes this.
 #
 # make dist       proves the programs and the library for C, and leaves in dist/ tarballs, Debian packages and wheels for x86-64
-#                 and aarch64, with SHA256SUMS; each is tried. What a missing Debian package leaves out is said. What
-#                 was in dist/ before is taken away: make dist wasm page makes all
+#                 and aarch64, and the book of definitions, with SHA256SUMS; each is tried. What a missing Debian package
+#                 leaves out is said. What was in dist/ before is taken away: make dist wasm page makes all
 # make dist-try   tries what is in dist/ once more
+# make book       writes the definitions that a reader has to believe as pages of HTML, dist/book, and holds them against the
+#                 sources: in seconds, with no proof. make dist packs them as dist/sgb-book-VERSION.tar.gz
 
 dist: sgb FORCE
 	@$(MAKE) --no-print-directory lib
@@ -12,4 +14,9 @@ dist: sgb FORCE
 dist-try:
 	packaging/dist.py try commands
 
-.PHONY: dist dist-try
+book:
+	@packaging/book/book.py dist/book
+	@checks/book.py dist/book
+	@echo "dist/book/index.html is where to begin"
+
+.PHONY: dist dist-try book

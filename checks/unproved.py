@@ -6,9 +6,9 @@
 It builds the two programs and the library for C of the sources as they stand, unproved and optimized (checks/quick.py), and
 tries on them what needs no proof: the checks from outside (checks/outside.py), library calls with memory refused
 (checks/calls.py), the tables of the libraries (checks/library.py), the tests that are proved elsewhere (`rt try --test` in each
-crate of tests), what may be of others, where definitions stand and their book, the callers of the pages, and the places of forms. All lies in
-out/test, a copy of the tree, so that nothing there is taken for what was proved. Then it says what was not tried since a tool is not here, and the
-Debian package that has the tool. The last line is `N passed, M failed`.
+crate of tests), what may be of others, where definitions stand and their book, the callers of the pages, and the places of
+forms. All lies in out/test, a copy of the tree, so that nothing there is taken for what was proved. Then it says what was
+not tried since a tool is not here, and the Debian package that has the tool. The last line is `N passed, M failed`.
 """
 
 import concurrent.futures

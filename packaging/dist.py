@@ -3,8 +3,8 @@
 
     make dist
 
-The programs, the library for C and the Python package for x86-64 and aarch64, as tarballs, Debian packages and wheels, and
-SHA256SUMS. The same commit gives the same bytes. Without a word it makes them, tries them, and gives the commands of
+The programs, the library for C and the Python package for x86-64 and aarch64, as tarballs, Debian packages and wheels, the
+book of definitions, and SHA256SUMS. The same commit gives the same bytes. Without a word it makes them, tries them, and gives the commands of
 docs/INSTALL.md; else it does what the words say, in this order:
 
 - `make` takes away what is in dist/, which may be of another commit, and makes these files anew;
@@ -69,6 +69,11 @@ def package():
 def page():
     """The page as one file."""
     return os.path.join(DIST, f"sgb-page-{version()}.tar.gz")
+
+
+def book():
+    """The book of definitions as one file."""
+    return os.path.join(DIST, f"sgb-book-{version()}.tar.gz")
 
 
 def left_out(machine):
@@ -139,7 +144,7 @@ def make(machine, when):
 
 
 def files():
-    """The files of dist/, by their names: a folder there is the page's."""
+    """The files of dist/, by their names: the folders there are of the page and the book."""
     return [name for name in sorted(os.listdir(DIST)) if os.path.isfile(os.path.join(DIST, name))]
 
 
@@ -185,6 +190,15 @@ def pack_page():
     packed.write_tar(page(), os.path.basename(page())[: -len(".tar.gz")], tree, moment())
 
 
+def make_book(when):
+    """Writes the book of definitions, holds it against the sources, and packs it."""
+    folder = os.path.join(DIST, "book")
+    ran([sys.executable, os.path.join(built.HERE, "book/book.py"), folder])
+    ran([sys.executable, os.path.join(TOP, "checks/book.py"), folder])
+    tree = {name: (packed.read(folder, name), 0o644) for name in sorted(os.listdir(folder))}
+    packed.write_tar(book(), os.path.basename(book())[: -len(".tar.gz")], tree, when)
+
+
 def try_all(machine):
     """Tries all that was made for a processor."""
     tarball, deb, wheel = names(machine)
@@ -207,6 +221,8 @@ def same_sums():
         for path in names(machine):
             if not os.path.exists(path) and not (path.endswith(".deb") and no_deb()):
                 raise Failed(f"dist/{os.path.basename(path)} is not there")
+    if not os.path.exists(book()):
+        raise Failed(f"dist/{os.path.basename(book())} is not there")
 
 
 def make_all(here):
@@ -214,6 +230,7 @@ def make_all(here):
     clear()
     for machine in here:
         make(machine, when)
+    make_book(when)
 
 
 def main():

@@ -80,9 +80,9 @@ class Book:
         self.folder, self.sources = folder, sources.Sources()
         self.text, self.proved = document("DEFINITIONS.md"), document("PROVED.md")
         self.chapters = list(chapters_of(self.text, self.sources))
-        of_module = {module: chapter.file for chapter in self.chapters for module in chapter.modules}
+        self.of_module = {module: chapter.file for chapter in self.chapters for module in chapter.modules}
         all_of = self.sources.defs.all
-        self.page_of = {k: of_module[all_of[k].crate, all_of[k].module] for k in self.sources.reached}
+        self.page_of = {k: self.of_module[all_of[k].crate, all_of[k].module] for k in self.sources.reached}
         start = next(n for n, block in enumerate(self.text) if block[0] == "table")
         self.notation = pages.Notation([self.text[start][1], *self.text[start][2]][1:])
         self.render = pages.Renderer(self.sources, self.notation, self.page_of)
@@ -143,8 +143,12 @@ class Book:
         """What a name in a page's words leads to, the first of these crates before others."""
         def href(name):
             word = name.split()[0] if name.split() else ""
-            if self.by_word.get(word):
-                return self.render.href(min(self.by_word[word], key=lambda k: self.sources.defs.all[k].crate not in crates), word)
+            those = sorted(self.by_word.get(word, ()), key=lambda k: self.sources.defs.all[k].crate not in crates)
+            near = next((crate for crate in crates if (crate, word) in self.of_module), None)
+            if near and (not those or self.sources.defs.all[those[0]].crate not in crates):
+                return f"{self.of_module[near, word]}#{anchor(near, word)}"
+            if those:
+                return self.render.href(those[0], word)
             calls = [n for n, one in enumerate(self.sources.publics) if one.name == word and self.call_href(n)]
             calls.sort(key=lambda n: self.sources.publics[n].crate not in crates)
             return self.call_href(calls[0]) if calls else None
@@ -202,7 +206,7 @@ class Book:
             path = sources.path_of(crate, module)
             first = sources.counted.read(path).split("\n")[0]
             title = first[2:].strip() if first.startswith("--") else module
-            yield f"<h3>{esc(module)} <small>of {esc(crate)}</small></h3>\n<p>{said(title, lambda name: None)}</p>\n"
+            yield f"<h3 id={anchor(crate, module)}>{esc(module)} <small>of {esc(crate)}</small></h3>\n<p>{said(title, lambda name: None)}</p>\n"
             ks = [k for k in sorted(self.sources.reached) if self.sources.defs.all[k][:2] == (crate, module)]
             yield from map(self.definition, ks)
 
@@ -343,7 +347,7 @@ class Book:
                     sentence = ": ".join(self.notation.rows[rows[0]])
                 if sentence is None:
                     parts = module.split(".")
-                    sentence = f"a variant of {parts[-2]}" if parts[-1] == "TheVariants" else "named by itself"
+                    sentence = f"a variant of {parts[-2]}" if parts[-1] == "TheVariants" else "of the language, or a type of the code there"
                 yield f'<tr><td id="{anchor(module, name)}"><code>{esc(name) or "all"}</code></td><td>{said(sentence, lambda name: None)}</td></tr>'
             yield "</table></div>"
 

@@ -177,7 +177,8 @@ def sentence_of(folder, place, name, depth=0):
     match = re.search(above, text, re.M)
     if match:
         lines = [line.strip().lstrip("-").strip() for line in match.group(1).split("\n") if line.strip()]
-        return re.sub(r"\s+", " ", " ".join(line for line in lines if not set(line) <= set("-= "))) or None
+        says = " ".join(line for line in lines if not set(line) <= set("-= "))
+        return says or f"`{text[match.end(1):].strip().splitlines()[0]}`"
     for other, root, there, listed in re.findall(r"use\s+(?:Rattle\.(\w+)\.specs|(\w+))\.([\w.]+?)\.\{([^}]*)\}", text):
         for item in (part.strip() for part in listed.split(",")):
             if item.split(" as ")[-1] == name:
