@@ -3,11 +3,10 @@
 
     make book
 
-FOLDER is dist/book if it is not given. Pages of plain HTML are made from the sources as they stand, in seconds, and no
-proof is run. What counts, and which lines, checks/definitions.py says; the order and the words between are those of
-docs/DEFINITIONS.md, and the promises those of docs/PROVED.md. A name of the toolchain has the sentence of its source where
-`rt` is on the path, and the tree at the front is a picture where Graphviz is. checks/book.py holds the book against the
-sources.
+FOLDER is dist/book if it is not given. The sources are read as they stand, and no proof is run. checks/definitions.py says
+which definitions count; the order and the words between are those of docs/DEFINITIONS.md, the promises those of
+docs/PROVED.md. Where `rt` is on the path a name of the toolchain has its sentence there; the tree at the front is a picture
+where Graphviz is. checks/book.py holds the book against the sources.
 """
 
 import collections
@@ -22,7 +21,7 @@ import sys
 
 import pages
 import sources
-from pages import anchor, blocks_of, esc, said
+from pages import anchor, blocks_of, codes, esc, said
 
 HERE = os.path.dirname(os.path.abspath(__file__))
 TOP = sources.TOP
@@ -35,44 +34,37 @@ def document(name):
     return list(blocks_of(sources.counted.read(os.path.join(TOP, "docs", name))))
 
 
-def codes(text):
-    return [code.replace(r"\|", "|") for code in re.findall(r"`([^`]*)`", text)]
-
-
 def crate_in(title):
     return (re.findall(r"\bsgb(?:_\w+)?\b", title) or [None])[-1]
 
 
+def owner_in(head):
+    """The type or trait that the head of a block is of."""
+    return next(iter(re.findall(r"[A-Za-z]\w*", re.sub(r"<.*?>", " ", head.split(" for ")[-1]))), "")
+
+
+def is_subtitle(kind, text):
+    return kind == "text" and bool(re.match(r"\*\*.*\bsgb_\w+\*\*$", text))
+
+
 def chapters_of(text, book):
     """The chapters, as DEFINITIONS has them: those whose heading ends with a crate. Each has its modules in order."""
-    parts, current = [], None
-    for kind, one, more in text:
-        if kind == "head" and one == 2:
-            current = [more, []] if crate_in(more) else None
-            if current:
-                parts.append(current)
-        elif current:
-            current[1].append((kind, one, more))
+    heads = [n for n, (kind, one, _) in enumerate(text) if kind == "head" and one == 2] + [len(text)]
+    parts = [(text[n][2], text[n + 1:end]) for n, end in zip(heads, heads[1:]) if crate_in(text[n][2])]
     there = {(d.crate, d.module) for d in map(book.defs.all.__getitem__, book.reached)}
-    placed, found = {}, []
+    placed, crates = {}, []
     for n, (title, blocks) in enumerate(parts):
-        crate, crates = crate_in(title), [crate_in(title)]
+        crates.append([crate_in(title)])
         for kind, one, more in blocks:
-            if kind == "text" and re.match(r"\*\*.*\bsgb_\w+\*\*$", one):
-                crate = crate_in(one)
-                crates.append(crate)
-            for row in more if kind == "table" else ():
-                for name in codes(row[0]):
-                    if (crate, name) in there:
-                        placed.setdefault((crate, name), n)
-        found.append((title, blocks, crates))
-    of_crate = {crate: n for n in reversed(range(len(found))) for crate in found[n][2]}
+            crates[n] += [crate_in(one)] if is_subtitle(kind, one) else []
+            names = [name for row in more if kind == "table" for name in codes(row[0])] if kind == "table" else []
+            placed.update({(crates[n][-1], name): n for name in names if (crates[n][-1], name) in there - set(placed)})
     for module in sorted(there - set(placed)):
-        placed[module] = of_crate[module[0]]
-    for n, (title, blocks, crates) in enumerate(found):
+        placed[module] = next(n for n in range(len(parts)) if module[0] in crates[n])
+    for n, (title, blocks) in enumerate(parts):
         name = re.sub(r"\W+", "-", title.split(":")[0].lower()).strip("-")
         modules = [module for module, k in placed.items() if k == n]
-        yield Chapter(title.split(":")[0], f"{n + 1:02}-{name}.html", blocks, modules, crates)
+        yield Chapter(title.split(":")[0], f"{n + 1:02}-{name}.html", blocks, modules, crates[n])
 
 
 class Book:
@@ -94,18 +86,14 @@ class Book:
                 self.by_word[name].append(k)
         self.home_of = {n: file for file, those in self.calls.items() for n in those}
 
-    # ---- contracts
-
     def place_calls(self):
         """Which public contracts are in which chapter: those of its crates, each where most that it cites is."""
         calls = collections.defaultdict(list)
         for n, one in enumerate(self.sources.publics):
-            home = next((crate for chapter in self.chapters for crate in chapter.crates if crate == one.crate), None)
-            if not one.text.strip() or home is None:
-                continue
             files = collections.Counter(self.page_of[k] for k in self.sources.cited_by_public[n] if k in self.page_of)
             own = [chapter.file for chapter in self.chapters if one.crate in chapter.crates]
-            calls[max(own, key=lambda file: (files[file], -own.index(file)))].append(n)
+            if one.text.strip() and own:
+                calls[max(own, key=lambda file: (files[file], -own.index(file)))].append(n)
         return calls
 
     def call_id(self, n):
@@ -118,7 +106,7 @@ class Book:
     def call_name(self, n):
         """The name of a call, or of a member of a type or trait, as `graph of BoardLists`."""
         *head, name = self.sources.publics[n].name.split()
-        return name if not head else f"{name} of {re.findall(r'[A-Za-z_]+', re.sub(r'<.*?>', ' ', ' '.join(head).split(' for ')[-1]))[0]}"
+        return name if not head else f"{name} of {owner_in(' '.join(head))}"
 
     def read_promises(self):
         """The promises of PROVED by crate and the last part of the call's name."""
@@ -133,11 +121,8 @@ class Book:
         return found
 
     def promises_of(self, one):
-        own = re.findall(r"\w+", re.sub(r"<.*?>", " ", one.place[3].split(" for ")[-1]))[:1]
-        names = [one.name, *(f"{owner}::{one.name}" for owner in own)]
+        names = [one.name, f"{owner_in(one.place[3])}::{one.name}"]
         return [promise for name in names for promise in self.promises.get((one.crate, name), ())]
-
-    # ---- words
 
     def look(self, crates):
         """What a name in a page's words leads to, the first of these crates before others."""
@@ -161,16 +146,7 @@ class Book:
 
     def words(self, blocks, look):
         for kind, one, more in blocks:
-            if kind == "text":
-                yield f"<p>{said(one, look)}</p>"
-            elif kind == "list":
-                yield "<ul>" + "".join(f"<li>{said(item.replace(chr(10), ' '), look)}</li>" for item in one) + "</ul>"
-            elif kind == "table":
-                yield self.table(one, more, look)
-            elif kind == "head":
-                yield f"<h2>{said(more, look)}</h2>"
-
-    # ---- one definition
+            yield self.table(one, more, look) if kind == "table" else f"<p>{said(one, look)}</p>"
 
     def definition(self, k):
         book, d = self.sources, self.sources.defs.all[k]
@@ -190,16 +166,14 @@ class Book:
         return out + self.examples(k) + "</section>\n"
 
     def examples(self, k):
-        those = self.sources.examples[k]
-        if not those:
-            return ""
-        rows = []
+        those, rows = self.sources.examples[k], []
         for one in those:
             rows += [f"<p>{esc(one.comment)}</p>"] if one.comment else []
             rows += [f"<code>{esc(left)}{'' if right is None else ' = ' + esc(right)}</code>" for left, right in one.rows]
         is_open = " open" if len(those) < 4 else ""
         title = "1 example" if len(those) == 1 else f"{len(those)} examples"
-        return f"<details{is_open}><summary>{title}</summary><div class=rows>" + "\n".join(rows) + "</div></details>\n"
+        whole = f"<details{is_open}><summary>{title}</summary><div class=rows>" + "\n".join(rows) + "</div></details>\n"
+        return whole if those else ""
 
     def modules(self, those):
         for crate, module in those:
@@ -209,8 +183,6 @@ class Book:
             yield f"<h3 id={anchor(crate, module)}>{esc(module)} <small>of {esc(crate)}</small></h3>\n<p>{said(title, lambda name: None)}</p>\n"
             ks = [k for k in sorted(self.sources.reached) if self.sources.defs.all[k][:2] == (crate, module)]
             yield from map(self.definition, ks)
-
-    # ---- pages
 
     def chapter(self, chapter):
         look, left, crate = self.look(chapter.crates), list(chapter.modules), chapter.crates[0]
@@ -222,7 +194,7 @@ class Book:
             return those
 
         for kind, one, more in chapter.blocks:
-            if kind == "text" and re.match(r"\*\*.*\bsgb_\w+\*\*$", one):
+            if is_subtitle(kind, one):
                 out += self.modules(taken([module for module in left if module[0] == crate]))
                 crate = crate_in(one)
                 out.append(f"<h2>{esc(one.strip('*').split(':')[0])}</h2>")

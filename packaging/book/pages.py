@@ -14,6 +14,10 @@ def esc(text):
     return html.escape(text, quote=False)
 
 
+def codes(text):
+    return [code.replace(r"\|", "|") for code in re.findall(r"`([^`]*)`", text)]
+
+
 def anchor(*parts):
     return urllib.parse.quote(".".join(parts), safe="._-'")
 
@@ -24,12 +28,10 @@ class Notation:
     def __init__(self, rows):
         self.rows, self.of = rows, {}
         for n, (written, _) in enumerate(rows):
-            for code in re.findall(r"`([^`]*)`", written.replace(r"\|", "|")):
-                for token in lexer.tokens(code):
-                    is_sign = token.kind == "word" or token.text == "λ"
-                    if is_sign and (len(token.text) > 1 or not token.text.isalpha() or token.text == "λ") and token.text not in SIGN_SKIPPED:
-                        if n not in self.of.setdefault(token.text, []):
-                            self.of[token.text].append(n)
+            for kind, word in (token for code in codes(written) for token in lexer.tokens(code)):
+                is_sign = word == "λ" or kind == "word" and (len(word) > 1 or not word.isalpha())
+                if is_sign and word not in SIGN_SKIPPED and n not in self.of.setdefault(word, []):
+                    self.of[word].append(n)
 
     def mark(self, word):
         """The class of a sign, by which its row is shown, or nothing."""
@@ -177,7 +179,7 @@ def said(text, look):
 
 
 def blocks_of(text):
-    """The blocks of a page: ("head", level, title), ("text", words), ("list", items), ("table", rows)."""
+    """The blocks of a page: ("head", level, title), ("text", words, None), ("table", head, rows)."""
     for block in re.split(r"\n\s*\n", text):
         lines = [line for line in block.split("\n") if line.strip()]
         while lines and lines[0].startswith("#"):
@@ -188,7 +190,5 @@ def blocks_of(text):
         if lines[0].startswith("|"):
             rows = [[cell.strip() for cell in re.split(r"(?<!\\)\|", line.strip())[1:-1]] for line in lines]
             yield "table", rows[0], [row for row in rows[1:] if not set("".join(row)) <= set("-: ")]
-        elif lines[0].startswith("- "):
-            yield "list", re.split(r"(?:^|\n)- ", "\n".join(lines))[1:], None
         else:
             yield "text", " ".join(lines), None

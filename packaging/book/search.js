@@ -1,22 +1,17 @@
-// The search box: names of definitions, public calls and chapters, of NAMES, which stands above in search.js.
-const box = document.querySelector("#search input");
-const list = document.querySelector("#search ol");
-document.getElementById("search").hidden = false;
+// The search box: of NAMES, which stands above in dist/book/search.js, those that have what is written.
+const [form, box, list] = ["#search", "#search input", "#search ol"].map((one) => document.querySelector(one));
+form.hidden = false;
 box.addEventListener("input", () => {
   const wanted = box.value.trim().toLowerCase();
-  const rank = ([name]) => (name.toLowerCase() === wanted ? 0 : name.toLowerCase().startsWith(wanted) ? 1 : 2);
+  const rank = ([name]) => name.length + 1000 * !name.toLowerCase().startsWith(wanted);
   const found = wanted === "" ? [] : NAMES.filter(([name]) => name.toLowerCase().includes(wanted));
-  list.replaceChildren(...found.sort((a, b) => rank(a) - rank(b) || a[0].length - b[0].length).slice(0, 12).map(([name, href]) => {
-    const link = Object.assign(document.createElement("a"), { href, textContent: name });
+  list.replaceChildren(...found.sort((a, b) => rank(a) - rank(b)).slice(0, 12).map(([name, href]) => {
     const item = document.createElement("li");
-    item.append(link);
+    item.append(Object.assign(document.createElement("a"), { href, textContent: name }));
     return item;
   }));
 });
-box.addEventListener("keydown", (event) => {
-  if (event.key === "Enter" && list.querySelector("a")) location.href = list.querySelector("a").href;
-  if (event.key === "Escape") { box.value = ""; list.replaceChildren(); }
-});
 document.addEventListener("keydown", (event) => {
-  if (event.key === "/" && document.activeElement !== box) { event.preventDefault(); box.focus(); }
+  if (event.key === "Enter" && event.target === box && list.querySelector("a")) location.href = list.querySelector("a").href;
+  if (event.key === "/" && event.target !== box) { event.preventDefault(); box.focus(); }
 });
