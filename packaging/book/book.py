@@ -38,6 +38,23 @@ def crate_in(title):
     return (re.findall(r"\bsgb(?:_\w+)?\b", title) or [None])[-1]
 
 
+def section(blocks, title):
+    """The blocks below a heading, up to the next."""
+    start = next(n for n, block in enumerate(blocks) if block[0] == "head" and block[2] == title) + 1
+    return blocks[start:next((n for n in range(start, len(blocks)) if blocks[n][0] == "head"), len(blocks))]
+
+
+def plain(text):
+    return said(text, lambda name: None)
+
+
+def listing(rows):
+    """A table of rows (id or None, cells ..)."""
+    cell = lambda one: f"<td class=number>{one}</td>" if isinstance(one, int) else f"<td>{one}</td>"  # noqa: E731
+    lines = [(f'<tr id="{name}">' if name else "<tr>") + "".join(map(cell, cells)) + "</tr>" for name, *cells in rows]
+    return "<div class=wide><table>" + "\n".join(lines) + "</table></div>"
+
+
 def owner_in(head):
     """The type or trait that the head of a block is of."""
     return next(iter(re.findall(r"[A-Za-z]\w*", re.sub(r"<.*?>", " ", head.split(" for ")[-1]))), "")
@@ -161,7 +178,7 @@ class Book:
         at += ["used by " + ", ".join(users)] if users else []
         at += ["in the contracts of " + ", ".join(calls)] if calls else []
         out = f'<section class=def data-source="{path}:{d.first}">'
-        out += f"<p class=says>{said(says, lambda name: None)}</p>\n" if says else ""
+        out += f"<p class=says>{plain(says)}</p>\n" if says else ""
         out += f"<pre>{self.render.definition(k)}</pre>\n<p class=at>{' · '.join(at)}</p>\n"
         return out + self.examples(k) + "</section>\n"
 
@@ -180,7 +197,7 @@ class Book:
             path = sources.path_of(crate, module)
             first = sources.counted.read(path).split("\n")[0]
             title = first[2:].strip() if first.startswith("--") else module
-            yield f"<h3 id={anchor(crate, module)}>{esc(module)} <small>of {esc(crate)}</small></h3>\n<p>{said(title, lambda name: None)}</p>\n"
+            yield f"<h3 id={anchor(crate, module)}>{esc(module)} <small>of {esc(crate)}</small></h3>\n<p>{plain(title)}</p>\n"
             ks = [k for k in sorted(self.sources.reached) if self.sources.defs.all[k][:2] == (crate, module)]
             yield from map(self.definition, ks)
 
@@ -234,138 +251,117 @@ class Book:
 
     def front(self):
         book, look = self.sources, self.look(["sgb"])
-        readme = list(blocks_of(sources.counted.read(os.path.join(TOP, "README.md"))))
+        readme = blocks_of(sources.counted.read("README.md"))
         headline = next(one for kind, one, _ in readme if kind == "text" and one.startswith("Nobody has to take its word"))
         n = next(n for n, one in enumerate(book.publics) if one.name == "run_program")
         path, first, last, _ = book.publics[n].place
         lines = sources.counted.read(path).split("\n")[first - 1:last]
         start = next(k for k, line in enumerate(lines) if "ensures read" in line)
         end = next(k for k in range(start + 1, len(lines)) if re.match(r"\s*(ensures|//)", lines[k]))
+        yield f"<h1>What a reader has to believe</h1><p>{said(headline.split(' `make book`')[0], look)}</p>"
+        yield (f'<p>One clause carries that: <code>read</code> of <a href="{self.call_href(n)}"><code>run_program</code></a>, from '
+               f"which {book.defs.lines(book.tool):,} lines of definitions are reached. All public calls together reach "
+               f"{book.defs.lines(book.reached):,}.</p>")
         clause = self.render.contract("\n".join(lines[start:end]), book.publics[n].uses)
-        tool, every = book.defs.lines(book.tool), book.defs.lines(book.reached)
-        yield "<h1>What a reader has to believe</h1>"
-        yield f"<p>{said(headline, look)}</p>"
-        yield (f'<p>One clause carries that: <code>read</code> of <a href="{self.call_href(n)}"><code>run_program</code></a>, '
-               f"from which {tool:,} lines of definitions are reached. All public calls together reach {every:,}.</p>")
-        yield f"<pre>{clause}</pre><p class=at>{path}:{first + start}</p>"
-        cells = lambda row: "".join(f"<td class=number>{cell}</td>" for cell in row)  # noqa: E731
+        yield f"<pre>{clause}</pre><p class=at>{path}:{first + start}</p><h2>Chapters</h2>"
+        yield (f"<p>From outside in. A name leads to its definition. The tool rests on some of them; a star stands at the others. "
+               f"Minutes are those of {WORDS_IN_TEN} words between definitions, or {LINES_IN_TEN} lines of definitions with their "
+               "comments, in ten.</p>")
         rows, total = [], [0] * 5
         for chapter in self.chapters:
             words, lines, of_tool = self.counts[chapter.file]
             ten = [words / WORDS_IN_TEN + count / LINES_IN_TEN if count else 0 for count in (of_tool, lines)]
             row = [words, of_tool, round(10 * ten[0]), lines, round(10 * ten[1])]
             total = [a + b for a, b in zip(total, row)]
-            rows.append(f'<tr><td><a href="{chapter.file}">{esc(chapter.title)}</a></td>{cells(row)}</tr>')
-        heads = "".join(f"<th class=number>{head}</th>" for head in ("words", "lines of the tool", "minutes", "all lines", "minutes"))
-        yield ("<h2>Chapters</h2><p>From outside in. A name leads to its definition. The tool rests on some of them; a star "
-               f"stands at the others. Minutes are those of {WORDS_IN_TEN} words between definitions, or {LINES_IN_TEN} lines of "
-               "definitions with their comments, in ten.</p>"
-               f"<div class=wide><table><tr><th>chapter</th>{heads}</tr>" + "\n".join(rows) + f"<tr><td>all</td>{cells(total)}</tr></table></div>")
+            rows.append((None, f'<a href="{chapter.file}">{esc(chapter.title)}</a>', *row))
+        heads = ["chapter", "words", "lines of the tool", "minutes", "all lines", "minutes"]
+        yield listing([(None, *(f"<strong>{head}</strong>" for head in heads)), *rows, (None, "all", *total)])
         yield "<h2>How to read them</h2><p><a href=notation.html>Notation</a>: what the signs say. On a sign, its row is shown.</p>"
         yield "<h2>What the clause rests on</h2><p>The files of definitions that it reaches; each leads to those under it.</p>"
-        yield self.tree()
-        yield "<h2>What is trusted</h2>"
-        yield from self.words([block for block in self.proved[:4] if block[0] == "text"], look)
+        yield self.tree() + "<h2>What is trusted</h2>"
+        yield from self.words(section(self.proved, "What is trusted"), look)
         share = sources.counted.clap_share()
-        of_clap = f": {share[0]} lines of {share[1]}" if share else ""
-        yield (f"<p>So these definitions, and the toolchain: its checker, its compiler, its library (<a href=std.html>of std</a>), and "
-               f"clap's own definitions of which words it takes{of_clap}. What a file, a pipe or a terminal then holds, no clause says.</p>")
+        if share:
+            yield f"<p>Of clap's own definitions {share[0]} lines of {share[1]} say which words it takes.</p>"
+        yield from ["<h2>What is not said</h2>", *self.words(section(self.proved, "What is neither"), look)]
 
     def tree(self):
         """The files that the tool's definitions stand in, each with those that it cites and that no other of these cites."""
-        book, under = self.sources, collections.defaultdict(set)
+        book = self.sources
         module = lambda k: tuple(book.defs.all[k][:2])  # noqa: E731
+        under = {module(k): set() for k in book.tool}
         for k in book.tool:
             for user in book.used_by[k] & book.tool:
-                if module(k) != module(user):
-                    under[module(user)].add(module(k))
-            under[module(k)] |= set()
-        order = list(graphlib.TopologicalSorter(under).static_order())
-        below = {}
+                under[module(user)] |= {module(k)} - {module(user)}
+        order, below = list(graphlib.TopologicalSorter(under).static_order()), {}
         for one in order:
             below[one] = set().union(under[one], *(below[other] for other in under[one]))
         direct = {one: sorted(o for o in under[one] if not any(o in below[p] for p in under[one])) for one in order}
         href = {one: self.render.href(min(k for k in book.tool if module(k) == one)) for one in order}
         if shutil.which("dot"):
-            label = lambda one: f'"{one[1]}\\n{one[0]}"'  # noqa: E731
+            label = {one: f'"{one[1]}\\n{one[0]}"' for one in order}
             text = 'digraph { rankdir=LR; node [shape=box, style="rounded,filled", fontname="sans-serif", fontsize=11, height=0.3];\n'
-            text += "".join(f'{label(one)} [URL="{href[one]}"];\n' for one in sorted(order))
-            text += "".join(f"{label(one)} -> {label(other)};\n" for one in sorted(order) for other in direct[one]) + "}\n"
+            text += "".join(f'{label[one]} [URL="{href[one]}"];\n' for one in sorted(order))
+            text += "".join(f"{label[one]} -> {label[other]};\n" for one in sorted(order) for other in direct[one]) + "}\n"
             svg = subprocess.run(["dot", "-Tsvg"], input=text, capture_output=True, text=True, check=True).stdout
             return "<div class=tree>" + re.sub(r"<!--.*?-->\n?", "", svg[svg.index("<svg"):], flags=re.S) + "</div>"
-        seen = set()
 
-        def listed(one):
-            link = f'<a href="{href[one]}">{esc(one[1])}</a> of {esc(one[0])}'
-            if one in seen or not direct[one]:
-                return f"<li>{link}</li>"
+        def listed(one, seen):
+            lower = "" if one in seen else "".join(listed(other, seen) for other in direct[one])
             seen.add(one)
-            return f"<li>{link}<ul>" + "".join(map(listed, direct[one])) + "</ul></li>"
+            return f'<li><a href="{href[one]}">{esc(one[1])}</a> of {esc(one[0])}' + (f"<ul>{lower}</ul></li>" if lower else "</li>")
 
-        return "<ul class=tree>" + "".join(map(listed, [o for o in order if not any(o in below[p] for p in order)])) + "</ul>"
+        seen = set()
+        return f"<ul>{''.join(listed(one, seen) for one in reversed(order) if one not in seen)}</ul>"
 
     def std(self):
         folder = sources.toolchain()
-        yield "<h1>Names of the toolchain</h1><p>What the definitions take from its library, each with the sentence above it there.</p>"
-        groups = collections.defaultdict(list)
-        for one in sorted(self.render.std):
-            groups[one.module].append(one.name)
-        for module, names in groups.items():
-            yield f"<h2>{esc(module)}</h2><div class=wide><table>"
-            for name in names:
+        yield "<h1>Names of the toolchain</h1><p>What definitions take from its library, each with the sentence above it there.</p>"
+        for module in sorted({one.module for one in self.render.std}):
+            rows = []
+            for name in sorted(one.name for one in self.render.std if one.module == module):
+                numbers = next((self.notation.of[part] for part in [name, *name.split("◌")] if part in self.notation.of), [])
                 sentence = sources.sentence_of(folder, module, name) if folder else None
-                rows = next((self.notation.of[part] for part in [name, *name.split("◌")] if part in self.notation.of), [])
-                if sentence is None and rows:
-                    sentence = ": ".join(self.notation.rows[rows[0]])
-                if sentence is None:
-                    parts = module.split(".")
-                    sentence = f"a variant of {parts[-2]}" if parts[-1] == "TheVariants" else "of the language, or a type of the code there"
-                yield f'<tr><td id="{anchor(module, name)}"><code>{esc(name) or "all"}</code></td><td>{said(sentence, lambda name: None)}</td></tr>'
-            yield "</table></div>"
+                sentence = sentence or next((": ".join(self.notation.rows[number]) for number in numbers), "of the language or the code there")
+                rows.append((anchor(module, name), f"<code>{esc(name)}</code>", plain(sentence)))
+            yield f"<h2>{esc(module)}</h2>" + listing(rows)
 
     def types(self):
-        yield "<h1>Types of the code</h1><p>Data types that definitions use, as the code has them. Where contracts see one by a value, it stands below.</p>"
-        for key in sorted(self.sources.types):
-            path, line, comment, body, view = self.sources.types[key]
-            yield f'<section class=def-type id="{anchor(*key)}"><h3>{esc(key[1])} <small>of {esc(key[0])}</small></h3><p class=says>{said(comment, lambda name: None)}</p>'
-            yield f"<pre>{esc(body)}</pre>" + (f"<pre>{esc(view)}</pre>" if view else "") + f"<p class=at>{path}:{line}</p></section>"
+        yield "<h1>Types of the code</h1><p>Types that definitions use, as the code has them; below, the value that contracts see.</p>"
+        for key, (path, line, comment, body, view) in sorted(self.sources.types.items()):
+            yield f'<section class=type id="{anchor(*key)}"><h3>{esc(key[1])} <small>of {esc(key[0])}</small></h3>'
+            yield f"<p class=says>{plain(comment)}</p><pre>{esc(body)}</pre>" + (f"<pre>{esc(view)}</pre>" if view else "")
+            yield f"<p class=at>{path}:{line}</p></section>"
             self.names.append([key[1], self.render.href(key)])
 
     def fields(self):
-        yield "<h1>Fields</h1><p>What has a field of this name.</p><table>"
+        rows, name = [], lambda one: self.sources.defs.all[one].names[0] if isinstance(one, int) else one[1]
         for field in sorted(set(self.sources.fields) | self.render.far_fields):
-            those = list(dict.fromkeys(self.sources.fields.get(field, [])))
-            name = lambda one: self.sources.defs.all[one].names[0] if isinstance(one, int) else one[1]  # noqa: E731
+            those = dict.fromkeys(self.sources.fields.get(field, []))
             has = ", ".join(f'<a href="{self.render.href(one)}">{esc(name(one))}</a>' for one in those) or "of the toolchain"
-            yield f'<tr><td id="{anchor(field)}"><code>{esc(field)}</code></td><td>{has}</td></tr>'
-        yield "</table>"
+            rows.append((anchor(field), f"<code>{esc(field)}</code>", has))
+        yield "<h1>Fields</h1><p>What has a field of this name.</p>" + listing(rows)
 
     def write(self):
-        with open(os.path.join(HERE, "page.html")) as file:
-            template = string.Template(file.read())
-        made = [(chapter.file, chapter.title, self.chapter(chapter)) for chapter in self.chapters]
-        for chapter in self.chapters:
-            self.names.append([chapter.title, chapter.file])
-        rows = "".join(f'<tr id="row{n}"><td>{said(a, lambda name: None)}</td><td>{said(b, lambda name: None)}</td></tr>'
-                       for n, (a, b) in enumerate(self.notation.rows))
-        start = next(n for n, block in enumerate(self.text) if block[0] == "head" and block[2] == "How to read them")
-        end = next(n for n in range(start + 1, len(self.text)) if self.text[n][0] == "head")
-        words = "\n".join(self.words([block for block in self.text[start + 1:end] if block[0] != "table"], self.look([])))
-        notation = f"<h1>How to read them</h1><div class=wide><table>{rows}</table></div>{words}"
-        others = [("notation.html", "Notation", notation), ("types.html", "Types of the code", "\n".join(self.types()))]
-        front = ("index.html", "What a reader has to believe", "\n".join(self.front()))
-        others += [("fields.html", "Fields", "\n".join(self.fields())), ("std.html", "Names of the toolchain", "\n".join(self.std()))]
-        turned = [front, others[0], *made, *others[1:]]
+        made = [(chapter.file, chapter.title, [self.chapter(chapter)]) for chapter in self.chapters]
+        self.names += [[chapter.title, chapter.file] for chapter in self.chapters]
+        rows = [(f"row{n}", plain(written), plain(read)) for n, (written, read) in enumerate(self.notation.rows)]
+        words = self.words([block for block in section(self.text, "How to read them") if block[0] != "table"], self.look([]))
+        turned = [("index.html", "What a reader has to believe", self.front()),
+                  ("notation.html", "Notation", ["<h1>How to read them</h1>", listing(rows), *words]), *made,
+                  ("types.html", "Types of the code", self.types()), ("fields.html", "Fields", self.fields())]
+        turned = [(name, title, "\n".join(body)) for name, title, body in turned]
+        turned.append(("std.html", "Names of the toolchain", "\n".join(self.std())))
         shutil.rmtree(self.folder, ignore_errors=True)
         os.makedirs(self.folder)
-        for n, (name, title, body) in enumerate(turned):
-            turn = [f'<a href="{turned[n - 1][0]}">← {esc(turned[n - 1][1])}</a>'] if n else ["<span></span>"]
-            turn += [f'<a href="{turned[n + 1][0]}">{esc(turned[n + 1][1])} →</a>'] if n + 1 < len(turned) else []
+        template = string.Template(sources.counted.read(os.path.join(HERE, "page.html")))
+        for before, (name, title, body), after in zip([None, *turned], turned, [*turned[1:], None]):
+            turn = [f'<a href="{before[0]}">← {esc(before[1])}</a>' if before else "<span></span>"]
+            turn += [f'<a href="{after[0]}">{esc(after[1])} →</a>'] if after else []
             self.put(name, template.substitute(title=esc(title), body=body, turn=" ".join(turn)))
-        with open(os.path.join(HERE, "style.css")) as file:
-            self.put("style.css", file.read() + "\n".join(self.notation.style()) + "\n")
-        with open(os.path.join(HERE, "search.js")) as file:
-            self.put("search.js", f"const NAMES = {json.dumps(self.names, ensure_ascii=False)};\n" + file.read())
+        self.put("style.css", "\n".join([sources.counted.read(os.path.join(HERE, "style.css")), *self.notation.style(), ""]))
+        names = json.dumps(self.names, ensure_ascii=False)
+        self.put("search.js", f"const NAMES = {names};\n" + sources.counted.read(os.path.join(HERE, "search.js")))
 
     def put(self, name, text):
         with open(os.path.join(self.folder, name), "w") as file:

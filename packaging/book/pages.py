@@ -191,4 +191,4 @@ def blocks_of(text):
             rows = [[cell.strip() for cell in re.split(r"(?<!\\)\|", line.strip())[1:-1]] for line in lines]
             yield "table", rows[0], [row for row in rows[1:] if not set("".join(row)) <= set("-: ")]
         else:
-            yield "text", " ".join(lines), None
+            yield from (("text", item.replace("\n", " "), None) for item in re.split(r"\n(?=- )", "\n".join(lines)))
