@@ -247,7 +247,7 @@ class Book:
         promises = "".join(f"<p class=promise>{said(promise, look)}</p>" for promise in self.promises_of(one))
         where = f"{path}:{first}" + (f" · of {esc(owner)}" if owner else "")
         return (f'<section class=call id="{self.call_id(n)}" data-source="{path}:{first}-{last}">'
-                f"<p class=says>{said(said_there, look)}</p>{promises}<pre>{code}</pre><p class=at>{where}</p></section>\n")
+                f"<p class=says>{plain(said_there)}</p>{promises}<pre>{code}</pre><p class=at>{where}</p></section>\n")
 
     def front(self):
         book, look = self.sources, self.look(["sgb"])
