@@ -98,9 +98,8 @@ class Book:
         self.calls = self.place_calls()
         self.promises = self.read_promises()
         self.counts, self.names, self.by_word = {}, [], collections.defaultdict(list)
-        for k in sorted(self.sources.reached):
-            for name in all_of[k].names:
-                self.by_word[name].append(k)
+        for name, k in ((name, k) for k in sorted(self.sources.reached) for name in all_of[k].names):
+            self.by_word[name].append(k)
         self.home_of = {n: file for file, those in self.calls.items() for n in those}
 
     def place_calls(self):
@@ -170,8 +169,7 @@ class Book:
         comment, _ = book.source(k)
         says = " ".join(line[2:].strip() for line in comment)
         path = sources.path_of(d.crate, d.module)
-        for name in d.names:
-            self.names.append([name, self.render.href(k, name)])
+        self.names += [[name, self.render.href(k, name)] for name in d.names]
         users = [f'<a href="{self.render.href(j)}">{esc(book.defs.all[j].names[0])}</a>' for j in sorted(book.used_by[k] & book.reached)]
         calls = [f'<a href="{self.call_href(n)}">{esc(self.call_name(n))}</a>' for n in book.called_by[k] if self.call_href(n)]
         at = [f"{path}:{d.first}", *(() if k in book.tool else ["* not needed for the tool"])]
@@ -229,25 +227,18 @@ class Book:
         words = re.sub(r"<section.*?</section>|<[^>]*>", " ", "".join(out), flags=re.S)
         here = {k for k in self.page_of if self.page_of[k] == chapter.file}
         self.counts[chapter.file] = [len(words.split()), *(self.sources.defs.lines(those) for those in (here, here & self.sources.tool))]
-        out.append("<h2>Public contracts</h2>")
-        for n in self.calls[chapter.file]:
-            out.append(self.call(n, look))
-        return "\n".join(out)
+        return "\n".join([*out, "<h2>Public contracts</h2>", *(self.call(n, look) for n in self.calls[chapter.file])])
 
     def call(self, n, look):
         one = self.sources.publics[n]
         path, first, last, owner = one.place
         lines = sources.counted.read(path).split("\n")
-        above = first - 1
-        while above and lines[above - 1].strip().startswith(("///", "#[")):
-            above -= 1
-        said_there = " ".join(line.strip()[3:].strip() for line in lines[above:first - 1] if line.strip().startswith("///"))
         self.names.append([self.call_name(n), self.call_href(n)])
         code = self.render.contract("\n".join(lines[first - 1:last]), one.uses)
         promises = "".join(f"<p class=promise>{said(promise, look)}</p>" for promise in self.promises_of(one))
         where = f"{path}:{first}" + (f" · of {esc(owner)}" if owner else "")
         return (f'<section class=call id="{self.call_id(n)}" data-source="{path}:{first}-{last}">'
-                f"<p class=says>{plain(said_there)}</p>{promises}<pre>{code}</pre><p class=at>{where}</p></section>\n")
+                f"<p class=says>{plain(sources.comment_above(lines, first))}</p>{promises}<pre>{code}</pre><p class=at>{where}</p></section>\n")
 
     def front(self):
         book, look = self.sources, self.look(["sgb"])
@@ -368,13 +359,8 @@ class Book:
             file.write(text)
 
 
-def main():
-    folder = os.path.abspath(sys.argv[1]) if sys.argv[1:] else os.path.join(TOP, "dist/book")
-    os.chdir(TOP)
-    book = Book(folder)
-    book.write()
-    print(f"{folder}: {len(os.listdir(folder))} files, {len(book.sources.reached)} definitions")
-
-
 if __name__ == "__main__":
-    main()
+    place = os.path.abspath(sys.argv[1]) if sys.argv[1:] else os.path.join(TOP, "dist/book")
+    os.chdir(TOP)
+    Book(place).write()
+    print(f"{place}: {len(os.listdir(place))} files")

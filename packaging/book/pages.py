@@ -85,8 +85,7 @@ class Renderer:
         code = self.sources.code(k)
         names, aliases = self.sources.scope(d.crate, d.module)
         bound = lexer.bound(code, d.names, set(names)) | set(lexer.fields(code))
-        nearby = self.sources.defs.cited(d.text, d.crate, d.module, self.sources.defs.uses[d.crate, d.module]) | {k}
-        return self.code(code, names, aliases, bound, nearby, k)
+        return self.code(code, names, aliases, bound, self.sources.cited(k) | {k}, k)
 
     def contract(self, text, uses):
         names, aliases = self.sources.scope("", "", uses)
@@ -107,10 +106,8 @@ class Renderer:
         after = {n: found[solid[i + 1]].text if i + 1 < len(solid) else "" for i, n in enumerate(solid)}
         out, named = [], set()
         for n, (kind, word) in enumerate(found):
-            if kind == "comment":
+            if kind in ("comment", "text"):
                 out.append(f"<i>{esc(word)}</i>")
-            elif kind == "text":
-                out.append(f"<q>{esc(word)}</q>")
             elif word == "λ":
                 out.append(self.sign(word))
             elif kind != "word":

@@ -19,6 +19,14 @@ Example = collections.namedtuple("Example", "comment rows path line cites")
 Std = collections.namedtuple("Std", "module name")  # a name of the toolchain
 
 
+def comment_above(lines, first):
+    """The documentation above a line of code, as one text."""
+    above = first - 1
+    while above and lines[above - 1].strip().startswith(("///", "#[")):
+        above -= 1
+    return " ".join(line.strip()[3:].strip() for line in lines[above:first - 1] if line.strip().startswith("///"))
+
+
 def path_of(crate, module):
     return f"crates/{crate}/specs/{module.replace('.', '/')}.antt"
 
@@ -36,25 +44,20 @@ class Sources:
         cited = [self.defs.cited(one.text, one.crate, "", one.uses) for one in self.publics]
         self.reached = self.defs.reached(set().union(*cited))
         self.tool = self.defs.reached(set().union(*(k for one, k in zip(self.publics, cited) if one.name == "run_program")))
-        self.used_by, self.called_by = collections.defaultdict(set), collections.defaultdict(list)
-        for k in self.reached:
-            d = self.defs.all[k]
-            for other in self.defs.cited(d.text, d.crate, d.module, self.defs.uses[d.crate, d.module]) - {k}:
-                self.used_by[other].add(k)
-        self.cited_by_public = cited
-        for n, those in enumerate(cited):
-            for k in those:
-                self.called_by[k].append(n)
-        self.lines, self.fields = {}, collections.defaultdict(list)
+        self.used_by, self.fields = collections.defaultdict(set), collections.defaultdict(list)
+        self.lines, self.scopes, self.cited_by_public = {}, {}, cited
         for k in sorted(self.reached):
+            for other in self.cited(k) - {k}:
+                self.used_by[other].add(k)
             for field in lexer.fields(self.code(k)):
                 self.fields[field].append(k)
-        self.types = self.read_types()
-        self.examples = collections.defaultdict(list)
-        for one in self.read_examples():
-            for k in sorted(k for k in one.cites & self.reached):
-                self.examples[k].append(one)
-        self.scopes = {}
+        self.called_by = {k: [n for n, those in enumerate(cited) if k in those] for k in self.reached}
+        self.types, examples = self.read_types(), list(self.read_examples())
+        self.examples = {k: [one for one in examples if k in one.cites] for k in self.reached}
+
+    def cited(self, k):
+        d = self.defs.all[k]
+        return self.defs.cited(d.text, d.crate, d.module, self.defs.uses[d.crate, d.module])
 
     def source(self, k):
         """The comment's lines and the code's, as they stand."""
@@ -86,11 +89,9 @@ class Sources:
                 for match in STRUCT.finditer(text):
                     if (crate, match.group(1)) not in self.defs.types:
                         continue
-                    body = text[match.start():counted.closing(text, match.end() - 1) + 1]
-                    above = re.search(r"((?:^[ \t]*(?:///|#\[)[^\n]*\n)*)\Z", text[:match.start()], re.M).group(1)
-                    comment = " ".join(line.strip()[3:].strip() for line in above.split("\n") if line.strip().startswith("///"))
-                    view = views.get(match.group(1))
-                    found[crate, match.group(1)] = (path, text.count("\n", 0, match.start()) + 1, comment, body, view)
+                    body, view = text[match.start():counted.closing(text, match.end() - 1) + 1], views.get(match.group(1))
+                    line = text.count("\n", 0, match.start()) + 1
+                    found[crate, match.group(1)] = (path, line, comment_above(text.split("\n"), line), body, view)
                     declared = re.sub(r"//[^\n]*|#\[[^\n]*", "", body if view is None else "")
                     for field in re.findall(r"(?:^|[{,(])\s*(?:pub(?:\([^)]*\))? )?(\w+):", declared[match.end() - 1 - match.start():]):
                         self.fields[field].append((crate, match.group(1)))
