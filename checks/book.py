@@ -72,11 +72,7 @@ class Tally:
 
 def wanted():
     """The definitions that are counted: path and first line -> the comment as a sentence, and the text."""
-    order = definitions.crates()
-    every = definitions.Definitions([(crate, f"crates/{crate}/specs") for crate in order])
-    definitions.add_types(every, order)
-    laws = definitions.laws_of_traits(order)
-    texts = [one for crate in order if crate not in definitions.LOWER_PARTS for one in definitions.public_texts(crate, laws)]
+    every, texts = definitions.all_of(definitions.crates())
     reached = every.reached({k for one in texts for k in every.cited(one.text, one.crate, "", one.uses)})
     found = {}
     for d in map(every.all.__getitem__, reached):

@@ -336,13 +336,18 @@ def add_types(definitions, order):
         definitions.types[crate, name] = (within | definitions.cited(text, crate, "", uses)) - {(crate, name)}
 
 
-def clap_share():
-    """How many lines of clap's own definitions the two reach that say which words it takes, of how many; or None."""
+def toolchain():
+    """The folder of the toolchain, or None."""
     try:
         page = subprocess.run(["rt", "doc"], capture_output=True, text=True, check=True).stdout.split("\n")[0]
     except (OSError, subprocess.CalledProcessError):
         return None
-    folder = os.path.join(os.path.dirname(page), "rattle", "clap", "specs")
+    return os.path.dirname(page)
+
+
+def clap_share():
+    """How many lines of clap's own definitions the two reach that say which words it takes, of how many; or None."""
+    folder = os.path.join(toolchain() or "", "rattle", "clap", "specs")
     if not os.path.isdir(folder):
         return None
     clap = Definitions([("clap", folder)])
@@ -365,12 +370,17 @@ def page_parts(path):
     return parts, tabled
 
 
-def main():
-    order = crates()
+def all_of(order):
+    """The definitions of these crates, and their public calls, types and traits."""
     definitions = Definitions([(crate, f"crates/{crate}/specs") for crate in order])
     add_types(definitions, order)
     laws = laws_of_traits(order)
-    texts = [public for crate in order if crate not in LOWER_PARTS for public in public_texts(crate, laws)]
+    return definitions, [public for crate in order if crate not in LOWER_PARTS for public in public_texts(crate, laws)]
+
+
+def main():
+    order = crates()
+    definitions, texts = all_of(order)
 
     def from_those(wanted):
         found = [public for public in texts if wanted(public)]

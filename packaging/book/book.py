@@ -48,11 +48,11 @@ def plain(text):
     return said(text, lambda name: None)
 
 
-def listing(rows):
+def listing(rows, mark=""):
     """A table of rows (id or None, cells ..)."""
     cell = lambda one: f"<td class=number>{one}</td>" if isinstance(one, int) else f"<td>{one}</td>"  # noqa: E731
     lines = [(f'<tr id="{name}">' if name else "<tr>") + "".join(map(cell, cells)) + "</tr>" for name, *cells in rows]
-    return "<div class=wide><table>" + "\n".join(lines) + "</table></div>"
+    return f"<div class=wide><table{mark}>" + "\n".join(lines) + "</table></div>"
 
 
 def owner_in(head):
@@ -155,14 +155,6 @@ class Book:
             return self.call_href(calls[0]) if calls else None
         return href
 
-    def table(self, head, rows, look, mark=""):
-        cells = lambda row, tag: "".join(f"<{tag}>{said(cell, look)}</{tag}>" for cell in row)  # noqa: E731
-        first = f"<tr>{cells(head, 'th')}</tr>" if head else ""
-        return f"<div class=wide><table{mark}>{first}" + "".join(f"<tr>{cells(row, 'td')}</tr>\n" for row in rows) + "</table></div>"
-
-    def words(self, blocks, look):
-        for kind, one, more in blocks:
-            yield self.table(one, more, look) if kind == "table" else f"<p>{said(one, look)}</p>"
 
     def definition(self, k):
         book, d = self.sources, self.sources.defs.all[k]
@@ -217,12 +209,12 @@ class Book:
                 group = []
                 for row in [*more, None]:
                     if (row is None or row[0]) and group:
-                        out.append(self.table(None, group, look, " class=map"))
+                        out.append(listing([(None, *(said(cell, look) for cell in one)) for one in group], " class=map"))
                         out += self.modules(taken([(crate, name) for name in codes(group[0][0])]))
                         group = []
                     group.append(row)
             else:
-                out += self.words([(kind, one, more)], look)
+                out.append(f"<p>{said(one, look)}</p>")
         out += self.modules(taken(list(left)))
         words = re.sub(r"<section.*?</section>|<[^>]*>", " ", "".join(out), flags=re.S)
         here = {k for k in self.page_of if self.page_of[k] == chapter.file}
@@ -270,11 +262,12 @@ class Book:
         yield "<h2>How to read them</h2><p><a href=notation.html>Notation</a>: what the signs say. On a sign, its row is shown.</p>"
         yield "<h2>What the clause rests on</h2><p>The files of definitions that it reaches; each leads to those under it.</p>"
         yield self.tree() + "<h2>What is trusted</h2>"
-        yield from self.words(section(self.proved, "What is trusted"), look)
+        yield from (f"<p>{said(one, look)}</p>" for _, one, _ in section(self.proved, "What is trusted"))
         share = sources.counted.clap_share()
         if share:
             yield f"<p>Of clap's own definitions {share[0]} lines of {share[1]} say which words it takes.</p>"
-        yield from ["<h2>What is not said</h2>", *self.words(section(self.proved, "What is neither"), look)]
+        yield "<h2>What is not said</h2>"
+        yield from (f"<p>{said(one, look)}</p>" for _, one, _ in section(self.proved, "What is neither"))
 
     def tree(self):
         """The files that the tool's definitions stand in, each with those that it cites and that no other of these cites."""
@@ -306,7 +299,7 @@ class Book:
         return f"<ul>{''.join(listed(one, seen) for one in reversed(order) if one not in seen)}</ul>"
 
     def std(self):
-        folder = sources.toolchain()
+        folder = sources.counted.toolchain()
         yield "<h1>Names of the toolchain</h1><p>What definitions take from its library, each with the sentence above it there.</p>"
         for module in sorted({one.module for one in self.render.std}):
             rows = []
@@ -337,7 +330,8 @@ class Book:
         made = [(chapter.file, chapter.title, [self.chapter(chapter)]) for chapter in self.chapters]
         self.names += [[chapter.title, chapter.file] for chapter in self.chapters]
         rows = [(f"row{n}", plain(written), plain(read)) for n, (written, read) in enumerate(self.notation.rows)]
-        words = self.words([block for block in section(self.text, "How to read them") if block[0] != "table"], self.look([]))
+        look, blocks = self.look([]), section(self.text, "How to read them")
+        words = [f"<p>{said(one, look)}</p>" for kind, one, _ in blocks if kind == "text"]
         turned = [("index.html", "What a reader has to believe", self.front()),
                   ("notation.html", "Notation", ["<h1>How to read them</h1>", listing(rows), *words]), *made,
                   ("types.html", "Types of the code", self.types()), ("fields.html", "Fields", self.fields())]

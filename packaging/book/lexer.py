@@ -36,16 +36,6 @@ def is_constructor(word):
     return word in SMALL_CONSTRUCTORS or word[:1].isupper()
 
 
-def closing(solid, opening):
-    """The place of the token that closes the bracket at `opening`."""
-    depth = 0
-    for place in range(opening, len(solid)):
-        depth += (solid[place].text in OPEN and solid[place].kind == "sign") - (solid[place].text in CLOSE)
-        if depth == 0:
-            return place
-    return len(solid)
-
-
 def words_of_pattern(solid, known):
     """The names that a pattern binds: its words but known constructors and what has a module before it."""
     return {token.text for k, token in enumerate(solid)
@@ -90,10 +80,8 @@ def bound(text, names, known):
             end = next((k for k in range(place, len(solid)) if solid[k].text in ("=", ":")), place)
             found |= words_of_pattern(solid[place + 1:end], known)
         elif token.text in ("[", "|"):
-            end, stop = place + 1, len(solid)
-            while end < stop and solid[end].text not in ("↦", "]", "|"):
-                end = closing(solid, end) + 1 if solid[end].text in ("(", "{") else end + 1
-            if end < stop and solid[end].text == "↦":
+            end = next((k for k in range(place + 1, len(solid)) if solid[k].text in ("↦", "]", "|")), place)
+            if solid[end].text == "↦":
                 found |= words_of_pattern(solid[place + 1:end], known)
     return found - {"_", *names}
 

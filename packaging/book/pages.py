@@ -159,7 +159,7 @@ class Renderer:
 
 def said(text, look):
     """A sentence of a page or of a comment, whose code may be linked by `look`."""
-    parts = re.split(r"(`[^`]*`|\*\*[^*]+\*\*|\[[^\]]*\]\([^)]*\))", text)
+    parts = re.split(r"(`[^`]*`|\*\*[^*]+\*\*)", text)
     out = []
     for part in parts:
         if part.startswith("`") and len(part) > 1:
@@ -168,8 +168,6 @@ def said(text, look):
             out.append(f'<code><a href="{href}">{esc(name)}</a></code>' if href else f"<code>{esc(name)}</code>")
         elif part.startswith("**"):
             out.append(f"<strong>{esc(part[2:-2])}</strong>")
-        elif re.fullmatch(r"\[[^\]]*\]\([^)]*\)", part):
-            out.append(esc(part[1:part.index("]")]))
         else:
             out.append(esc(part))
     return "".join(out)

@@ -3,7 +3,6 @@
 import collections
 import os
 import re
-import subprocess
 import sys
 
 TOP = os.path.dirname(os.path.dirname(os.path.dirname(os.path.abspath(__file__))))
@@ -36,11 +35,7 @@ class Sources:
 
     def __init__(self):
         self.order = counted.crates()
-        self.defs = counted.Definitions([(crate, f"crates/{crate}/specs") for crate in self.order])
-        counted.add_types(self.defs, self.order)
-        laws = counted.laws_of_traits(self.order)
-        self.publics = [one for crate in self.order if crate not in counted.LOWER_PARTS
-                        for one in counted.public_texts(crate, laws)]
+        self.defs, self.publics = counted.all_of(self.order)
         cited = [self.defs.cited(one.text, one.crate, "", one.uses) for one in self.publics]
         self.reached = self.defs.reached(set().union(*cited))
         self.tool = self.defs.reached(set().union(*(k for one, k in zip(self.publics, cited) if one.name == "run_program")))
@@ -152,15 +147,6 @@ class Sources:
         if found in self.types:
             return found
         return Std(f"{there[0]}.{there[1]}", there[2]) if there[0] not in self.order else None
-
-
-def toolchain():
-    """The folder of the toolchain, or None."""
-    try:
-        page = subprocess.run(["rt", "doc"], capture_output=True, text=True, check=True).stdout.split("\n")[0]
-    except (OSError, subprocess.CalledProcessError):
-        return None
-    return os.path.dirname(page)
 
 
 def sentence_of(folder, place, name, depth=0):
