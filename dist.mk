@@ -4,8 +4,9 @@
 #                 and aarch64, and the book of definitions, with SHA256SUMS; each is tried. What a missing Debian package
 #                 leaves out is said. What was in dist/ before is taken away: make dist wasm page makes all
 # make dist-try   tries what is in dist/ once more
-# make book       writes the definitions that a reader has to believe as pages of HTML, dist/book, and holds them against the
-#                 sources: in seconds, with no proof. make dist packs them as dist/sgb-book-VERSION.tar.gz
+# make book       writes the definitions that a reader has to believe as pages of HTML, dist/book, holds them against the
+#                 sources and looks at them in Chromium: with no proof, in less than a minute. make dist packs them as
+#                 dist/sgb-book-VERSION.tar.gz
 
 dist: sgb FORCE
 	@$(MAKE) --no-print-directory lib
@@ -17,6 +18,7 @@ dist-try:
 book:
 	@packaging/book/book.py dist/book
 	@checks/book.py dist/book
+	@checks/book_seen.py dist/book
 	@echo "dist/book/index.html is where to begin"
 
 .PHONY: dist dist-try book
