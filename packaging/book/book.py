@@ -11,6 +11,7 @@ where Graphviz is. checks/book.py holds the book against the sources.
 
 import collections
 import graphlib
+import itertools
 import json
 import os
 import re
@@ -158,9 +159,7 @@ class Book:
 
     def definition(self, k):
         book, d = self.sources, self.sources.defs.all[k]
-        comment, _ = book.source(k)
-        says = " ".join(line[2:].strip() for line in comment)
-        path = sources.path_of(d.crate, d.module)
+        says, path = " ".join(line[2:].strip() for line in book.source(k)[0]), sources.path_of(d.crate, d.module)
         self.names += [[name, self.render.href(k, name)] for name in d.names]
         users = [f'<a href="{self.render.href(j)}">{esc(book.defs.all[j].names[0])}</a>' for j in sorted(book.used_by[k] & book.reached)]
         calls = [f'<a href="{self.call_href(n)}">{esc(self.call_name(n))}</a>' for n in book.called_by[k] if self.call_href(n)]
@@ -175,7 +174,7 @@ class Book:
     def examples(self, k):
         those, rows = self.sources.examples[k], []
         for one in those:
-            rows += [f"<p>{esc(one.comment)}</p>"] if one.comment else []
+            rows += [f"<p>{plain(one.comment)}</p>"] if one.comment else []
             rows += [f"<code>{esc(left)}{'' if right is None else ' = ' + esc(right)}</code>" for left, right in one.rows]
         is_open = " open" if len(those) < 4 else ""
         title = "1 example" if len(those) == 1 else f"{len(those)} examples"
@@ -184,9 +183,8 @@ class Book:
 
     def modules(self, those):
         for crate, module in those:
-            path = sources.path_of(crate, module)
-            first = sources.counted.read(path).split("\n")[0]
-            title = first[2:].strip() if first.startswith("--") else module
+            lines = sources.counted.read(sources.path_of(crate, module)).split("\n")
+            title = " ".join(line[2:].strip() for line in itertools.takewhile(lambda line: line.startswith("--"), lines))
             yield f"<h3 id={anchor(crate, module)}>{esc(module)} <small>of {esc(crate)}</small></h3>\n<p>{plain(title)}</p>\n"
             ks = [k for k in sorted(self.sources.reached) if self.sources.defs.all[k][:2] == (crate, module)]
             yield from map(self.definition, ks)
