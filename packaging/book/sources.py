@@ -153,7 +153,9 @@ def sentence_of(folder, place, name, depth=0):
     """The comment above a name in the toolchain's sources, following what is handed on; None where there is none."""
     first, _, module = place.partition(".")
     antt = os.path.join(folder, "rattle/antt")
-    roots = [os.path.join(folder, "rlibs", f"{first}.rlib", "lang/antt/specs"), os.path.join(folder, "rattle", first, "specs"),
+    crates = [first, "core", "std_alloc"] if first == "std" else [first]  # std hands on what is theirs
+    roots = [*(os.path.join(folder, "rlibs", f"{crate}.rlib", "lang/antt/specs") for crate in crates),
+             os.path.join(folder, "rattle", first, "specs"),
              os.path.join(antt, "port", first, "src"), os.path.join(antt, first, "src")]
     paths = [os.path.join(root, module.replace(".", "/") + ".antt") for root in roots]
     path = next((one for one in paths if os.path.isfile(one)), None)
