@@ -3,6 +3,8 @@
 # make dist       proves the programs and the library for C, and leaves in dist/ tarballs, Debian packages and wheels for x86-64
 #                 and aarch64, and the book of definitions, with SHA256SUMS; each is tried. What a missing Debian package
 #                 leaves out is said. What was in dist/ before is taken away: make dist wasm page makes all
+# make windows    makes of the same proofs what runs on Windows, and tries it under wine: sgb-VERSION-x86_64-windows.zip and a
+#                 wheel. make dist does so too where the Debian packages for it are there, else it says what is missing
 # make dist-try   tries what is in dist/ once more
 # make book       writes the definitions that a reader has to believe as pages of HTML, dist/book, holds them against the
 #                 sources and looks at them in Chromium: with no proof, in less than a minute. make dist packs them as
@@ -11,6 +13,10 @@
 dist: sgb FORCE
 	@$(MAKE) --no-print-directory lib
 	packaging/dist.py
+
+windows: sgb FORCE
+	@$(MAKE) --no-print-directory lib
+	packaging/dist.py windows sums windows-try commands
 
 dist-try:
 	packaging/dist.py try commands
@@ -21,4 +27,4 @@ book:
 	@checks/book_seen.py dist/book
 	@echo "dist/book/index.html is where to begin"
 
-.PHONY: dist dist-try book
+.PHONY: dist windows dist-try book

@@ -6,7 +6,8 @@
 
 PROGRAM is run as `PROGRAM names EXPRESSION`, and so with list and save. Each row is compared in all that the words ask
 for, or in all four ways without words. Each difference is a line, and the last line says how many comparisons passed and
-failed; the status is 1 where one failed. CONFORMANCE_SECONDS is what one run may take, 60 if it is not set.
+failed; the status is 1 where one failed. CONFORMANCE_SECONDS is what one run may take, 60 if it is not set. Where
+CONFORMANCE_LONGEST is set, rows of longer expressions are left out: a system's command line may not hold them.
 """
 
 import collections
@@ -19,6 +20,7 @@ import sys
 HERE = os.path.dirname(os.path.abspath(__file__))
 ROWS = os.path.join(HERE, "graphs.tsv")
 SECONDS = int(os.environ.get("CONFORMANCE_SECONDS", "60"))
+LONGEST = int(os.environ.get("CONFORMANCE_LONGEST", "0"))
 COMMANDS = ("names", "list", "save")
 WAYS = (*COMMANDS, "refusals")
 
@@ -143,6 +145,8 @@ def main():
     except (OSError, ValueError) as fault:
         sys.exit(f"compare.py: {fault}")
     for row in table:
+        if LONGEST and len(row.expression) > LONGEST:
+            continue
         for name, difference in compared(program, row, words):
             if difference is None:
                 passed += 1

@@ -59,7 +59,7 @@ def kit():
 
 
 def rattle(crate, target, made):
-    """The words of rattle that prove a crate, over what was proved below it, and compile it for another processor."""
+    """The words of rattle that prove a crate, over what was proved below it, and compile it for a target, or for this machine."""
     found, there = uses(), kit()
     is_program = os.path.exists(os.path.join(TOP, "crates", crate, "src/main.rt"))
     said = [f"{there}/bin/rattle", "build", "--crate-name", crate, "src/main.rt" if is_program else "src/lib.rt"]
@@ -73,7 +73,7 @@ def rattle(crate, target, made):
         said += ["-L", "dependency=" + os.path.dirname(rlib)]
     said += ["--antt-project", f"{there}/rattle/logic/antt-project.json", "--logic-built", f"{there}/logic_built"]
     said += ["--incremental", "out/incremental", "--toolchain", f"{there}/toolchain", "--backend", "llvm", "--jobs", "2"]
-    return said + ["--target", target, "-o", made]
+    return said + (["--target", target] if target else []) + ["-o", made]
 
 
 def state():

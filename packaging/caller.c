@@ -3,9 +3,14 @@
  *     cc caller.c $(pkg-config --cflags --libs sgb) -o caller
  *     conformance/compare.py ./caller
  */
+#include <inttypes.h>
 #include <stdio.h>
 #include <stdlib.h>
 #include <string.h>
+#ifdef _WIN32
+#include <fcntl.h>
+#include <io.h>
+#endif
 
 #include "sgb.h"
 
@@ -19,11 +24,11 @@ static void *room(size_t count, size_t size) {
 static void must(uint64_t answer) {
     if (!answer) return;
     if (answer >= SGB_BAD_EXPRESSION) {
-        fprintf(stderr, "sgb: bad expression at byte %lu\n", (unsigned long)(answer - SGB_BAD_EXPRESSION));
+        fprintf(stderr, "sgb: bad expression at byte %" PRIu64 "\n", answer - SGB_BAD_EXPRESSION);
     } else if (answer == SGB_TEXT_TOO_LARGE) {
         fputs("sgb: expression too large\n", stderr);
     } else {
-        fprintf(stderr, "Something went wrong (panic code %lu)!\n", (unsigned long)answer);
+        fprintf(stderr, "Something went wrong (panic code %" PRIu64 ")!\n", answer);
         exit(1);
     }
     exit(2);
@@ -38,7 +43,7 @@ static void save(sgb_graph *graph) {
 }
 
 /* The names, and in a listing the arcs of each vertex below its name. */
-static void tell(sgb_graph *graph, bool with_arcs) {
+static void show(sgb_graph *graph, bool with_arcs) {
     sgb_graph_sizes sizes;
     uint64_t arcs, m, bytes;
     must(sgb_sizes(graph, &sizes));
@@ -55,13 +60,13 @@ static void tell(sgb_graph *graph, bool with_arcs) {
     must(sgb_id(graph, id, sizes.id));
     if (with_arcs) {
         printf("  The graph whose official name is\n%s\n", id);
-        printf("  has %lu vertices and %lu arcs:\n\n", (unsigned long)n, (unsigned long)arcs);
+        printf("  has %" PRIu64 " vertices and %" PRIu64 " arcs:\n\n", sizes.vertices, arcs);
     }
     for (size_t v = 0; v < n; v++) {
         printf("%.*s\n", (int)(begins[v + 1] - begins[v]), names + begins[v]);
         for (uint64_t k = starts[v]; with_arcs && k < starts[v + 1]; k++) {
             uint64_t from = begins[tips[k]], to = begins[tips[k] + 1];
-            printf("  -> %.*s, length %ld\n", (int)(to - from), names + from, (long)lengths[k]);
+            printf("  -> %.*s, length %" PRId64 "\n", (int)(to - from), names + from, lengths[k]);
         }
     }
 }
@@ -69,11 +74,16 @@ static void tell(sgb_graph *graph, bool with_arcs) {
 int main(int count, char **words) {
     sgb_graph graph = SGB_NO_GRAPH;
     if (count != 3) return 2;
+#ifdef _WIN32
+    /* no newline is turned into two bytes */
+    _setmode(_fileno(stdout), _O_BINARY);
+    _setmode(_fileno(stderr), _O_BINARY);
+#endif
     must(sgb_open(words[2], strlen(words[2]), "", 0, &graph));
     if (strcmp(words[1], "save") == 0) {
         save(&graph);
     } else {
-        tell(&graph, strcmp(words[1], "list") == 0);
+        show(&graph, strcmp(words[1], "list") == 0);
     }
     sgb_close(&graph);
     return fflush(stdout) ? 3 : 0;

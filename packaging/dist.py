@@ -1,5 +1,5 @@
 #!/usr/bin/env python3
-"""Makes dist/ of what `make` and `make lib` proved and left, and tries it: packaging/dist.py [make|page|sums|try|commands ..]
+"""Makes dist/ of what `make` and `make lib` proved and left, and tries it: packaging/dist.py [make|windows|page|sums|try|windows-try|commands ..]
 
     make dist
 
@@ -8,9 +8,10 @@ book of definitions, and SHA256SUMS. The same commit gives the same bytes. Witho
 docs/INSTALL.md; else it does what the words say, in this order:
 
 - `make` takes away what is in dist/, which may be of another commit, and makes these files anew;
+- `windows` makes those for Windows, which `make` makes as well where their Debian packages are installed;
 - `page` packs dist/page, which `make page` leaves, as one file;
 - `sums` writes the digests of all files there, those of `make wasm` and `make page` among them;
-- `try` tries the files that `make` makes;
+- `try` tries the files that `make` makes, `windows-try` those for Windows alone, under wine;
 - `commands` gives the commands of docs/INSTALL.md for which there are files.
 
 It says what it leaves out where a file or a Debian package is missing; the status is 1 where something that it made does
@@ -29,13 +30,14 @@ import tarfile
 import built
 import packed
 import tried
+import windows
 from built import MACHINES, NATIVE, ROOM, TOP, Failed, ran
 
 DIST = os.path.join(TOP, "dist")
 SUMS = os.path.join(DIST, "SHA256SUMS")
 OLDEST = (2, 17)  # the glibc that wheels name
 COMMIT = os.path.join(ROOM, "commit")  # that of the files that were made here
-WORDS = ["make", "page", "sums", "try", "commands"]
+WORDS = ["make", "windows", "page", "sums", "try", "windows-try", "commands"]
 
 
 def version():
@@ -137,7 +139,7 @@ def make(machine, when):
     tree["share/doc/sgb/README.md"] = about, 0o644
     if not no_deb():
         packed.write_deb(deb, packed.debian_tree(tree), {"ARCHITECTURE": machine.debian, **values}, when, room)
-    packed.write_wheel(wheel, library, built.calls_version(), wheel.split("-", 2)[2][: -len(".whl")], when)
+    packed.write_wheel(wheel, ("libsgb.so", library["libsgb.so"]), built.calls_version(), wheel.split("-", 2)[2][: -len(".whl")], when)
     tree["README.md"], tree["install.sh"] = (about, 0o644), (packed.read(built.HERE, "install.sh"), 0o755)
     packed.write_tar(tarball, os.path.basename(tarball)[: -len(".tar.gz")], tree, when)
     print(f"  libsgb.so wants glibc {needs[0]}.{needs[1]}, the programs none", flush=True)
@@ -156,7 +158,7 @@ def sums():
 
 def write_sums():
     """Writes the digests. Beside what is made here, all has to be of the same commit."""
-    if any(os.path.exists(path) for machine in MACHINES for path in names(machine)):
+    if any(map(os.path.exists, [*(path for machine in MACHINES for path in names(machine)), *windows.names(DIST, version())])):
         moment()
         if not os.path.exists(COMMIT) or packed.read(COMMIT).decode() != commit():
             raise Failed("dist/ has files of another commit: make dist makes them anew, and then make wasm page the others")
@@ -225,12 +227,21 @@ def same_sums():
         raise Failed(f"dist/{os.path.basename(book())} is not there")
 
 
+def make_windows():
+    """Makes what is for Windows. Other files in dist/ stay, where they are of this commit."""
+    if not os.path.exists(COMMIT) or packed.read(COMMIT).decode() != commit():
+        clear()
+    windows.make(DIST, version(), moment())
+
+
 def make_all(here):
     when = moment()
     clear()
     for machine in here:
         make(machine, when)
     make_book(when)
+    if not windows.left_out():
+        make_windows()
 
 
 def main():
@@ -238,12 +249,16 @@ def main():
     if not set(words) <= set(WORDS):
         sys.exit(f"usage: packaging/dist.py [{'|'.join(WORDS)} ..]")
     here = [machine for machine in MACHINES if not left_out(machine)]
-    reasons = [*map(left_out, MACHINES), no_deb(), no_venv()] if {"make", "try"} & set(words) else []
+    reasons = [*map(left_out, MACHINES), windows.left_out(), no_deb(), no_venv()] if {"make", "try"} & set(words) else []
     try:
         if {"make", "try"} & set(words) and NATIVE not in here:
             raise Failed(left_out(NATIVE))
         if "make" in words:
             make_all(here)
+        if {"windows", "windows-try"} & set(words) and windows.left_out():
+            raise Failed(windows.left_out())
+        if "windows" in words:
+            make_windows()
         if "page" in words:
             pack_page()
         if "sums" in words:
@@ -252,6 +267,8 @@ def main():
             same_sums()
             for machine in here:
                 try_all(machine)
+        if "windows-try" in words or ("try" in words and not windows.left_out()):
+            windows.works(DIST, version(), ROOM, tried)
         if "commands" in words:
             reasons += tried.install_works([os.path.join(DIST, name) for name in files()], ROOM, sections())
     except (Failed, OSError) as why:

@@ -171,12 +171,25 @@ def write_deb(path, tree, values, moment, room):
         env={**os.environ, "SOURCE_DATE_EPOCH": str(moment)})
 
 
+def zip_entry(name, moment, mode):
+    entry = zipfile.ZipInfo(name, time.gmtime(moment)[:6])
+    entry.compress_type, entry.create_system, entry.external_attr = zipfile.ZIP_DEFLATED, 3, (0o100000 | mode) << 16
+    return entry
+
+
+def write_zip(path, top, tree, moment):
+    """A .zip of a tree of files below a folder."""
+    with zipfile.ZipFile(path, "w", zipfile.ZIP_DEFLATED, compresslevel=9) as whole:
+        for name, (data, mode) in sorted(tree.items()):
+            whole.writestr(zip_entry(f"{top}/{name}", moment, mode), data)
+
+
 def write_wheel(path, library, version, tag, moment):
-    """A wheel, which is a zip file: the package, the library beside it, and what pip reads."""
+    """A wheel, which is a zip file: the package, the library beside it, as name and path, and what pip reads."""
     about = f"sgb-{version}.dist-info"
     files = {
         **{"sgb/" + name: read(TOP, "python/sgb", name) for name in package_files()},
-        "sgb/libsgb.so": read(library["libsgb.so"]),
+        "sgb/" + library[0]: read(library[1]),
         about + "/METADATA": filled("METADATA", VERSION=version),
         about + "/WHEEL": f"Wheel-Version: 1.0\nGenerator: sgb dist\nRoot-Is-Purelib: false\nTag: {tag}\n".encode(),
     }
@@ -187,7 +200,4 @@ def write_wheel(path, library, version, tag, moment):
     files[about + "/RECORD"] = "".join(record + [f"{about}/RECORD,,\n"]).encode()
     with zipfile.ZipFile(path, "w", zipfile.ZIP_DEFLATED, compresslevel=9) as packed:
         for name, data in files.items():
-            entry = zipfile.ZipInfo(name, time.gmtime(moment)[:6])
-            entry.compress_type, entry.create_system = zipfile.ZIP_DEFLATED, 3
-            entry.external_attr = (0o100755 if name.endswith(".so") else 0o100644) << 16
-            packed.writestr(entry, data)
+            packed.writestr(zip_entry(name, moment, 0o755 if name.endswith(".so") else 0o644), data)

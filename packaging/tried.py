@@ -36,11 +36,11 @@ def fresh(room, name):
     return folder
 
 
-def conforms(program, what):
+def conforms(program, what, **more):
     """Holds a program against the whole table: names, list and save of each graph, and each refusal."""
     got = subprocess.run(
         [COMPARE, program], stdin=subprocess.DEVNULL, capture_output=True, text=True, check=False,
-        env={**os.environ, "CONFORMANCE_SECONDS": "300"},
+        env={**os.environ, "CONFORMANCE_SECONDS": "300", **more},
     )
     last = got.stdout.rstrip().rpartition("\n")[2]
     if got.returncode or not re.fullmatch(r"\d+ passed, 0 failed", last):
@@ -62,11 +62,11 @@ def alone(machine, program, room):
     return script(os.path.join(room, "run_" + name), f"exec {own} {folder} {' '.join(inside)} \"$@\"")
 
 
-def distances_hold(machine, program):
+def distances_hold(where, program):
     """The distances of Petersen's graph: three neighbours, and six vertices behind them."""
     seen = [line.split()[-1] for line in ran([program, "petersen()"]).splitlines()]
     if sorted(seen) != ["0"] + 3 * ["1"] + 6 * ["2"]:
-        raise Failed(f"{machine.name}: sgb_levels gives distances {' '.join(seen)} in Petersen's graph")
+        raise Failed(f"{where}: sgb_levels gives distances {' '.join(seen)} in Petersen's graph")
 
 
 def runs(machine, program):
@@ -155,7 +155,7 @@ def tarball_works(machine, path, room):
         if name == "sgb":
             conforms(program, f"{machine.name}, sgb alone in a root of its own")
         else:
-            distances_hold(machine, program)
+            distances_hold(machine.name, program)
     prefix = installed(tree, room)
     library_works(machine, prefix, room)
     if not machine.runner:

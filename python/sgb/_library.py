@@ -1,4 +1,4 @@
-"""The calls of libsgb.so: what they take, the arrays that they fill, and what their answers mean."""
+"""The calls of libsgb.so, on Windows sgb.dll: what they take, the arrays that they fill, and what their answers mean."""
 
 from __future__ import annotations
 
@@ -133,9 +133,10 @@ def _path() -> str:
         return path
     here = os.path.dirname(os.path.abspath(__file__))
     top = os.path.dirname(os.path.dirname(here))
-    places = [os.path.join(folder, "libsgb.so") for folder in (here, top)]
+    name = "sgb.dll" if os.name == "nt" else "libsgb.so"
+    places = [os.path.join(folder, name) for folder in (here, top)]
     # that which the system finds has the name that programs keep of it
-    return next(filter(os.path.exists, places), f"libsgb.so.{MAJOR}")
+    return next(filter(os.path.exists, places), name if os.name == "nt" else f"{name}.{MAJOR}")
 
 
 def _library() -> ctypes.CDLL:

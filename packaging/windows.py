@@ -1,0 +1,186 @@
+"""What runs on Windows, of what was proved: for packaging/dist.py. The modules are those that LLVM is handed for Linux on x86-64,
+with the names of the other system in them; no proof speaks of what is made of them here."""
+
+import os
+import re
+import shutil
+import subprocess
+import sys
+
+import built
+import packed
+from built import HERE, TOP, Failed, ran
+
+NAME = "x86_64-windows"
+CC, DLLTOOL, RUNNER = "x86_64-w64-mingw32-gcc", "x86_64-w64-mingw32-dlltool", "wine"
+built.PACKAGES.update({CC: "gcc-mingw-w64-x86-64", DLLTOOL: "binutils-mingw-w64-x86-64", RUNNER: "wine with wine64"})
+TARGET = ["--target=x86_64-w64-windows-gnu", "--no-default-config", "-no-canonical-prefixes", "-Wno-override-module"]
+OPTIONS = ["-march=x86-64", "-O2", "-ffunction-sections", "-fdata-sections", "-mllvm", "-no-trap-after-noreturn",
+           "-mllvm", "-trap-unreachable", "-c", "-x", "ir"]
+LINK = ["-s", "-Wl,--no-insert-timestamp", "-Wl,--gc-sections"]
+# the programs have the stack that Linux gives
+PROGRAM = ["-nostartfiles", "-Wl,--stack,8388608"]
+# what is turned in a module: the stack is probed by a call there, objects have other names, and so has the system
+TURNED = [(' "probe-stack"="inline-asm"', ""), ('target datalayout = "e-m:e-', 'target datalayout = "e-m:w-'),
+          ('target triple = "x86_64-unknown-linux-gnu"', 'target triple = "x86_64-w64-windows-gnu"')]
+
+# of a command line there are 32,767 characters at most
+LONGEST = {"CONFORMANCE_LONGEST": "32000"}
+
+# clang, for rattle: it keeps the module
+KEEPING = """#!{python}
+import os, shutil, sys
+if os.path.exists("module.bc"):
+    shutil.copy("module.bc", {kept!r})
+os.execv({clang!r}, [{clang!r}, *sys.argv[1:]])
+"""
+
+
+def left_out():
+    """Why nothing is made for Windows, or nothing."""
+    lacking = built.missing(CC, DLLTOOL, RUNNER)
+    return f"all for Windows: there is no {', no '.join(lacking)}" if lacking else None
+
+
+def names(folder, version):
+    """What is made: the paths of the zip file and the wheel."""
+    return [os.path.join(folder, f"sgb-{version}-{NAME}.zip"),
+            os.path.join(folder, f"sgb-{built.calls_version()}-py3-none-win_amd64.whl")]
+
+
+def shadow(kept, room):
+    """A folder like that of the toolchain's compiler, whose clang keeps the module."""
+    folder, real = os.path.join(room, "toolchain"), os.path.join(built.kit(), "toolchain")
+    shutil.rmtree(folder, ignore_errors=True)
+    os.makedirs(os.path.join(folder, "bin"))
+    os.symlink(os.path.join(real, "lib"), os.path.join(folder, "lib"))
+    for name in os.listdir(os.path.join(real, "bin")):
+        if name != "clang":
+            os.symlink(os.path.join(real, "bin", name), os.path.join(folder, "bin", name))
+    clang = os.path.join(folder, "bin/clang")
+    with open(clang, "w", encoding="utf-8") as file:
+        file.write(KEEPING.format(python=sys.executable, kept=kept, clang=os.path.join(real, "bin/clang")))
+    os.chmod(clang, 0o755)
+    return folder
+
+
+def module(crate, room):
+    """The path of the proved module of a crate. What was kept of the same state is taken."""
+    kept, key, now = os.path.join(room, crate + ".bc"), os.path.join(room, crate + ".state"), built.state()
+    if os.path.exists(kept) and os.path.exists(key) and packed.read(key).decode() == now:
+        return kept
+    for path in kept, key:
+        if os.path.exists(path):
+            os.remove(path)
+    print(f"  {crate} for Windows: some minutes", flush=True)
+    said = built.rattle(crate, None, os.path.join(room, crate + ".linux"))
+    said[said.index("--toolchain") + 1] = shadow(kept, room)
+    os.makedirs(os.path.join(TOP, "crates", crate, "out/incremental"), exist_ok=True)
+    told = ran(said, os.path.join(TOP, "crates", crate))
+    if "\nlogic=proved" not in told or not os.path.exists(kept):
+        raise Failed(f"{crate}: no module of what was proved: {told[-600:]}")
+    with open(key, "w", encoding="utf-8") as file:
+        file.write(now)
+    return kept
+
+
+def turned(text):
+    """A module for Windows, as text."""
+    for old, new in TURNED:
+        if old not in text:
+            raise Failed(f"a module has no {old.strip()}")
+        text = text.replace(old, new)
+    return text
+
+
+def compiled(crate, room):
+    """The object file of a crate."""
+    clang, path = os.path.join(built.kit(), "toolchain/bin/clang"), os.path.join(room, crate)
+    ran([clang, "--target=x86_64-unknown-linux-gnu", "--no-default-config", "-Wno-override-module", "-O0", "-S", "-emit-llvm",
+         "-x", "ir", module(crate, room), "-o", path + ".ll"])
+    with open(path + ".ll", encoding="utf-8") as file:
+        text = turned(file.read())
+    with open(path + ".ll", "w", encoding="utf-8") as file:
+        file.write(text)
+    ran([clang, *TARGET, *OPTIONS, path + ".ll", "-o", path + ".o"])
+    return path + ".o"
+
+
+def heap(room):
+    made = os.path.join(room, "heap.o")
+    ran([os.path.join(built.kit(), "toolchain/bin/clang"), *TARGET, *OPTIONS, "heap.ll", "-o", made], HERE)
+    return made
+
+
+def calls():
+    """The calls of sgb.h."""
+    text = packed.read(TOP, "include/sgb.h").decode()
+    return sorted(set(re.findall(r"^(?:uint64_t|void) (sgb_\w+)\(", text, re.MULTILINE)))
+
+
+def library(room):
+    """The library, what a linker of MinGW takes for it, and what Microsoft's makes one of."""
+    exports, made = os.path.join(room, "sgb.def"), os.path.join(room, "sgb.dll")
+    with open(exports, "w", encoding="ascii") as file:
+        file.write("\n".join(["LIBRARY sgb.dll", "EXPORTS", *("    " + name for name in calls()), ""]))
+    ran([CC, "-shared", *LINK, "-o", made, compiled(built.LIBRARY, room), heap(room), exports])
+    imports = "libsgb.dll.a"
+    ran([DLLTOOL, "--temp-prefix", "sgb", "-d", "sgb.def", "-l", imports], room)
+    return {"sgb.dll": made, "lib/sgb.def": exports, "lib/" + imports: os.path.join(room, imports)}
+
+
+def programs(room):
+    own = os.path.join(room, "windows.o")
+    ran([CC, "-std=gnu11", "-O2", "-Wall", "-Wextra", "-Werror", "-c", "windows.c", "-o", own], HERE)
+    for name, crate in built.PROGRAMS.items():
+        path = os.path.join(room, name + ".exe")
+        ran([CC, *PROGRAM, *LINK, "-o", path, compiled(crate, room), own, heap(room)])
+        yield name + ".exe", path
+
+
+def make(folder, version, moment):
+    """Makes the zip file and the wheel."""
+    print("Windows:", flush=True)
+    room = os.path.join(built.ROOM, NAME)
+    os.makedirs(room, exist_ok=True)
+    made = {**dict(programs(room)), **library(room)}
+    tree = {name: (packed.read(path), 0o644) for name, path in made.items()}
+    for path in ["include/sgb.h", "include/sgb.hpp", *packed.tracked("conformance")]:
+        packed.add_file(tree, path, path)
+    for name in "INSTALL.md", "CALLING_FROM_C.md", "COOKBOOK.md", "RECIPES.md", "ERRORS.md":
+        packed.add_file(tree, "doc/" + name, "docs/" + name)
+    for name in packed.package_files():
+        packed.add_file(tree, "python/sgb/" + name, "python/sgb/" + name)
+    tree["python/sgb/sgb.dll"] = tree["sgb.dll"]
+    zipped, wheel = names(folder, version)
+    packed.write_zip(zipped, os.path.basename(zipped)[: -len(".zip")], tree, moment)
+    packed.write_wheel(wheel, ("sgb.dll", made["sgb.dll"]), built.calls_version(), "py3-none-win_amd64", moment)
+
+
+def works(folder, version, room, tried):
+    """Tries both under wine: the programs and a C program with the library against the whole table."""
+    room = tried.fresh(room, NAME)
+    environment = {"WINEPREFIX": os.path.join(room, "wine"), "WINEDEBUG": "-all", "WINEDLLOVERRIDES": "mscoree,mshtml="}
+    os.environ.update(environment)
+    zipped, wheel = names(folder, version)
+    shutil.unpack_archive(zipped, room, "zip")
+    top = os.path.join(room, os.path.basename(zipped)[: -len(".zip")])
+    os.makedirs(environment["WINEPREFIX"])
+    ran([RUNNER, "wineboot", "-i"])
+    # the server stays, so that a run takes some 20 ms
+    subprocess.run(["wineserver", "-p"], check=False)
+    try:
+        program = tried.script(os.path.join(room, "run_sgb"), f"exec {RUNNER} '{top}/sgb.exe' \"$@\"")
+        tried.conforms(program, "Windows, sgb.exe under wine", **LONGEST)
+        levels = tried.script(os.path.join(room, "run_levels"), f"exec {RUNNER} '{top}/sgb_levels.exe' \"$@\"")
+        tried.distances_hold("Windows", levels)
+        caller = os.path.join(top, "caller.exe")
+        ran([CC, "-std=gnu11", "-O2", "-Wall", "-Wextra", "-Werror", f"-I{top}/include", os.path.join(HERE, "caller.c"),
+             f"{top}/lib/libsgb.dll.a", "-o", caller])
+        called = tried.script(os.path.join(room, "run_caller"), f"exec {RUNNER} '{caller}' \"$@\"")
+        tried.conforms(called, "Windows, a C program with sgb.dll under wine", **LONGEST)
+    finally:
+        subprocess.run(["wineserver", "-k"], check=False)
+    shutil.unpack_archive(wheel, os.path.join(room, "wheel"), "zip")
+    ran(["cmp", os.path.join(room, "wheel/sgb/sgb.dll"), os.path.join(top, "sgb.dll")])
+    print(f"  {os.path.basename(wheel)}: its library is that of the zip file; no Python for Windows is here", flush=True)
