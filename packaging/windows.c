@@ -162,6 +162,9 @@ int64_t write(int number, const void *at, uint64_t size) {
     return -1;
 }
 
+/* What the compilers of MinGW have `main` call first; there is nothing to be made ready. */
+void __main(void) {}
+
 int main(void);
 
 /* Where a program begins, in place of what the C library has there: that takes memory before main, and reads the words itself. */
