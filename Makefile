@@ -19,6 +19,7 @@
 # make dist       proves all, and leaves in dist/ what runs on machines without the toolchain: tarballs, Debian packages and
 #                 wheels for x86-64 and aarch64, each tried, and the book (dist.mk)
 # make book       writes the definitions that a reader has to believe as pages of HTML, dist/book, from the sources alone (dist.mk)
+# make windows    makes of the same what runs on Windows, and tries it under wine (dist.mk)
 # make wasm       makes the package for Node and browsers of the proved library, and tests it: dist/sgb-VERSION.tgz (wasm.mk)
 # make page       makes a page of that package, and tests it: dist/page, dist/sgb-page-VERSION.tar.gz (wasm.mk)
 # make install    puts what is built below $(PREFIX), with its manual page and completion for bash, zsh and fish, and the

@@ -31,10 +31,10 @@ Of graphs that are open others are made, each a graph of its own; what they are 
 
 `sgb.convert(g, "dimacs")` is the graph as text of another program: DOT, DIMACS, METIS, Matrix Market and others.
 
-It calls the library for C, libsgb.so, which `make lib` leaves: the file that the variable SGB_LIBRARY names, else the
-one beside this file, else the one in the repository that this file stands in, else the one that the system finds. It
-needs Python's own library alone; where numpy is installed, arrays are numpy's, else memory views. Both look at memory
-that C has filled, nothing is copied, and cannot be changed.
+It calls the library for C, libsgb.so (on Windows sgb.dll), which `make lib` leaves: the file that the variable
+SGB_LIBRARY names, else the one beside this file, else the one in the repository that this file stands in, else the
+one that the system finds. It needs Python's own library alone; where numpy is installed, arrays are numpy's, else
+memory views. Both look at memory that C has filled, nothing is copied, and cannot be changed.
 
 A refusal is a GraphError, which is a ValueError, want of memory a MemoryError; a vertex that is not there is an
 IndexError, and what is no text, vertex or input at all a TypeError.
