@@ -2,6 +2,7 @@
 with the names of the other system in them; no proof speaks of what is made of them here."""
 
 import os
+import random
 import re
 import shutil
 import subprocess
@@ -157,8 +158,42 @@ def make(folder, version, moment):
     packed.write_wheel(wheel, ("sgb.dll", made["sgb.dll"]), built.calls_version(), "py3-none-win_amd64", moment)
 
 
+def asked(draw):
+    """Words of a random request, and what standard input holds."""
+    few = [str(draw.choice([draw.randrange(-3, 5), draw.randrange(1, 4), -251])) for _ in range(6)]
+    of = [f"board({','.join(few)},0)", f"simplex({','.join(few)},0)", f"subsets({','.join(few)},0x5,0)", "petersen()", "stdin",
+          f"circuit({few[1]})", f"wheel({few[0]},{few[1]},0)", f"bi_complete({few[2]},{few[3]},1)"]
+    text = draw.choice(of)
+    text = draw.choice([text, text, f"lines({text},0)", f"gunion({text},{draw.choice(of)},1,0)", text[:-1] + '" é\\'])
+    more = draw.choice([[], [], ["--after", "0.0"], ["--skip", few[4]], ["x y"]])
+    return [draw.choice(["names", "list", "save"]), text, *more], draw.choice([b"", b"\r\n\x1a", None])
+
+
+def answered_alike(program, requests):
+    """Holds answers of the program, byte for byte, against those of the program for Linux; and those of one large file."""
+    here = built.left_by_make("crates/sgb_cli/out/sgb_cli")
+
+    def run(own, words, given):
+        return subprocess.run([own, *words], input=given, capture_output=True, check=False)
+
+    draw, file = random.Random(1), run(here, ["save", "petersen()"], b"").stdout
+    great = run(here, ["save", "board(800,800,0,0,1,0,0)"], b"").stdout
+    pairs = [(["save", "board(800,800,0,0,1,0,0)"], b""), (["save", "stdin"], great)]
+    pairs += [asked(draw) for _ in range(requests)]
+    for words, given in pairs:
+        given = file if given is None else given
+        one, other = run(here, words, given), run(program, words, given)
+        if (one.returncode, one.stdout, one.stderr) != (other.returncode, other.stdout, other.stderr):
+            raise Failed(f"Windows: sgb.exe {words} gave {other.returncode} and {other.stderr[:200]}, here {one.returncode}")
+    print(f"  Windows, sgb.exe: {len(pairs)} requests are answered as on Linux, with a file of {len(great)} bytes", flush=True)
+    with open("/dev/full", "wb") as full:
+        got = subprocess.run([program, "names", "board(300,300,0,0,1,0,0)"], stdout=full, stderr=subprocess.PIPE, check=False)
+    if (got.returncode, got.stderr) != (3, b"sgb: write fault\n"):
+        raise Failed(f"Windows: on a full device sgb.exe gave {got.returncode} and {got.stderr}")
+
+
 def works(folder, version, room, tried):
-    """Tries both under wine: the programs and a C program with the library against the whole table."""
+    """Tries both under wine: the programs and a C program with the library against the whole table, and what else they do."""
     room = tried.fresh(room, NAME)
     environment = {"WINEPREFIX": os.path.join(room, "wine"), "WINEDEBUG": "-all", "WINEDLLOVERRIDES": "mscoree,mshtml="}
     os.environ.update(environment)
@@ -174,9 +209,13 @@ def works(folder, version, room, tried):
         tried.conforms(program, "Windows, sgb.exe under wine", **LONGEST)
         levels = tried.script(os.path.join(room, "run_levels"), f"exec {RUNNER} '{top}/sgb_levels.exe' \"$@\"")
         tried.distances_hold("Windows", levels)
+        answered_alike(program, 2000)
+        for name in "caller", "many":
+            ran([CC, "-std=gnu11", "-O2", "-Wall", "-Wextra", "-Werror", f"-I{top}/include", os.path.join(HERE, name + ".c"),
+                 f"{top}/lib/libsgb.dll.a", "-o", os.path.join(top, name + ".exe")])
+        if ran([RUNNER, os.path.join(top, "many.exe")]).split() != ["done"]:
+            raise Failed("Windows: 100,000 openings and closings, and operations, do not end well")
         caller = os.path.join(top, "caller.exe")
-        ran([CC, "-std=gnu11", "-O2", "-Wall", "-Wextra", "-Werror", f"-I{top}/include", os.path.join(HERE, "caller.c"),
-             f"{top}/lib/libsgb.dll.a", "-o", caller])
         called = tried.script(os.path.join(room, "run_caller"), f"exec {RUNNER} '{caller}' \"$@\"")
         tried.conforms(called, "Windows, a C program with sgb.dll under wine", **LONGEST)
     finally:
