@@ -194,7 +194,7 @@ def answered_alike(program, requests):
 
 def works(folder, version, room, tried):
     """Tries both under wine: the programs and a C program with the library against the whole table, and what else they do."""
-    room = tried.fresh(room, NAME)
+    room = tried.fresh(room, NAME + "_tried")
     environment = {"WINEPREFIX": os.path.join(room, "wine"), "WINEDEBUG": "-all", "WINEDLLOVERRIDES": "mscoree,mshtml="}
     os.environ.update(environment)
     zipped, wheel = names(folder, version)
@@ -202,8 +202,9 @@ def works(folder, version, room, tried):
     top = os.path.join(room, os.path.basename(zipped)[: -len(".zip")])
     os.makedirs(environment["WINEPREFIX"])
     ran([RUNNER, "wineboot", "-i"])
-    # the server stays, so that a run takes some 20 ms
-    subprocess.run(["wineserver", "-p"], check=False)
+    # the server stays, so that a run takes some 20 ms; what the first run starts beside it would keep a pipe open
+    for words in ["wineserver", "-p"], [RUNNER, "wineboot"]:
+        subprocess.run(words, stdin=subprocess.DEVNULL, stdout=subprocess.DEVNULL, stderr=subprocess.DEVNULL, check=False)
     try:
         program = tried.script(os.path.join(room, "run_sgb"), f"exec {RUNNER} '{top}/sgb.exe' \"$@\"")
         tried.conforms(program, "Windows, sgb.exe under wine", **LONGEST)
