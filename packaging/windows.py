@@ -124,7 +124,8 @@ def library(room):
     exports, made = os.path.join(room, "sgb.def"), os.path.join(room, "sgb.dll")
     with open(exports, "w", encoding="ascii") as file:
         file.write("\n".join(["LIBRARY sgb.dll", "EXPORTS", *("    " + name for name in calls()), ""]))
-    ran([CC, "-shared", *LINK, "-o", made, compiled(built.LIBRARY, room), heap(room), exports])
+    # by its name alone: the linker makes an address of the path that it is given
+    ran([CC, "-shared", *LINK, "-o", "sgb.dll", compiled(built.LIBRARY, room), heap(room), "sgb.def"], room)
     imports = "libsgb.dll.a"
     ran([DLLTOOL, "--temp-prefix", "sgb", "-d", "sgb.def", "-l", imports], room)
     return {"sgb.dll": made, "lib/sgb.def": exports, "lib/" + imports: os.path.join(room, imports)}
