@@ -4,8 +4,8 @@
 #                 and aarch64, and the book of definitions, with SHA256SUMS; each is tried. What a missing Debian package
 #                 leaves out is said. What was in dist/ before is taken away: make dist wasm page makes all
 # make windows    makes of the same proofs what runs on Windows, and tries it under wine: sgb-VERSION-x86_64-windows.zip and a
-#                 wheel. make dist does so too where the Debian packages for it are there, else it says what is missing.
-#                 What is in dist/ stays where make dist or make windows left it of the same commit
+#                 wheel. No other target does so. What is in dist/ stays where make dist or make windows left it of the same
+#                 commit
 # make dist-try   tries what is in dist/ once more
 # make book       writes the definitions that a reader has to believe as pages of HTML, dist/book, holds them against the
 #                 sources and looks at them in Chromium: with no proof, in less than a minute. make dist packs them as

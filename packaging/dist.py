@@ -8,7 +8,7 @@ book of definitions, and SHA256SUMS. The same commit gives the same bytes. Witho
 docs/INSTALL.md; else it does what the words say, in this order:
 
 - `make` takes away what is in dist/, which may be of another commit, and makes these files anew;
-- `windows` makes those for Windows, which `make` makes as well where their Debian packages are installed;
+- `windows` makes those for Windows, which `make` does not;
 - `page` packs dist/page, which `make page` leaves, as one file;
 - `sums` writes the digests of all files there, those of `make wasm` and `make page` among them;
 - `try` tries the files that `make` makes, `windows-try` those for Windows alone, under wine;
@@ -240,8 +240,6 @@ def make_all(here):
     for machine in here:
         make(machine, when)
     make_book(when)
-    if not windows.left_out():
-        make_windows()
 
 
 def main():
@@ -249,7 +247,7 @@ def main():
     if not set(words) <= set(WORDS):
         sys.exit(f"usage: packaging/dist.py [{'|'.join(WORDS)} ..]")
     here = [machine for machine in MACHINES if not left_out(machine)]
-    reasons = [*map(left_out, MACHINES), windows.left_out(), no_deb(), no_venv()] if {"make", "try"} & set(words) else []
+    reasons = [*map(left_out, MACHINES), no_deb(), no_venv()] if {"make", "try"} & set(words) else []
     try:
         if {"make", "try"} & set(words) and NATIVE not in here:
             raise Failed(left_out(NATIVE))
@@ -267,7 +265,7 @@ def main():
             same_sums()
             for machine in here:
                 try_all(machine)
-        if "windows-try" in words or ("try" in words and not windows.left_out()):
+        if "windows-try" in words:
             windows.works(DIST, version(), ROOM, tried)
         if "commands" in words:
             reasons += tried.install_works([os.path.join(DIST, name) for name in files()], ROOM, sections())
