@@ -166,6 +166,7 @@ impl<'b> Span<'b> {
     }
 
     /// Where this coordinate leads at length `l`, where it goes so far for each unit of length; 0 where that is off the board.
+    #[inline(always)]
     pub fn entry_at(&self, k: usize, amount: i32, l: u32) -> u32
         requires { k < length self.now.x }
         ensures { result ≡ unwrap_or (part_at self.now.sizes self.now.wrap self.now.x l (k, amount))

@@ -185,6 +185,7 @@ impl KeptName {
     }
 
     /// Appends the name of the vector where an arc of length `l` leads to a page. Only their entries are put in digits anew, and no vector is made. `span` has arcs of this vector.
+    #[inline(always)]
     pub(super) fn push_moved(&self, span: &Span, l: u32, page: &mut Page)
         requires named { self.now ≡ span.now.x }
         requires room { length page.old + (11 * length self.now + 41) ≤ page_bytes }
@@ -201,6 +202,7 @@ impl KeptName {
     }
 
     // Appends its entries from place `from` on and before `to`, as they stand in its name, and then this entry.
+    #[inline(always)]
     fn push_through(&self, from: usize, to: usize, entry: u32, page: &mut Page)
         requires order { from ≤ to }
         requires within { to < length self.now }

@@ -107,6 +107,7 @@ impl<'n, W: Sink> ArcSink<Page, W> for ArcLines<'n> {
 }
 
 // Hands the lines of the arcs of a span to a page.
+#[inline(always)]
 fn push_span<W: Sink>(
     span: &Span<'_>,
     name: &KeptName,

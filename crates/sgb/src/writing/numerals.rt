@@ -53,6 +53,7 @@ impl Numerals {
     }
 
     /// Appends an entry of a vector, after a dot where it is not the first: at most 11 bytes.
+    #[inline(always)]
     pub(super) fn push_entry<const N: usize>(&self, text: &mut Filled<N>, dotted: bool, entry: u32)
         requires { length text.old + 11 ≤ N }
         ensures text { text.new ≡ text.old ++ entry_text dotted entry }

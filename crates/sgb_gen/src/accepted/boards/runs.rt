@@ -92,6 +92,7 @@ impl Board {
     }
 
     // How far edges lead back: not at all where there are arcs alone.
+    #[inline(always)]
     fn farthest_back(&self, x: &[u32], t: &Step, near: bool) -> u32
         requires below { IsBelow x.now self.now.sizes }
         requires dimensions { length t.now ≡ length self.now.sizes }
