@@ -28,7 +28,7 @@ head_text id n m =
     codes "  The graph whose official name is\n" ++ id ++ codes "\n  has " ++ decimal n ++ codes " vertices and "
     ++ decimal m ++ codes " arcs:\n\n"
 
--- that of a graph
+-- what stands before the blocks of a graph's listing
 abbrev pub head : GraphData → List ℕ
 head g = head_text g.id (length (names_of g)) g.m
 

@@ -32,11 +32,12 @@ pub record AreRows (g : GraphData) (first count : ℕ) (starts tips : List ℕ) 
   pub tips_are : tips ≡ map (λ l. l.tip) (parts_of (chain_of g) first count)
   pub lengths_are : lengths ≡ map (λ l. l.len) (parts_of (chain_of g) first count)
 
--- the same without lengths
+-- arrays that the lists of the run fit into without the lengths of the arcs
 pub record HaveTipLengths (g : GraphData) (first count : ℕ) (starts tips : List ℕ) : Type 0 where
   pub starts_fit : length starts ≡ count + 1
   pub tips_fit : length tips ≡ length (parts_of (chain_of g) first count)
 
+-- arrays that hold the lists of the run without the lengths of the arcs: where each list starts, and where each arc leads
 pub record AreTips (g : GraphData) (first count : ℕ) (starts tips : List ℕ) : Type 0 where
   pub starts_are : starts ≡ part_starts (chain_of g) first count
   pub tips_are : tips ≡ map (λ l. l.tip) (parts_of (chain_of g) first count)

@@ -42,7 +42,7 @@ mutual
     NoEntries : Entries
     EntryThen : (entry : Entry) → (others : Entries) → Entries
 
--- these entries
+-- the entries of an induced graph, of a list of them
 abbrev pub entries_of : List Entry → Entries
 entries_of [] = NoEntries
 entries_of (entry ∷ others) = EntryThen entry (entries_of others)

@@ -21,7 +21,7 @@ flag_of _ = true
 abbrev pub nth_number : List ℤ → ℕ → ℤ
 nth_number numbers k = slice_index_or numbers k (pos 0)
 
--- the same as a flag
+-- integer number k of some, counted from 0, taken as a flag
 abbrev pub flag_at : List ℤ → ℕ → Bool
 flag_at numbers k = flag_of (nth_number numbers k)
 

@@ -45,6 +45,7 @@ ends_from (suc fuel) records first =
 abbrev pub numbers_of : List ArcRec → Option ℕ → List ℕ
 numbers_of records first = numbers_from (length records) records first
 
+-- whether the way from the first record on ends
 abbrev pub ends_of : List ArcRec → Option ℕ → Bool
 ends_of records first = ends_from (length records) records first
 

@@ -42,12 +42,12 @@ abbrev pub of_numbers : OnNumbers → Result Description Panic
 of_numbers (BiComplete n1 n2 directed) = bi_complete_of n1 n2 directed
 of_numbers (Wheel n n1 directed) = wheel_of n n1 directed
 
--- on a graph
+-- the graph of an operation on one graph
 abbrev pub of_graph : OnGraph → GraphData → Result Description Panic
 of_graph (Complement copy self_loops directed) g = complement_of g copy self_loops directed
 of_graph (Lines directed) g = line_graph_of g directed
 
--- on two
+-- the graph of an operation on two graphs
 abbrev pub of_graphs : OnGraphs → GraphData → GraphData → Result Description Panic
 of_graphs (Gunion multi directed) g h = gunion_of g h multi directed
 of_graphs (Intersection multi directed) g h = intersection_of g h multi directed

@@ -11,7 +11,7 @@ name_of_vector entries = join_with_byte 46 (map decimal entries)
 abbrev pub is_text_byte : ℕ → Bool
 is_text_byte byte = nat_le 32 byte && nat_le byte 126 && not (byte == 34) && not (byte == 92)
 
--- this byte may
+-- a byte that `is_text_byte` lets stand in a string
 abbrev pub IsTextByte : ℕ → Type 0
 IsTextByte byte = IsTrue (is_text_byte byte)
 
