@@ -3,7 +3,7 @@
 //! Each leads to a vector that is found at once. Those of a span lead to vertices that are equal strides apart, where that is known.
 use crate::rows::Rows;
 use sgb_gen::{ArcSink, Span, VectorPlaces};
-use sgb_vec::{Panic, Vector};
+use sgb_vec::Panic;
 
 /// Puts arcs to vectors that are found at once behind those of the rows.
 #[derive(Drop)]
@@ -46,17 +46,11 @@ impl<'p, P: VectorPlaces> ArcSink<Rows, ()> for PlacedArcs<'p, P> {
     }
 
     #[inline(always)]
-    fn put_span(
-        &self,
-        span: &Span<'_>,
-        there: &mut Vector,
-        rows: &mut Rows,
-        _out: &mut (),
-    ) -> Result<(), Panic> {
+    fn put_span(&self, span: &Span<'_>, rows: &mut Rows, _out: &mut ()) -> Result<(), Panic> {
         let tips = span.tips(self.vertex);
         for k in 0..span.len() {
             let l = span.length_at(k);
-            let tip = span.tip_among(self.places, &tips, k, l, there);
+            let tip = span.tip_among(self.places, &tips, k, l);
             rows.push_arc(tip, l)?;
         }
         Ok(())

@@ -37,16 +37,9 @@ pub trait ArcSink<R, S> {
             (record { tip = tip.now; len = pos len } ∷ []) room.new out.new result }
         ensures ready { OnOk result (ready self.now room.new out.new) };
 
-    /// Takes the arcs of a span in their order, which are some of the vector's. `there` is room for a vector: what it holds does
-    /// not count.
+    /// Takes the arcs of a span in their order, which are some of the vector's.
     #[inline(always)]
-    fn put_span(
-        &self,
-        span: &Span<'_>,
-        there: &mut Vector,
-        room: &mut R,
-        out: &mut S,
-    ) -> Result<(), Self::Fault>
+    fn put_span(&self, span: &Span<'_>, room: &mut R, out: &mut S) -> Result<(), Self::Fault>
         requires at { at self.now (box span.now.sizes) span.now.x }
         requires width { length span.now.x ≡ width self.now }
         requires ready { ready self.now room.old out.old }
@@ -54,10 +47,11 @@ pub trait ArcSink<R, S> {
             (arcs_of_span span.now) room.new out.new result }
         ensures ready { OnOk result (ready self.now room.new out.new) }
     {
-        span.put_start(there);
+        let mut there = Vector::new();
+        span.put_start(&mut there);
         for k in 0..span.len() {
             let l = span.length_at(k);
-            span.put_tip(l, there);
+            span.put_tip(l, &mut there);
             self.put_arc(there.as_slice(), l, room, out)?;
         }
         Ok(())

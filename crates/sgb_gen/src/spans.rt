@@ -194,8 +194,7 @@ impl<'b> Span<'b> {
         Some(SpanTips { first, stride })
     }
 
-    /// The vertex where arc number `k`, of length `l`, leads: by `tips` where these are known; else it is found by its vector, for
-    /// which `there` is room.
+    /// The vertex where arc number `k`, of length `l`, leads: by `tips` where these are known; else it is found by its vector.
     #[inline(always)]
     pub fn tip_among<P: VectorPlaces>(
         &self,
@@ -203,7 +202,6 @@ impl<'b> Span<'b> {
         tips: &Option<SpanTips>,
         k: u32,
         l: u32,
-        there: &mut Vector,
     ) -> u32
         requires places { P.vectors places.now ≡ box self.now.sizes }
         requires tips { IfSome tips.now (λ t. FallBy self.now t.first t.stride) }
@@ -215,20 +213,21 @@ impl<'b> Span<'b> {
     {
         match tips {
             Some(tips) => tips.first - k * tips.stride,
-            None => self.tip_found(places, l, there),
+            None => self.tip_found(places, l),
         }
     }
 
     // The vertex where the arc of length `l` leads, found by its vector.
-    fn tip_found<P: VectorPlaces>(&self, places: &P, l: u32, there: &mut Vector) -> u32
+    fn tip_found<P: VectorPlaces>(&self, places: &P, l: u32) -> u32
         requires { P.vectors places.now ≡ box self.now.sizes }
         ensures { Contains (box self.now.sizes) (parts_put self.now.sizes self.now.wrap self.now.x l
             self.now.parts self.now.x)
             → result ≡ vertex_among (box self.now.sizes) (parts_put self.now.sizes self.now.wrap
             self.now.x l self.now.parts self.now.x) }
     {
-        self.put_start(there);
-        self.put_tip(l, there);
+        let mut there = Vector::new();
+        self.put_start(&mut there);
+        self.put_tip(l, &mut there);
         places.place_if_there(there.as_slice())
     }
 

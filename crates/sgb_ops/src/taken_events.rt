@@ -7,7 +7,7 @@ ghost use Rattle.sgb_ops.specs.inner.Sources.{event_to};
 
 use sgb_gen::{ArcSink, Span, SpanTips, VectorPlaces};
 use sgb_taken::Event;
-use sgb_vec::{Panic, Vector};
+use sgb_vec::Panic;
 
 /// Appends the events of the arcs taken of a vertex.
 #[derive(Drop)]
@@ -69,7 +69,6 @@ impl<'p, P: VectorPlaces> ArcSink<bool, Vec<Event>> for TakenEvents<'p, P> {
     fn put_span(
         &self,
         span: &Span<'_>,
-        there: &mut Vector,
         after_loop: &mut bool,
         events: &mut Vec<Event>,
     ) -> Result<(), Panic> {
@@ -79,7 +78,7 @@ impl<'p, P: VectorPlaces> ArcSink<bool, Vec<Event>> for TakenEvents<'p, P> {
         }
         for k in 0..span.len() {
             let l = span.length_at(k);
-            let w = span.tip_among(self.places, &tips, k, l, there);
+            let w = span.tip_among(self.places, &tips, k, l);
             self.push(w, l, after_loop, events)?;
         }
         Ok(())

@@ -16,7 +16,6 @@ use super::pages::{Page, make_room};
 use sgb_file::Sink;
 use sgb_gen::{ArcSink, Span};
 use sgb_requests::Fault;
-use sgb_vec::Vector;
 
 /// Takes the arcs of the vector of this name, and hands their lines to a page.
 #[derive(Drop)]
@@ -95,13 +94,7 @@ impl<'n, W: Sink> ArcSink<Page, W> for ArcLines<'n> {
     }
 
     #[inline(always)]
-    fn put_span(
-        &self,
-        span: &Span<'_>,
-        _there: &mut Vector,
-        page: &mut Page,
-        out: &mut W,
-    ) -> Result<(), Fault> {
+    fn put_span(&self, span: &Span<'_>, page: &mut Page, out: &mut W) -> Result<(), Fault> {
         push_span(span, self.name, page, out)
     }
 }

@@ -26,13 +26,12 @@ use sgb_vec::{Family, Vector};
 
 impl Board {
     // Hands out the arcs of `x` by the edges of the displacement `t`, whose opposite is `back`, the last of their starts first.
-    // `there` and `starts` are what they are found with: what these hold does not count.
+    // `starts` is what they are found with: what it holds does not count.
     pub(super) fn give_sorted<K: ArcSink<R, S>, R, S>(
         &self,
         x: &[u32],
         t: &Step,
         back: &Step,
-        there: &mut Vector,
         starts: &mut Starts,
         sink: &K,
         room: &mut R,
@@ -56,7 +55,8 @@ impl Board {
             from: 0,
             to: self.longest_move(),
         };
-        self.give_within(u, x, t, back, range, there, starts, sink, room, out)
+        let mut there = Vector::new();
+        self.give_within(u, x, t, back, range, &mut there, starts, sink, room, out)
     }
 
     // Hands out those of the arcs of `x`, which is vertex `u`, whose starts are within a range.

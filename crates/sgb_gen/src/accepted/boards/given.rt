@@ -24,7 +24,7 @@ use crate::arc_sinks::ArcSink;
 use crate::displacement_tables::DisplacementTable;
 use crate::spans::Span;
 use sgb_moves::{Displacement, Parts, Starts, Step, put_opposite, put_parts_of};
-use sgb_vec::{Family, Vector};
+use sgb_vec::Family;
 
 impl Board {
     /// Hands the arcs of the vertex of `x` to a sink, by the displacements in a table: with no sort where the arcs by each of
@@ -52,13 +52,10 @@ impl Board {
             room.new out.new result }
         ensures ready { OnOk result (K.ready sink.now room.new out.new) }
     {
-        let mut there = Vector::new();
         for k in (0..table.len()).rev() {
             let pair = table.at(k);
             let (ahead, back) = (pair.ahead(), pair.back());
-            self.give_both(
-                x, &ahead, &back, in_order, &mut there, starts, sink, room, out,
-            )?;
+            self.give_both(x, &ahead, &back, in_order, starts, sink, room, out)?;
         }
         Ok(())
     }
@@ -84,7 +81,6 @@ impl Board {
             room.new out.new result }
         ensures ready { OnOk result (K.ready sink.now room.new out.new) }
     {
-        let mut there = Vector::new();
         let mut turned = Displacement::new();
         let mut parts = Parts::new();
         let mut turned_parts = Parts::new();
@@ -95,7 +91,7 @@ impl Board {
             put_parts_of(turned.as_slice(), &mut turned_parts);
             let ahead = Step::of(t, parts.as_slice());
             let back = Step::of(turned.as_slice(), turned_parts.as_slice());
-            self.give_both(x, &ahead, &back, false, &mut there, starts, sink, room, out)?;
+            self.give_both(x, &ahead, &back, false, starts, sink, room, out)?;
             left.retreat();
         }
         Ok(())
@@ -110,7 +106,6 @@ impl Board {
         t: &Step,
         back: &Step,
         in_order: bool,
-        there: &mut Vector,
         starts: &mut Starts,
         sink: &K,
         room: &mut R,
@@ -131,9 +126,9 @@ impl Board {
     {
         let behind = self.lengths_back(x, back);
         if !self.has_order(t, behind, in_order) {
-            return self.give_sorted(x, t, back, there, starts, sink, room, out);
+            return self.give_sorted(x, t, back, starts, sink, room, out);
         }
-        self.give_by(x, t, back, behind, there, sink, room, out)
+        self.give_by(x, t, back, behind, sink, room, out)
     }
 
     // Whether the arcs of a vector by the edges of `t` are had in order with no sort, where so many moves lead back from it:
@@ -152,15 +147,13 @@ impl Board {
     }
 
     // Hands out the arcs of `x` by the edges of the displacement `t`, whose opposite is `back`, where so many moves lead back
-    // from `x`: those back to vectors after `x`, those ahead, the longer first, and those back to vectors before it. `there` is
-    // room for a place: what it holds does not count. `x` is put there once; each arc puts the coordinates that `t` moves.
+    // from `x`: those back to vectors after `x`, those ahead, the longer first, and those back to vectors before it.
     pub(super) fn give_by<K: ArcSink<R, S>, R, S>(
         &self,
         x: &[u32],
         t: &Step,
         back: &Step,
         behind: u32,
-        there: &mut Vector,
         sink: &K,
         room: &mut R,
         out: &mut S,
@@ -183,11 +176,11 @@ impl Board {
         let near = self.lengths_near(x, t, behind);
         let ahead = self.lengths_by(x, t);
         let around = self.span_from(x, back, near, behind, None);
-        sink.put_span(&around, there, room, out)?;
+        sink.put_span(&around, room, out)?;
         let onward = self.span_down(x, t, ahead, None);
-        sink.put_span(&onward, there, room, out)?;
+        sink.put_span(&onward, room, out)?;
         let before = self.span_from(x, back, 0, near, None);
-        sink.put_span(&before, there, room, out)
+        sink.put_span(&before, room, out)
     }
 
     // The arcs from `x` by `t` of the lengths above `from` up to `to`, the shortest first; and how many places back a unit of length

@@ -30,7 +30,6 @@ use super::Board;
 use crate::arc_sinks::ArcSink;
 use crate::displacement_tables::{DisplacementTable, KeptPair};
 use sgb_moves::{Step, is_inside, leads_onward, reach_from};
-use sgb_vec::Vector;
 
 impl Board {
     /// Whether the piece is a leaper, and all displacements in this table lead onward where no side wraps around.
@@ -143,10 +142,9 @@ impl Board {
             room.new out.new result }
         ensures ready { OnOk result (K.ready sink.now room.new out.new) }
     {
-        let mut there = Vector::new();
         for k in (0..table.len()).rev() {
             let stride = stride_kept(strides, k);
-            self.give_run(x, table.at(k), stride, near, &mut there, sink, room, out)?;
+            self.give_run(x, table.at(k), stride, near, sink, room, out)?;
         }
         Ok(())
     }
@@ -159,7 +157,6 @@ impl Board {
         pair: &KeptPair,
         stride: Option<u32>,
         near: bool,
-        there: &mut Vector,
         sink: &K,
         room: &mut R,
         out: &mut S,
@@ -182,10 +179,10 @@ impl Board {
         let (t, back) = (pair.ahead(), pair.back());
         let farthest = self.farthest(x, &t, near);
         let onward = self.span_down(x, &t, farthest, stride);
-        sink.put_span(&onward, there, room, out)?;
+        sink.put_span(&onward, room, out)?;
         let behind = self.farthest_back(x, &back, near);
         let before = self.span_from(x, &back, 0, behind, stride);
-        sink.put_span(&before, there, room, out)
+        sink.put_span(&before, room, out)
     }
 }
 
