@@ -93,25 +93,22 @@ class Arcs:
 
     def fill(self, tails: Sequence[int], tips: Sequence[int], lengths: Sequence[int], directed: bool) -> None:
         """What `arc` or `edge` does of each in turn, where all are known to be right, and the only ones."""
-        firsts, following, leads = self.firsts, self.following, self.tips
-        if directed:
-            leads += tips
-            for v, place in zip(reversed(tails), reversed(range(len(tips)))):
-                following.append(firsts[v])
-                firsts[v] = place
-        else:
-            for v, tip, place in zip(reversed(tails), reversed(tips), reversed(range(0, 2 * len(tips), 2))):
-                if v > tip:
-                    v, tip = tip, v
-                leads.append(v)
-                leads.append(tip)
-                following.append(firsts[tip])
-                firsts[tip] = place + 1
-                following.append(firsts[v])
-                firsts[v] = place
-            leads.reverse()
-        following.reverse()
-        self.lengths += lengths if directed else [length for length in lengths for _ in (0, 1)]
+        firsts, owners, leads = self.firsts, tails, tips
+        if not directed:
+            small = [v if v <= tip else tip for v, tip in zip(tails, tips)]
+            great = [tip if v <= tip else v for v, tip in zip(tails, tips)]
+            owners, leads = [NONE] * (2 * len(tips)), [NONE] * (2 * len(tips))
+            owners[::2], owners[1::2] = small, great
+            leads[::2], leads[1::2] = great, small
+            lengths = [length for length in lengths for _ in (0, 1)]
+        following = [NONE] * len(owners)
+        for place in range(len(owners) - 1, -1, -1):
+            v = owners[place]
+            following[place] = firsts[v]
+            firsts[v] = place
+        self.tips += leads
+        self.following += following
+        self.lengths += lengths
 
 
 def checksum(data: bytes) -> int:
