@@ -4,8 +4,8 @@
 At the repository's top. The book is made twice (packaging/book/book.py), which has to give the same bytes; or FOLDER is a
 book that was made. Each definition that checks/definitions.py counts is there once, and no other; its comment and its text
 are those of the source, byte for byte, and so are the public contracts; each link leads somewhere; each name that a
-definition uses is a link, unless it is bound in it, names a field where it stands, or is a word of the language. The last
-line is `N passed, M failed`.
+definition uses is a link, unless it is bound in it, names a field where it stands, or is a word of the language; each name of
+the toolchain has a sentence, where `rt` is on the path. The last line is `N passed, M failed`.
 """
 
 import filecmp
@@ -24,12 +24,12 @@ WORDS = {"abbrev", "unfoldable", "mutual", "pub", "data", "record", "where", "le
 
 
 class Page(html.parser.HTMLParser):
-    """The places and links of a page, and its sections: their source, their sentence, and their text as pieces, each with
-    whether it is a link or a name that is defined there."""
+    """The places and links of a page, the rows of its tables, and its sections: their source, their sentence, and their text
+    as pieces, each with whether it is a link or a name that is defined there."""
 
     def __init__(self):
         super().__init__()
-        self.ids, self.links, self.sections, self.inside = [], [], [], []
+        self.ids, self.links, self.sections, self.rows, self.inside = [], [], [], [], []
 
     def handle_starttag(self, tag, attributes):
         given = dict(attributes)
@@ -39,6 +39,10 @@ class Page(html.parser.HTMLParser):
             self.links += [value for key, value in attributes if key in ("href", "src", "xlink:href")]
         if tag == "section":
             self.sections.append({"kind": given["class"], "source": given.get("data-source"), "says": "", "text": []})
+        if tag == "tr":
+            self.rows.append([])
+        if tag == "td":
+            self.rows[-1].append("")
         self.inside.append((tag, given))
         if tag in ("meta", "link", "input", "path", "polygon"):
             self.inside.pop()
@@ -57,6 +61,8 @@ class Page(html.parser.HTMLParser):
             self.sections[-1]["text"].append((how, data))
         elif "section" in tags and any(given.get("class") == "says" for _, given in self.inside):
             self.sections[-1]["says"] += data
+        elif "td" in tags:
+            self.rows[-1][-1] += data
 
 
 class Tally:
@@ -146,6 +152,11 @@ def check(tally, pages, names):
         path, first, last = re.fullmatch(r"(.*):(\d+)-(\d+)", one["source"]).groups()
         text = "\n".join(definitions.read(path).split("\n")[int(first) - 1:int(last)])
         tally.holds("".join(piece for _, piece in one["text"]) == text, f"{one['source']}: the contract is not that of the source")
+    for name, says in pages["std.html"].rows if definitions.toolchain() else ():
+        tally.holds(says != "", f"std.html: {name} has no sentence in the toolchain, and none in std.tsv")
+    tabled = [name for line in definitions.read("packaging/book/std.tsv").splitlines() for name in line.split("\t")[0].split()]
+    lost = sorted(set(tabled) - {name for name, _ in pages["std.html"].rows})
+    tally.holds(not lost and len(set(tabled)) == len(tabled), f"std.tsv: names that no definition uses, or twice: {' '.join(lost)}")
     places = {name: set(page.ids) for name, page in pages.items()}
     for name, page in pages.items():
         tally.holds(len(set(page.ids)) == len(page.ids), f"{name}: a place has a name twice")

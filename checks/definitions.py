@@ -36,6 +36,8 @@ MEMBER = re.compile(rf"  {KEYWORDS}([^\s:(){{}}]+) [^=]*?: ?")
 CONSTRUCTOR = re.compile(r"\s+([^\s:(){}]+(?: [^\s:(){}]+)*) : ")
 WORD = re.compile(r"(\w+\.|\.)?([^\s(){}\[\],;.:]+)(?= ?(:|==?|))")
 TYPE = re.compile(r"^(?:pub(?:\([^)]*\))? )?(?:struct|enum|trait|type|union) (\w+)", re.M)
+STRUCT = re.compile(r"^(?:pub(?:\([^)]*\))? )?(?:struct|enum) (\w+)[^{;(]*([{(])", re.M)
+MODEL = re.compile(r"^impl\b[^{;]*\bModel for (\w+)[^{;]*\{", re.M)
 ABOVE = ("--", "infix")
 # A crate that is the lower part of another one: what it hands on is for that one alone and no public call, and the specs/inner
 # of both are one.
@@ -66,14 +68,24 @@ def files_of(folder, ending):
     return sorted(glob.glob(f"{folder}/**/*{ending}", recursive=True))
 
 
+def crate_in(title):
+    """The crate that a heading ends with, or None."""
+    return (re.findall(r"\bsgb(?:_\w+)?\b", title) or [None])[-1]
+
+
+def listed_in(listed):
+    """The names between the brackets of a `use` line: (name there, name here)."""
+    for item in filter(None, (part.strip() for part in listed.split(","))):
+        there, _, here = item.partition(" as ")
+        yield there.strip(), here.strip() or there.strip()
+
+
 def imported(text):
     """The names that `use` lines bring from specs: name here -> (crate, module, name there); a module under a name of its
     own as name. -> (crate, module, "")."""
     names = {}
     for _, crate, module, listed in IMPORT.findall(text):
-        for item in filter(None, (part.strip() for part in listed.split(","))):
-            there, _, here = item.partition(" as ")
-            names[here.strip() or there.strip()] = (crate, module, there.strip())
+        names.update({here: (crate, module, there) for there, here in listed_in(listed)})
     for crate, module, here in IMPORT_AS.findall(text):
         names[here + "."] = (crate, module, "")
     return names
@@ -308,6 +320,14 @@ def laws_of_traits(order):
     return {name for path in paths for name in re.findall(r"\bghost\s+(\w+)\s*:\s*\{\s*\(\w+ :", code_of(path))}
 
 
+def values_in(text):
+    """The types of a file that contracts see by a `Value`: the name, and where the bracket of the value opens."""
+    for found in MODEL.finditer(text):
+        value = re.compile(r"ghost Value = (?=\{)").search(text, found.end())
+        if value:
+            yield found.group(1), value.end()
+
+
 def add_types(definitions, order):
     """The types of the code, each with the definitions and types that stand in it: those of its `Value` where contracts
     see it by one, else those of its fields."""
@@ -319,16 +339,13 @@ def add_types(definitions, order):
             for root, listed in re.findall(r"^\s*(?:pub )?use (\w+)(?:::\w+)*::(\{[^}]*\}|\w+);", text, re.M):
                 for word in re.findall(r"\w+", listed):
                     scope.setdefault(word, set()).add(root if root in order else crate)
-            for found in re.finditer(r"^(?:pub(?:\([^)]*\))? )?(?:struct|enum) (\w+)[^{;(]*([{(])", text, re.M):
+            for found in STRUCT.finditer(text):
                 bodies[crate, found.group(1)] = (text[found.end():closing(text, found.end() - 1)], {})
                 scopes[crate, found.group(1)] = scope
         for path in files_of(f"crates/{crate}/src", ".rt"):
             text = code_of(path)
-            for found in re.finditer(r"^impl\b[^{;]*\bModel for (\w+)[^{;]*\{", text, re.M):
-                value = re.search(r"ghost Value = \{", text[found.end():])
-                if value:
-                    brace = found.end() + value.end() - 1
-                    bodies[crate, found.group(1)] = (text[brace + 1:closing(text, brace)], imported(text))
+            for name, brace in values_in(text):
+                bodies[crate, name] = (text[brace + 1:closing(text, brace)], imported(text))
     definitions.types = {there: set() for there in bodies}
     for (crate, name), (text, uses) in bodies.items():
         scope = {} if uses else scopes[crate, name]
@@ -363,7 +380,7 @@ def page_parts(path):
     parts, tabled, crate = collections.defaultdict(set), collections.defaultdict(set), None
     for line in read(path).split("\n"):
         if line.startswith(("#", "**")):
-            crate = (re.findall(r"\bsgb(?:_\w+)?\b", line) or [None])[-1]
+            crate = crate_in(line)
         parts[crate].update(re.findall(r"`([^`]*)`", line))
         if line.startswith("|"):
             tabled[crate].update(name.split()[0] for name in re.findall(r"`([^`]*)`", "|".join(line.split("|")[1:3])))

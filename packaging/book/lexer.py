@@ -92,24 +92,20 @@ def fields(text):
 
 
 def parts(text):
-    """A proposition that an example states, as rows: what `×` joins outside of brackets, each (expression, value), and
-    value is None where it is no equation."""
+    """A proposition that an example states, as rows: what `×` joins outside of brackets, an equation as `expression = value`."""
     solid = tokens(text.strip())
     if "→" in {token.text for token in solid}:
-        return [(text.strip(), None)]
-    rows, sides, depth, taken = [], [[]], 0, False
-    for token in solid + [Token("word", "×")]:
+        return [text.strip()]
+    rows, sides, depth = [], [""], 0
+    for token in [*solid, Token("word", "×")]:
         depth += (token.kind == "sign") * ((token.text in OPEN) - (token.text in CLOSE))
         if depth == 0 and token.text == "×":
-            left, *right = ["".join(one.text for one in side).strip() for side in sides]
-            whole = f"{left} ≡ {' ≡ '.join(right)}" if right else left
-            if not right and left.startswith("(") and left.endswith(")") and left.count("(") == left.count(")"):
-                rows += parts(left[1:-1])
-            else:
-                rows.append((left, right[0]) if len(right) == 1 else (whole, None))
-            sides, taken = [[]], True
+            whole = (" = " if len(sides) == 2 else " ≡ ").join(side.strip() for side in sides)
+            is_group = len(sides) == 1 and whole.startswith("(") and whole.endswith(")") and whole.count("(") == whole.count(")")
+            rows += parts(whole[1:-1]) if is_group else [whole]
+            sides = [""]
         elif depth == 0 and token.text == "≡":
-            sides.append([])
+            sides.append("")
         else:
-            sides[-1].append(token)
-    return rows if taken else [(text.strip(), None)]
+            sides[-1] += token.text
+    return rows
