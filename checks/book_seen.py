@@ -3,9 +3,10 @@
 
     make book
 
-At 400 and 1,200 points, light and dark, no page is wider than the window, and ink differs from paper. The search box leads
-to a definition, and a sign that is focused shows its row of the notation. The last line is `N passed, M failed`; without
-Chromium, or Debian's selenium, it is said that nothing was looked at. It is Debian's own Python that runs it.
+At 400 and 1,200 points, light and dark, no page is wider than the window, and ink differs from paper. Printed, the paper is
+white and all examples are shown. The search box leads to a definition, and a sign that is focused shows its row of the
+notation. The last line is `N passed, M failed`; without Chromium, or Debian's selenium, it is said that nothing was looked
+at. It is Debian's own Python that runs it.
 """
 
 import os
@@ -24,6 +25,8 @@ box.value = "accepted_board";
 box.dispatchEvent(new Event("input"));
 return document.querySelector("#search li a")?.getAttribute("href") ?? "";
 """
+
+CLOSED = "return [...document.querySelectorAll('details:not([open]) .rows')].map((rows) => rows.checkVisibility())"
 
 
 def main():
@@ -55,6 +58,14 @@ def main():
         row, found = driver.execute_script(ROW), driver.execute_script(SEARCH)
         seen.append(("x before xs" in row, f"a sign that is focused shows {row}"))
         seen.append((found.endswith("#sgb_gen.Boards.accepted_board"), f"the search leads to {found}"))
+        dark_print = {"media": "print", "features": [{"name": "prefers-color-scheme", "value": "dark"}]}
+        for media, is_print in ({"media": ""}, False), (dark_print, True):
+            driver.execute_cdp_cmd("Emulation.setEmulatedMedia", media)
+            shown = driver.execute_script(CLOSED)
+            seen.append((shown != [] and set(shown) == {is_print}, f"print {is_print}: of closed examples are shown {sum(shown)}"))
+        paper = driver.execute_script(COLOURS)[1]
+        seen.append((paper == "rgb(255, 255, 255)", f"printed, the paper is {paper}"))
+        driver.execute_cdp_cmd("Emulation.setEmulatedMedia", {"media": ""})
         driver.get(f"file://{folder}/{found}")
         top = driver.execute_script("return document.querySelector(':target')?.getBoundingClientRect().top ?? -1")
         seen.append((0 <= top < 900, f"{found} stands {top} points below the window's top"))

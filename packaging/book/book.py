@@ -120,8 +120,9 @@ class Book:
             files = collections.Counter(self.page_of.get(k) for k in self.sources.cited_by_public[n])
             own = [chapter.file for chapter in self.chapters if one.crate in chapter.crates]
             if one.text.strip() and own:
-                name, (path, first, *_) = re.sub(r"\W+", "_", one.name), one.place
-                yield n, max(own, key=files.__getitem__) + "#" + anchor("call", one.crate, os.path.basename(path), name, str(first))
+                path, first, *_ = one.place
+                place = anchor("call", one.crate, os.path.basename(path), re.sub(r"\W+", "_", one.name), str(first))
+                yield n, max(own, key=files.__getitem__) + "#" + place
 
     def call_link(self, n):
         """A call, or a member of a type or trait, as `graph of BoardLists`."""
@@ -220,8 +221,8 @@ class Book:
         clause = self.render.contract("\n".join(lines[start:end]), book.publics[n].uses)
         yield f"<pre>{clause}</pre><p class=at>{path}:{first + start}</p><h2>Chapters</h2>"
         yield (f"<p>From outside in. A name leads to its definition. The tool rests on some of them; a star stands at the others. "
-               f"Minutes are those of {WORDS_IN_TEN} words between definitions, or {LINES_IN_TEN} lines of definitions with their "
-               "comments, in ten.</p>")
+               f"Minutes are those of {WORDS_IN_TEN} words between definitions, or {LINES_IN_TEN} lines of definitions with "
+               "their comments, in ten.</p>")
         rows = [["chapter", "words", "lines of the tool", "minutes", "all lines", "minutes"]]
         for chapter in self.chapters:
             words, lines, of_tool = self.counts[chapter.file]
@@ -229,9 +230,11 @@ class Book:
             rows.append([f'<a href="{chapter.file}">{esc(chapter.title)}</a>', words, of_tool, minutes[0], lines, minutes[1]])
         total = ["all", *map(sum, list(zip(*rows[1:]))[1:])]
         yield listing([(None, *row) for row in [*rows, total]], " class=times")
-        yield "<h2>How to read them</h2><p><a href=notation.html>Notation</a>: what the signs say. On a sign, its row is shown.</p>"
-        yield "<h2>What the clause rests on</h2><p>The files of definitions that it reaches; each leads to those under it.</p>"
-        yield self.tree() + "<h2>What is trusted</h2>" + paragraphs(self.proved["What is trusted"], look)
+        yield "<h2>How to read them</h2>"
+        yield "<p><a href=notation.html>Notation</a>: what the signs say. On a sign, its row is shown.</p>"
+        yield "<h2>What the clause rests on</h2>"
+        yield "<p>The files of definitions that it reaches; each leads to those under it.</p>" + self.tree()
+        yield "<h2>What is trusted</h2>" + paragraphs(self.proved["What is trusted"], look)
         share = sources.counted.clap_share()
         if share:
             yield f"<p>Of clap's own definitions {share[0]} lines of {share[1]} say which words it takes.</p>"
@@ -248,7 +251,7 @@ class Book:
             below[one] = under[one].union(*(below[other] for other in under[one]))
         direct = {one: sorted(o for o in under[one] if not any(o in below[p] for p in under[one])) for one in sorted(under)}
         if shutil.which("dot"):
-            text = 'digraph { rankdir=LR; node [shape=box, style="rounded,filled", fontname="sans-serif", fontsize=11, height=0.3];\n'
+            text = 'digraph { rankdir=LR; node [shape=box, style="rounded,filled", height=0.3, fontname="sans-serif", fontsize=11];\n'
             text += "".join(f'"{".".join(one)}" [label="{one[1]}\\n{one[0]}", URL="{label[one]}"];\n' for one in direct)
             text += "".join(f'"{".".join(one)}" -> "{".".join(other)}";\n' for one in direct for other in direct[one]) + "}\n"
             svg = subprocess.run(["dot", "-Tsvg"], input=text, capture_output=True, text=True, check=True).stdout
@@ -266,7 +269,8 @@ class Book:
     def std(self):
         yield "<h1>Names of the toolchain</h1><p>What definitions take from its library, each in a sentence.</p>"
         for module, those in itertools.groupby(sorted(self.render.std), key=lambda one: one.module):
-            yield f"<h2>{esc(module)}</h2>" + listing([(anchor(*one), f"<code>{esc(one.name)}</code>", self.says(one)) for one in those])
+            rows = [(anchor(*one), f"<code>{esc(one.name)}</code>", self.says(one)) for one in those]
+            yield f"<h2>{esc(module)}</h2>" + listing(rows)
 
     def says(self, one):
         """What a name of the toolchain stands for: by std.tsv, by the comment there, or by the notation."""
@@ -274,10 +278,11 @@ class Book:
         return said(self.table.get(one.name) or sources.sentence_of(self.toolchain, *one) or ": ".join(rows[0] if rows else ()))
 
     def types(self):
-        yield "<h1>Types of the code</h1><p>Types that definitions use, as the code has them; below, the value that contracts see.</p>"
+        yield "<h1>Types of the code</h1>"
+        yield "<p>Types that definitions use, as the code has them; below, the value that contracts see.</p>"
         for key, one in sorted(self.sources.types.items()):
             yield f'<section class=type id="{anchor(*key)}"><h3>{esc(key[1])} <small>of {esc(key[0])}</small></h3>'
-            yield f"<p class=says>{said(one.comment)}</p><pre>{esc(one.text)}</pre>" + (f"<pre>{esc(one.view)}</pre>" if one.view else "")
+            yield f"<p class=says>{said(one.comment)}</p>" + "".join(f"<pre>{esc(text)}</pre>" for text in (one.text, one.view) if text)
             yield f"<p class=at>{one.path}:{one.line}</p></section>"
             self.names.append([key[1], self.render.href(key)])
 

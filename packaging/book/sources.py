@@ -1,4 +1,4 @@
-"""What the book is made of, read from the sources as they stand: definitions, types, examples, contracts, the toolchain's names."""
+"""What the book is made of, read from the sources as they stand: definitions, types, examples, contracts, names of the toolchain."""
 
 import collections
 import functools
@@ -12,7 +12,7 @@ import definitions as counted  # noqa: E402  (the folder is put on the path abov
 import lexer  # noqa: E402
 
 ELSEWHERE = re.compile(r"^\s*(?:pub )?use\s+(?!Rattle\.\w+\.specs\.)([\w.]+?)\.\{([^}]*)\}", re.M)
-EXAMPLE = re.compile(r"((?:^-- (?!---).*\n)*)^(?:abbrev |unfoldable )*pub \S+ : (.*(?:\n[ \t].*)*)", re.M)
+EXAMPLE = re.compile(r"((?:^-- (?!---).*\n)*)^pub \S+ : (.*(?:\n[ \t].*)*)", re.M)
 FIELD = re.compile(r"(?:^|[{,(])\s*(?:pub(?:\([^)]*\))? )?(\w+):")
 BUILT_IN = {"Unit", "tt", "absurd"}  # names of the language that no `use` brings
 PARTS_OF_STD = ("core", "std_alloc", "std_io")  # what std hands on is theirs
@@ -91,7 +91,7 @@ class Sources:
                     self.fields[field].append(key)
 
     def read_examples(self):
-        """The examples of proofs/Examples*: each `pub NAME : WHAT HOLDS`."""
+        """The examples of proofs/Examples*: each `pub NAME : WHAT HOLDS`; one of `abbrev` is but a value that they use."""
         for crate in self.order:
             for path in counted.files_of(f"crates/{crate}/proofs", ".antt"):
                 text = counted.read(path) if "/proofs/Examples" in path else ""
