@@ -131,12 +131,13 @@ class Book:
         return name, f'<a href="{self.call_href[n]}">{esc(name)}</a>'
 
     def read_promises(self):
-        """The promises of PROVED by crate and the last part of the call's name."""
-        found, crate = collections.defaultdict(list), None
+        """The promises of PROVED by crate and call; `these` are the calls of the row above."""
+        found, crate, names = collections.defaultdict(list), None, []
         for title, blocks in self.proved.items():
             crate = sources.counted.crate_in(title) or crate
             for row in itertools.chain.from_iterable(block for block in blocks if isinstance(block, list)):
-                for name in dict.fromkeys(codes(row[-1])):
+                names = codes(row[-1]) + (names if row[-1].startswith("these") else [])
+                for name in dict.fromkeys(names):
                     found[crate, name].append(row[0])
         return found
 
@@ -199,7 +200,7 @@ class Book:
         lines = sources.counted.read(path).split("\n")
         self.names.append([self.call_link(n)[0], self.call_href[n]])
         code = self.render.contract("\n".join(lines[first - 1:last]), one.uses)
-        names = [(one.crate, one.name), (one.crate, f"{owner_in(owner)}::{one.name}")]
+        names = [(one.crate, name) for name in (one.name, f"{owner_in(owner)}::{one.name}", owner_in(owner))]
         promises = "".join(f"<p class=promise>{said(text, look)}</p>" for name in names for text in self.promises.get(name, ()))
         where = f"{path}:{first}" + (f" · of {esc(owner)}" if owner else "")
         return (f'<section class=call id="{self.call_href[n].partition("#")[2]}" data-source="{path}:{first}-{last}"><p class=says>'
@@ -242,17 +243,17 @@ class Book:
 
     def tree(self):
         """The files that the tool's definitions stand in, each with those that it cites and that no other of these cites."""
-        book, under, below, label = self.sources, collections.defaultdict(set), {}, {}
+        book, under, below, place = self.sources, collections.defaultdict(set), {}, {}
         module = lambda k: book.defs.all[k][:2]  # noqa: E731
         for k in sorted(book.tool):
             under[module(k)] |= {module(other) for other in book.cited(k) & book.tool} - {module(k)}
-            label.setdefault(module(k), self.render.href(k))
+            place[module(k)] = f"{self.page_of[k]}#{anchor(*module(k))}"
         for one in graphlib.TopologicalSorter(under).static_order():
             below[one] = under[one].union(*(below[other] for other in under[one]))
         direct = {one: sorted(o for o in under[one] if not any(o in below[p] for p in under[one])) for one in sorted(under)}
         if shutil.which("dot"):
             text = 'digraph { rankdir=LR; node [shape=box, style="rounded,filled", height=0.3, fontname="sans-serif", fontsize=11];\n'
-            text += "".join(f'"{".".join(one)}" [label="{one[1]}\\n{one[0]}", URL="{label[one]}"];\n' for one in direct)
+            text += "".join(f'"{".".join(one)}" [label="{one[1]}\\n{one[0]}", URL="{place[one]}"];\n' for one in direct)
             text += "".join(f'"{".".join(one)}" -> "{".".join(other)}";\n' for one in direct for other in direct[one]) + "}\n"
             svg = subprocess.run(["dot", "-Tsvg"], input=text, capture_output=True, text=True, check=True).stdout
             return "<div class=tree>" + re.sub(r"<!--.*?-->\n?", "", svg[svg.index("<svg"):], flags=re.S) + "</div>"
@@ -261,7 +262,7 @@ class Book:
             """Each is written with those under it where it is met first."""
             for one in those:
                 lower = "".join(listed(direct.pop(one, ())))
-                yield f'<li><a href="{label[one]}">{esc(one[1])}</a> of {esc(one[0])}{lower and f"<ul>{lower}</ul>"}</li>'
+                yield f'<li><a href="{place[one]}">{esc(one[1])}</a> of {esc(one[0])}{lower and f"<ul>{lower}</ul>"}</li>'
 
         roots = under.keys() - set().union(*under.values())
         return f"<ul>{''.join(listed(one for one in self.modules_in_order if one in roots))}</ul>"
