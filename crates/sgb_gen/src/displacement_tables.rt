@@ -7,7 +7,8 @@ ghost use Rattle.sgb_vec.specs.Limits.{most_dimensions};
 ghost use Rattle.sgb_moves.specs.Limits.{most_piece};
 ghost use Rattle.sgb_moves.specs.Moves.{opposite};
 
-use sgb_moves::{Displacement, Displacements, Part, Parts, Step, put_opposite, put_parts_of};
+use crate::falling_displacements::FallingDisplacements;
+use sgb_moves::{Displacement, Part, Parts, Step, put_opposite, put_parts_of};
 use std::alloc::Global;
 use std::marker::Model;
 
@@ -122,15 +123,16 @@ fn kept_both<T: Copy>(alloc: Global, items: &[T], others: &[T]) -> Option<Vec<T>
 /// Displacements, each with its opposite. Contracts see them as a list.
 #[derive(Drop)]
 pub(crate) struct DisplacementTable {
+    // From the last one to the first.
     kept: Vec<KeptPair>,
 }
 
 impl Model for DisplacementTable {
-    ghost use Rattle.std.specs.Prelude.{List, ℤ};
+    ghost use Rattle.std.specs.Prelude.{List, ℤ, reverse};
 
     ghost Value = { List (List ℤ) };
 
-    ghost view = { λ d. d.kept.items };
+    ghost view = { λ d. reverse d.kept.items };
 }
 
 impl DisplacementTable {
@@ -141,18 +143,21 @@ impl DisplacementTable {
         MOST_ENTRIES / width.max(1)
     }
 
-    /// These displacements, each of so many entries. `None` where they have more than 49,152 entries, or out of memory.
-    pub(crate) fn new(alloc: Global, width: usize, left: Displacements) -> Option<DisplacementTable>
+    /// These displacements. `None` where there are more than `most`, or out of memory.
+    pub(crate) fn new(
+        alloc: Global,
+        most: usize,
+        left: FallingDisplacements,
+    ) -> Option<DisplacementTable>
         requires small { All (λ t. All (λ e. nat_abs e ≤ most_piece) t) left }
         ensures { IfSome result (λ d. d ≡ left) }
     {
-        let most = DisplacementTable::most(width);
         let mut turned = Displacement::new();
         let mut parts = Parts::new();
         let mut turned_parts = Parts::new();
         let mut left = left;
         let mut kept = Vec::new(alloc);
-        while let Some(t) = left.front() {
+        while let Some(t) = left.back() {
             if kept.len() >= most {
                 return None;
             }
@@ -160,7 +165,7 @@ impl DisplacementTable {
             let Ok(()) = kept.push(pair) else {
                 return None;
             };
-            let _some = left.advance();
+            left.retreat();
         }
         Some(DisplacementTable { kept })
     }
@@ -177,6 +182,6 @@ impl DisplacementTable {
         requires { place < length self.now }
         ensures { slice_get self.now place ≡ Some result.now }
     {
-        &self.kept[place]
+        &self.kept[self.kept.len() - 1 - place]
     }
 }

@@ -28,13 +28,14 @@ mod strided_moves;
 mod strides;
 mod turns;
 
+use crate::displacement_tables::DisplacementTable;
 use crate::falling_displacements::FallingDisplacements;
 use crate::params::BoardParams;
 use crate::vector_graphs::{put_coordinates, vector_names};
 pub use board_lists::BoardLists;
 pub use ordered_boards::OrderedBoard;
 use sgb_graph::{Graph, Id, IdWriter, Names};
-use sgb_moves::{Displacements, Parts, Step, entry_bounds, put_parts_of};
+use sgb_moves::{Step, entry_bounds};
 use sgb_vec::{BoxFamily, Family, Panic, Shape, Vector, Vectors, board_sizes};
 use std::alloc::Global;
 use std::marker::Model;
@@ -180,7 +181,7 @@ impl Board {
         let names = vector_names(alloc, &self.family)?;
         let mut graph = Graph::new(alloc, names)?;
         graph.reserve(self.records_count()?)?;
-        self.add_arcs(&mut graph)?;
+        self.add_arcs(alloc, &mut graph)?;
         put_coordinates(alloc, &mut graph, &self.family)?;
         graph.set_id(self.id());
         Ok(graph)
@@ -196,20 +197,8 @@ impl Board {
         usize::try_from(arcs).map_err(|_great| Panic::NoRoom)
     }
 
-    // The displacements by which the piece can move on the board.
-    fn displacements(&self) -> Displacements
-        ensures all { result ≡ displacements_within (nat_abs self.now.piece)
-            (entry_bounds (nat_abs self.now.piece) (sides_of self.now.sizes self.now.wrap)) }
-        ensures dimensions { All (λ t. length t ≡ length self.now.sizes) result }
-        ensures small { All (λ t. All (λ e. nat_abs e ≤ most_piece) t) result }
-    {
-        let piece = self.piece.unsigned_abs() as u32;
-        let bounds = entry_bounds(self.sizes(), self.wrap, piece);
-        Displacements::new(piece, bounds)
-    }
-
-    // The same from the last on.
-    fn falling_displacements(&self) -> FallingDisplacements
+    // The displacements by which the piece can move on the board, from the last on.
+    fn displacements(&self) -> FallingDisplacements
         ensures all { result ≡ displacements_within (nat_abs self.now.piece)
             (entry_bounds (nat_abs self.now.piece) (sides_of self.now.sizes self.now.wrap)) }
         ensures dimensions { All (λ t. length t ≡ length self.now.sizes) result }
@@ -334,20 +323,32 @@ impl Board {
     }
 
     // Adds the arcs of the board, or its edges: for each displacement, for each vertex in order.
-    fn add_arcs(&self, graph: &mut Graph) -> Result<(), Panic>
+    fn add_arcs(&self, alloc: Global, graph: &mut Graph) -> Result<(), Panic>
         requires vertices { length graph.old.vertices ≡ length (box self.now.sizes) }
         requires plain { HasPlainArcs graph.old }
         ensures ok { OnOk result (AddsEvents self.now.directed graph.old graph.new
             (map (event_among (box self.now.sizes)) (moves_of_board self.now))) }
         ensures memory { IsOkUnless result Panic.NoRoom }
     {
-        let mut parts = Parts::new();
-        let mut left = self.displacements();
-        while let Some(t) = left.front() {
-            put_parts_of(t, &mut parts);
-            let step = Step::of(t, parts.as_slice());
-            self.add_moves_by(graph, &step)?;
-            let _some = left.advance();
+        let Some(table) = DisplacementTable::new(alloc, usize::MAX, self.displacements()) else {
+            return Err(Panic::NoRoom);
+        };
+        self.add_arcs_by(graph, &table)
+    }
+
+    // The same by the displacements in a table.
+    fn add_arcs_by(&self, graph: &mut Graph, table: &DisplacementTable) -> Result<(), Panic>
+        requires table { table.now ≡ displacements_within (nat_abs self.now.piece)
+            (entry_bounds (nat_abs self.now.piece) (sides_of self.now.sizes self.now.wrap)) }
+        requires dimensions { All (λ t. length t ≡ length self.now.sizes) table.now }
+        requires vertices { length graph.old.vertices ≡ length (box self.now.sizes) }
+        requires plain { HasPlainArcs graph.old }
+        ensures ok { OnOk result (AddsEvents self.now.directed graph.old graph.new
+            (map (event_among (box self.now.sizes)) (moves_of_board self.now))) }
+        ensures memory { IsOkUnless result Panic.NoRoom }
+    {
+        for k in 0..table.len() {
+            self.add_moves_by(graph, &table.at(k).ahead())?;
         }
         Ok(())
     }

@@ -88,7 +88,8 @@ impl Board {
             (entry_bounds (nat_abs self.now.piece) (sides_of self.now.sizes self.now.wrap))) }
         ensures dimensions { IfSome result (All (λ t. length t ≡ length self.now.sizes)) }
     {
-        DisplacementTable::new(alloc, self.family.dims(), self.displacements())
+        let most = DisplacementTable::most(self.family.dims());
+        DisplacementTable::new(alloc, most, self.displacements())
     }
 }
 

@@ -58,9 +58,10 @@ impl Board {
     {
         let mut left = self.displacements();
         for _passed in 0..DisplacementTable::most(self.family.dims()) + 1 {
-            if !left.advance() {
+            let Some(_next) = left.back() else {
                 return true;
-            }
+            };
+            left.retreat();
         }
         false
     }
@@ -72,12 +73,12 @@ impl Board {
     {
         let mut counted: u128 = 0;
         let mut left = self.displacements();
-        while let Some(t) = left.front() {
+        while let Some(t) = left.back() {
             let Some(more) = self.count_by(t, counted) else {
                 return None;
             };
             counted = more;
-            let _some = left.advance();
+            left.retreat();
         }
         Some(counted)
     }

@@ -84,7 +84,7 @@ impl Board {
         let mut turned = Displacement::new();
         let mut parts = Parts::new();
         let mut turned_parts = Parts::new();
-        let mut left = self.falling_displacements();
+        let mut left = self.displacements();
         while let Some(t) = left.back() {
             put_opposite(t, &mut turned);
             put_parts_of(t, &mut parts);

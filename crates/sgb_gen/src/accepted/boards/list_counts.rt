@@ -54,7 +54,7 @@ impl Board {
         let mut parts = Parts::new();
         let mut turned_parts = Parts::new();
         let mut arcs: u64 = 0;
-        let mut left = self.falling_displacements();
+        let mut left = self.displacements();
         while let Some(t) = left.back() {
             put_opposite(t, &mut turned);
             put_parts_of(t, &mut parts);

@@ -7,10 +7,9 @@ use Rattle.sgb_gen.proofs.BoundedMoves.{bounds_of}
 use Rattle.sgb_gen.proofs.MostMoves.{arcs_countable}
 use Rattle.sgb_gen.proofs.accepted.boards.Board.has_countable_arcs.Goals as goal
 
-pub returns-then-not-advance : goal.returns-then-not-advance
-returns-then-not-advance c =
+pub returns-in_default : goal.returns-in_default
+returns-in_default c =
     let b = c.args.self.now in
-    let none = ltb-false _ _ (sym c.advance.ensures.some ∙ c.if-not-advance.true) in
-    let few : length (displacements_within (nat_abs b.piece) (bounds_of b)) ≤ 49152 = omega (arith, c.loop-passed.invariant, none, c.loop-passed-test.true, c.most-passed-end.ensures) in
+    let few : length (displacements_within (nat_abs b.piece) (bounds_of b)) ≤ 49152 = omega (arith, c.loop-passed.invariant, ap length c.in_default.ensures.none, c.loop-passed-test.true, c.most-passed-end.ensures) in
     let places = subst (λ ns. product_of ns ≤ most_vertices) (ap (λ d. d.sizes) c.self.view_is) c.self.invariant.1.vertices in
     arcs_countable b places few
