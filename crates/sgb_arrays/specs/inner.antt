@@ -19,5 +19,7 @@ pub mod Given
 pub mod Fields
 -- the parts of a graph that is copied
 pub mod CopiedParts
+-- arcs that are counted
+pub mod CountedArcs
 -- arcs to vectors, put into rows
 pub mod PlacedArcs

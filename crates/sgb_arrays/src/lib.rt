@@ -5,6 +5,8 @@
 
 // Copies of graphs.
 mod copies;
+// Arcs that are counted as they are handed out.
+mod counted_arcs;
 // Random numbers in an array.
 mod draws;
 // Utility fields of vertices as arrays.

@@ -1,14 +1,14 @@
 //! How many arcs are on the lists of a run.
 //!
-//! They are counted without the lists where these are told so; else from list after list in one `Links`.
-ghost use Rattle.std.specs.Prelude.{◌≡◌, ◌+◌, ◌≤◌, length, Contains, IfErr, IfOk, IsOkUnless, ⊤};
-ghost use Rattle.sgb_gen.specs.LocalLists.{list_in};
+//! They are counted as they are handed out, those of a span at once.
+ghost use Rattle.std.specs.Prelude.{◌≡◌, ◌+◌, ◌≤◌, length, IfErr, IfOk, IsOkUnless, ⊤};
 ghost use Rattle.sgb_gen.specs.VectorGraphs.{described_by};
 ghost use Rattle.sgb_graph.specs.Graphs.{chain_of};
 ghost use Rattle.sgb_graph.specs.Made.{graph_described};
 ghost use Rattle.sgb_gen.specs.Generators.{described};
 ghost use Rattle.sgb_arrays.specs.Runs.{IsRunRefusal, IsThere, parts_of};
 
+use crate::counted_arcs::CountedArcs;
 use crate::refusals::Wrong;
 use crate::runs::{has_run, vectors_from};
 use sgb_gen::{Links, Listed, Local, Visit, Visitor};
@@ -29,7 +29,7 @@ pub fn arcs_of_run(alloc: Global, local: &Local, first: u32, count: u32) -> Resu
     local.visit(ArcsOfRun { first, count }, &mut links)
 }
 
-// The number of the arcs of a run of a generator's graph, counted in links that serve for list after list.
+// The number of the arcs of a run of a generator's graph, with links that serve for list after list.
 #[derive(Drop)]
 struct ArcsOfRun {
     first: u32,
@@ -93,34 +93,9 @@ fn count_arcs<'a, L: Listed<'a>>(
     let mut left = vectors_from(listed.family(), first);
     for _k in 0..count {
         let x = left.front().unwrap();
-        let own = arcs_from(listed, x, links)?;
-        arcs = sum_of(arcs, own)?;
+        let sink = CountedArcs { width: x.len() };
+        listed.give_arcs(x, links, &sink, &mut arcs, &mut ())??;
         let _some = left.advance();
     }
     Ok(arcs)
-}
-
-// The sum of two numbers of arcs. `NoRoom` where 128 bits do not hold it, which no list has so many arcs for.
-pub(crate) fn sum_of(arcs: u128, more: u128) -> Result<u128, Panic>
-    ensures sum { IfOk result (λ s. s ≡ arcs + more) }
-    ensures memory { IsOkUnless result Panic.NoRoom }
-{
-    let Some(sum) = arcs.checked_add(more) else {
-        return Err(Panic::NoRoom);
-    };
-    Ok(sum)
-}
-
-// The number of the arcs of a vector: told without its list where it can be, else by that.
-fn arcs_from<'a, L: Listed<'a>>(listed: &mut L, x: &[u32], links: &mut Links) -> Result<u128, Panic>
-    requires { Contains (L.graph listed.old).vectors x.now }
-    ensures arcs { IfOk result (λ m. m ≡ length (list_in (L.graph listed.old) x.now)) }
-    ensures memory { IsOkUnless result Panic.NoRoom }
-    ensures same { L.graph listed.new ≡ L.graph listed.old }
-{
-    if let Some(arcs) = listed.count_at(x) {
-        return Ok(u128::from(arcs));
-    }
-    listed.arcs_at(x, links)?;
-    Ok(links.len() as u128)
 }

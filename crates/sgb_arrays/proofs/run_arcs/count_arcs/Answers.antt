@@ -28,8 +28,8 @@ unwrap-x-requires g c =
     let within : c.args.first + c.loop-k._k < length listed.vectors = omega (arith, c.requires) in
     some_front c.front.result c.loop-k.left listed.vectors (c.args.first + c.loop-k._k) c.loop-k.invariant.left within c.front.ensures.none
 
-pub arcs_from-requires : goal.arcs_from-requires
-arcs_from-requires g c =
+pub give_arcs-requires : goal.give_arcs-requires
+give_arcs-requires g c =
     let listed = g.L.Listed.graph c.args.listed.now in
     let place = c.args.first + c.loop-k._k in
     let x = c.unwrap-x.result.now in
@@ -45,11 +45,12 @@ loop-k-preserved g c =
     let k = c.loop-k._k in
     let x = c.unwrap-x.result.now in
     let there = at_front listed.vectors c.loop-k.left (first + k) x c.loop-k.invariant.left (rw c.unwrap-x.ensures at c.front.ensures.first) in
-    let own : c.in_ok-own.own ≡ length (chain_of graph (first + k)) =
-    c.in_ok-own.ensures.arcs ∙ ap (λ h. length (list_in h x)) c.loop-k.invariant.same
+    let own : length (list_in (g.L.Listed.graph c.loop-k.listed) x) ≡ length (chain_of graph (first + k)) =
+    ap (λ h. length (list_in h x)) c.loop-k.invariant.same
     ∙ list_length listed (g.L.Members.Family.members c.family.result.now) (g.met.L.Members.Family.rising c.family.result.now) c.family.ensures.members c.family.ensures.ends (first + k) x there in
+    let given : c.give_arcs.new.room ≡ c.loop-k.arcs + length (list_in (g.L.Listed.graph c.loop-k.listed) x) = search rules in
     record {
-      counted = omega (arith, c.in_ok-arcs.ensures.sum, c.loop-k.invariant.counted, own, ap length (parts_more (chain_of graph) first k), length-append (parts_of (chain_of graph) first k) (chain_of graph (first + k)));
+      counted = omega (arith, given, c.loop-k.invariant.counted, own, ap length (parts_more (chain_of graph) first k), length-append (parts_of (chain_of graph) first k) (chain_of graph (first + k)));
       left = left_after listed.vectors c.loop-k.left c.advance-some.new.self first k c.loop-k.invariant.left c.advance-some.ensures.rest;
-      same = c.arcs_from.ensures.same ∙ c.loop-k.invariant.same;
+      same = c.give_arcs.ensures.same ∙ c.loop-k.invariant.same;
     }
