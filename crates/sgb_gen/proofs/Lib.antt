@@ -22,8 +22,6 @@ pub mod GivenArcs
 pub mod MostLengths
 -- how many moves a board of few displacements has at most
 pub mod MostMoves
--- how many arcs the edges of a displacement make
-mod BoardListCounts
 -- moves that lead by equal strides
 mod StridedMoves
 -- where a move leads
@@ -153,15 +151,11 @@ pub mod SubsetsPairs
 pub mod SubsetsPairTables
 -- the moves of subsets as pairs of vectors
 pub mod SubsetsMovePairs
--- the arcs on the list of one vector of subsets counted
-pub mod SubsetsListCounts
 -- sums over the numbers below one
 pub mod AddedSums
 -- pairs of subsets by what they leave of the bounds
 pub mod SubsetsLeftOver
 -- the place of a vector of a sum, by counts that are kept
 pub mod KeptCounts
--- boards whose arcs need no sort, and how many displacements a board has
-pub mod PlainBoards
 -- vectors in order, one found from that before or after it
 pub mod SteppedVectors

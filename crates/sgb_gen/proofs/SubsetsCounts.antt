@@ -20,10 +20,10 @@ use Rattle.sgb_gen.specs.LocalLists.{LocalArc}
 use Rattle.sgb_gen.specs.Subsets.{SubsetsData, common_size, is_wanted_size, moves_of_subsets, moves_to_place, subsets_vector_graph, subsets_vectors}
 use Rattle.sgb_moves.specs.VectorMoves.{Move}
 use Rattle.sgb_gen.specs.VectorGraphs.{described_by, family_graph, vertex_among}
-use Rattle.sgb_gen.specs.inner.Descents.{IsBegun, arcs_under, down_from, row, rows}
+use Rattle.sgb_gen.specs.inner.Descents.{IsBegun, arcs_under, down_from, row}
 use Rattle.sgb_gen.specs.inner.SubsetsCounts.{HasNoneAbove, moves_among, wanted_among}
 use Rattle.sgb_gen.proofs.BoardCountsBoards.{arcs-directed, arcs-undirected}
-use Rattle.sgb_gen.proofs.DescentArcs.{all-rows, from-taken, row-under, under-zeros}
+use Rattle.sgb_gen.proofs.DescentArcs.{from-taken, row-under, under-zeros}
 use Rattle.sgb_gen.proofs.FamilyWalks.{at_front, next_left}
 use Rattle.sgb_gen.proofs.RisingVectors.{vertex_in_rising}
 use Rattle.sgb_gen.proofs.SubsetsEvents.{is_among}
@@ -83,13 +83,6 @@ among-zeros sb c left bs x none =
 -- a row by the vectors that go on
 pub among-row : (sb c left h e : ℕ) (bs x : List ℕ) → e ≤ left → wanted_among sb (c + min h e) x (reverse (bounded_sums (left - e) bs)) ≡ wanted_among sb c (h ∷ x) (row left bs e)
 among-row sb c left h e bs x within = among-same sb ([] ++ e ∷ []) [] (c + min h e) c x (h ∷ x) _ _ (row-under sb [] c left h e bs x within)
-
--- all vectors by their rows
-pub among-rows : (sb c left b h end : ℕ) (bs xs bounds x : List ℕ) → bounds ≡ b ∷ bs → x ≡ h ∷ xs → end ≡ min left b + 1
-    → wanted_among sb c (h ∷ xs) (rows left bs 0 end) ≡ wanted_among sb c x (reverse (bounded_sums left bounds))
-among-rows sb c left b h end bs xs bounds x bounds_are x_is end_is =
-    ap (λ n. wanted_among sb c (h ∷ xs) (rows left bs 0 n)) (omega (arith, end_is))
-    ∙ among-same sb [] [] c c (h ∷ xs) x _ _ (all-rows sb [] c left b h (min left b) bs xs bounds x bounds_are x_is refl)
 
 -- what is known with one more entry
 pub begun-on : (room shared left c b h e : ℕ) (bs xs bounds x : List ℕ) → bounds ≡ b ∷ bs → x ≡ h ∷ xs → e ≤ left → IsBegun bounds x room shared left c → IsBegun bs xs (room - b) (shared - h) (left - e) (c + min h e)

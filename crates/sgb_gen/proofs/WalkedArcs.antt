@@ -1,7 +1,6 @@
 -- The arcs of a board's vector by a walk over displacements from the last on.
-use Rattle.std.proofs.Common.{◌≡◌, ℕ, ◌+◌, ◌-◌, ◌<◌, ℤ, List, [], ◌∷◌, ◌++◌, length, reverse, take, ap, subst, ◌∙◌, arith, length-append}
+use Rattle.std.proofs.Common.{◌≡◌, ℕ, ◌-◌, ◌<◌, ℤ, List, [], ◌∷◌, ◌++◌, length, reverse, take, ap, subst, ◌∙◌, arith, length-append}
 use Rattle.std.specs.List.{All}
-use Rattle.std.proofs.lemmas.List.{length-reverse}
 use Rattle.std.proofs.lemmas.List.Elements.{All-cons, All-head, All-nil, All-tail}
 use Rattle.sgb_vec.specs.Boxes.{box}
 use Rattle.sgb_gen.specs.Boards.{BoardData}
@@ -34,8 +33,3 @@ module _ (ts : List (List ℤ)) (t : List ℤ) (is : ts ≡ rest_of ts ++ t ∷ 
   -- the arcs by the last come first
   pub arcs_apart : (b : BoardData) (x : List ℕ) → arcs_by_all b x ts ≡ reverse (arcs_onward b.directed x (moves_by (sides_of b.sizes b.wrap) b.piece (box b.sizes) t)) ++ arcs_by_all b x (rest_of ts)
   arcs_apart b x = ap (arcs_by_all b x) is ∙ last_first b x (rest_of ts) t
-
-  pub counts_apart : (b : BoardData) (x : List ℕ) → length (arcs_by_all b x ts) ≡ length (arcs_onward b.directed x (moves_by (sides_of b.sizes b.wrap) b.piece (box b.sizes) t)) + length (arcs_by_all b x (rest_of ts))
-  counts_apart b x =
-      let own = arcs_onward b.directed x (moves_by (sides_of b.sizes b.wrap) b.piece (box b.sizes) t) in
-      omega (arith, ap length (arcs_apart b x), length-append (reverse own) (arcs_by_all b x (rest_of ts)), length-reverse own)

@@ -4,7 +4,7 @@
 //! `BoardLists`, or by an `OrderedBoard`, which has room for a start, so that nothing after it wants memory. Both make a table only
 //! in `prepare`: names, sizes, where a listing begins and the number of arcs take none. That moves have their ends among the
 //! vectors is a clause of `family` and no law: its proof would have to stand with the definitions.
-ghost use Rattle.std.specs.Prelude.{◌≡◌, ◌⊎◌, ◌≤◌, ◌<◌, ◌^◌, length, pos, true, false, All, Contains, IfErr, IfNone, IfOk, IfSome, IsOk, OnOk, IsOkUnless};
+ghost use Rattle.std.specs.Prelude.{◌≡◌, ◌⊎◌, ◌≤◌, ◌<◌, ◌^◌, length, true, false, All, Contains, IfErr, IfOk, IfSome, IsOk, OnOk, IsOkUnless};
 ghost use Rattle.sgb_graph.specs.Made.{graph_described};
 ghost use Rattle.sgb_gen.specs.ArcSinks.{AreGiven};
 ghost use Rattle.sgb_gen.specs.Boards.{board_vector_graph};
@@ -38,9 +38,6 @@ pub trait Listed<'a> {
 
     // Which generator it is from.
     ghost sort: { Self → Sort };
-
-    // The length of a list is told without it, where 64 bits hold it.
-    ghost counted: { Self → Type 0 };
 
     /// The vectors that are the vertices.
     fn family(&self) -> &'a Self::Members
@@ -116,15 +113,6 @@ pub trait Listed<'a> {
         ensures same { graph self.new ≡ graph self.old }
         ensures sort { sort self.new ≡ sort self.old };
 
-    /// How many arcs are on the list of the vertex of `x`, where they are told without it, as a run asks: of a board whose arcs
-    /// are known to be had in order with no sort, and of undirected subsets. They are of a board whose graph is directed, or of
-    /// which no side wraps around, where 64 bits hold the number. No memory is taken.
-    fn count_at(&self, x: &[u32]) -> Option<u64>
-        requires { Contains (graph self.now).vectors x.now }
-        ensures count { IfSome result (λ m. m ≡ length (list_in (graph self.now) x.now)) }
-        ensures counted { counted self.now
-            → IfNone result (2 ^ 64 ≤ length (list_in (graph self.now) x.now)) };
-
     /// The vectors, each found at once: those of a board by their entries, others by counts that are kept; made for a run, where
     /// many are looked for. `None` where the counts want more than a megabyte, or out of memory. The memory is from where that of
     /// the links comes.
@@ -145,8 +133,6 @@ impl<'a> Listed<'a> for BoardLists<'a> {
     ghost graph = { board_vector_graph };
 
     ghost sort = { λ _. of_board };
-
-    ghost counted = { λ b. (b.directed ≡ true) ⊎ (b.wrap ≡ pos 0) };
 
     fn family(&self) -> &'a BoxFamily {
         self.board.family()
@@ -183,10 +169,6 @@ impl<'a> Listed<'a> for BoardLists<'a> {
         self.give_with(x, links, sink, room, out)
     }
 
-    fn count_at(&self, x: &[u32]) -> Option<u64> {
-        BoardLists::count_at(self, x)
-    }
-
     fn places(&self, _links: &Links) -> Option<&'a BoxFamily> {
         Some(self.board.family())
     }
@@ -204,8 +186,6 @@ impl<'a> Listed<'a> for OrderedBoard<'a> {
     ghost graph = { board_vector_graph };
 
     ghost sort = { λ _. of_ordered_board };
-
-    ghost counted = { λ b. (b.directed ≡ true) ⊎ (b.wrap ≡ pos 0) };
 
     fn family(&self) -> &'a BoxFamily {
         self.lists.board.family()
@@ -242,10 +222,6 @@ impl<'a> Listed<'a> for OrderedBoard<'a> {
         Ok(self.give(x, sink, room, out))
     }
 
-    fn count_at(&self, x: &[u32]) -> Option<u64> {
-        self.lists.count_at(x)
-    }
-
     fn places(&self, _links: &Links) -> Option<&'a BoxFamily> {
         Some(self.lists.board.family())
     }
@@ -263,8 +239,6 @@ impl<'a> Listed<'a> for &'a Simplex {
     ghost graph = { λ s. simplex_vector_graph s.now };
 
     ghost sort = { λ _. of_simplex };
-
-    ghost counted = { λ _. ⊥ };
 
     fn family(&self) -> &'a SumFamily {
         (**self).family()
@@ -299,10 +273,6 @@ impl<'a> Listed<'a> for &'a Simplex {
         Ok((**self).push_all(x, sink, room, out))
     }
 
-    fn count_at(&self, _x: &[u32]) -> Option<u64> {
-        None
-    }
-
     fn places(&self, links: &Links) -> Option<CountedPlaces<'a>> {
         (**self).places(links.alloc())
     }
@@ -320,8 +290,6 @@ impl<'a> Listed<'a> for &'a Subsets {
     ghost graph = { λ s. subsets_vector_graph s.now };
 
     ghost sort = { λ _. of_subsets };
-
-    ghost counted = { λ _. ⊥ };
 
     fn family(&self) -> &'a SumFamily {
         (**self).family()
@@ -354,10 +322,6 @@ impl<'a> Listed<'a> for &'a Subsets {
         out: &mut S,
     ) -> Result<Result<(), K::Fault>, Panic> {
         Ok((**self).push_all(x, sink, room, out))
-    }
-
-    fn count_at(&self, x: &[u32]) -> Option<u64> {
-        (**self).count_at(x)
     }
 
     fn places(&self, links: &Links) -> Option<CountedPlaces<'a>> {

@@ -19,7 +19,6 @@ mod board_lists;
 mod counts;
 mod edges;
 mod given;
-mod list_counts;
 mod lists;
 mod ordered_boards;
 mod orders;

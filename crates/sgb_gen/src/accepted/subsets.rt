@@ -17,7 +17,6 @@ mod counts;
 mod descents;
 mod last_entries;
 mod left_over;
-mod list_counts;
 mod lists;
 mod pair_sums;
 mod pairs;

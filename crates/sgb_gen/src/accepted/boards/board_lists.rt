@@ -3,7 +3,7 @@
 //! They have their displacements in common, with their opposites. Where these are too many for a table, or there is no
 //! memory, they are walked over for each vertex, from the last on. A body that built the whole graph would meet the
 //! contracts, which do not speak of room; the checks from outside see it (`great`).
-ghost use Rattle.std.specs.Prelude.{◌≡◌, ◌≤◌, ◌^◌, ◌⊎◌, [], length, nat_abs, pos, true, All, Contains, IfErr, IfNone, IfOk, IfSome, OnOk, OnErr, IsOkUnless};
+ghost use Rattle.std.specs.Prelude.{◌≡◌, [], length, nat_abs, All, Contains, IfErr, IfOk, IfSome, OnOk, OnErr, IsOkUnless};
 ghost use Rattle.sgb_vec.specs.Boxes.{box};
 ghost use Rattle.sgb_gen.specs.ArcSinks.{AreGiven};
 ghost use Rattle.sgb_gen.specs.Boards.{moves_of_board};
@@ -34,8 +34,7 @@ pub struct BoardLists<'a> {
     pub(super) straight: bool,
     // Whether the piece is a leaper, and all of these lead to later vectors from where no side is near.
     pub(super) leaping: bool,
-    // Whether the arcs by each of these are had in order with no sort, as they are where the graph is directed, or no side wraps
-    // around: where there is no table, whether it is such a graph.
+    // Whether the arcs by each of these are had in order with no sort.
     in_order: bool,
     // No entry of theirs is greater.
     pub(super) widest: u32,
@@ -44,7 +43,7 @@ pub struct BoardLists<'a> {
 }
 
 impl<'a> Model for BoardLists<'a> {
-    ghost use Rattle.std.specs.Prelude.{◌≡◌, ◌≤◌, ◌⊎◌, map, nat_abs, pos, true, All, IfSome};
+    ghost use Rattle.std.specs.Prelude.{◌≡◌, ◌≤◌, map, nat_abs, pos, All, IfSome};
     ghost use Rattle.std.specs.Bool.{OnTrue};
     ghost use Rattle.sgb_gen.specs.inner.StraightLists.{AreOnward, IsLeaper, NeedsNoSort};
     ghost use Rattle.sgb_gen.specs.Boards.{BoardData};
@@ -65,9 +64,7 @@ impl<'a> Model for BoardLists<'a> {
         × OnTrue b.leaping (IfSome b.table (AreOnward (pos 0)))
         × IfSome b.strides (λ s. IfSome b.table (λ d. map pos s.items
         ≡ map (stride_of b.board.now.sizes) d))
-        × OnTrue b.in_order (All (NeedsNoSort b.board.now) (displacements_within (nat_abs b.board.now.piece)
-        (entry_bounds (nat_abs b.board.now.piece) (sides_of b.board.now.sizes b.board.now.wrap))))
-        × ((b.board.now.directed ≡ true) ⊎ (b.board.now.wrap ≡ pos 0) → b.in_order ≡ true) };
+        × OnTrue b.in_order (IfSome b.table (All (NeedsNoSort b.board.now))) };
 }
 
 impl Board {
@@ -99,14 +96,12 @@ impl<'a> BoardLists<'a> {
     pub fn new(board: &'a Board) -> BoardLists<'a>
         ensures { result ≡ board.now }
     {
-        let table = None;
-        let in_order = board.is_in_order_by(&table);
         BoardLists {
             board,
-            table,
+            table: None,
             straight: false,
             leaping: false,
-            in_order,
+            in_order: false,
             widest: 0,
             strides: None,
         }
@@ -144,26 +139,6 @@ impl<'a> BoardLists<'a> {
         let put = self.give(x, &mut starts, &KeptArcs::of(x.len()), links, &mut ());
         links.keep_starts(starts);
         links.ended(put)
-    }
-
-    /// How many arcs are on the list of the vertex of `x`, which is a vector of the board, with no list made, where its arcs are had
-    /// in order with no sort. `None` elsewhere, and where 64 bits do not hold the number. Where the graph is directed, or no side
-    /// wraps around, it is `None` for this alone. No memory is taken.
-    pub(crate) fn count_at(&self, x: &[u32]) -> Option<u64>
-        requires { Contains (box self.now.sizes) x.now }
-        ensures count { IfSome result (λ m. m ≡ length (list_at self.now.directed
-            (box self.now.sizes) (moves_of_board self.now) x.now)) }
-        ensures none { (self.now.directed ≡ true) ⊎ (self.now.wrap ≡ pos 0)
-            → IfNone result (2 ^ 64 ≤ length (list_at self.now.directed (box self.now.sizes)
-            (moves_of_board self.now) x.now)) }
-    {
-        if !self.in_order {
-            return None;
-        }
-        match &self.table {
-            Some(table) => self.board.count_kept(x, table),
-            None => self.board.count_walked(x),
-        }
     }
 
     /// Hands the arcs of the vertex of `x`, which is a vector of the board, to a sink one by one. `starts` is what they are found

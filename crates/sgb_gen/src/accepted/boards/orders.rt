@@ -3,12 +3,11 @@
 //!
 //! What a yes means is proved, and not when it comes. A rider whose moves go around a side twice has none, nor a leaper
 //! that goes once around a side at one step.
-ghost use Rattle.std.specs.Prelude.{◌≡◌, ◌<◌, ◌≤◌, ◌⊎◌, ℕ, List, length, nat_abs, pos, true, All, IfSome};
-ghost use Rattle.std.specs.Bool.{OnFalse, OnTrue};
+ghost use Rattle.std.specs.Prelude.{◌≡◌, ◌<◌, ◌≤◌, ℕ, List, length, true, All, IfSome};
+ghost use Rattle.std.specs.Bool.{OnTrue};
 ghost use Rattle.sgb_vec.specs.Lexicographic.{IsBelow};
-ghost use Rattle.sgb_moves.specs.Moves.{opposite, sides_of};
+ghost use Rattle.sgb_moves.specs.Moves.{opposite};
 ghost use Rattle.sgb_gen.specs.inner.BoardCounts.{stops_at};
-ghost use Rattle.sgb_moves.specs.inner.EntryBounds.{displacements_within, entry_bounds};
 ghost use Rattle.sgb_gen.specs.inner.StraightLists.{NeedsNoSort, arcs_from};
 
 use super::Board;
@@ -18,33 +17,15 @@ use sgb_moves::Step;
 use sgb_vec::Family;
 
 impl Board {
-    /// Whether the arcs by each displacement are had in order with no sort: always where the graph is directed, or no side wraps
-    /// around; of another one where the displacements are in a table.
+    /// Whether the arcs by each displacement in this table are had in order with no sort.
     pub(super) fn is_in_order_by(&self, table: &Option<DisplacementTable>) -> bool
-        requires { IfSome table.now (λ d. d ≡ displacements_within (nat_abs self.now.piece)
-            (entry_bounds (nat_abs self.now.piece) (sides_of self.now.sizes self.now.wrap))) }
-        ensures sorted { OnTrue result (All (NeedsNoSort self.now)
-            (displacements_within (nat_abs self.now.piece)
-            (entry_bounds (nat_abs self.now.piece) (sides_of self.now.sizes self.now.wrap)))) }
-        ensures plain { (self.now.directed ≡ true) ⊎ (self.now.wrap ≡ pos 0) → result ≡ true }
+        requires { IfSome table.now (All (λ t. length t ≡ length self.now.sizes)) }
+        ensures { OnTrue result (IfSome table.now (All (NeedsNoSort self.now))) }
     {
-        prove!(self.piece != 0);
-        if self.is_plain() {
-            return true;
-        }
         match table {
             Some(table) => self.all_in_order(table),
             None => false,
         }
-    }
-
-    // Whether its graph is directed, or no side wraps around.
-    fn is_plain(&self) -> bool
-        ensures plain { OnTrue result ((self.now.directed ≡ true) ⊎ (self.now.wrap ≡ pos 0)) }
-        ensures other { OnFalse result
-            ((self.now.directed ≡ true) ⊎ (self.now.wrap ≡ pos 0) → ⊥) }
-    {
-        self.directed || self.wrap == 0
     }
 
     // Whether those by each of these displacements are.
