@@ -4,7 +4,7 @@
 ghost use Rattle.std.specs.Prelude.{◌≡◌, ◌+◌, IsOkUnless, OnOk};
 
 use sgb_gen::{ArcSink, Span};
-use sgb_vec::{Panic, Vector};
+use sgb_vec::Panic;
 
 /// Counts arcs, beyond those that were counted before.
 #[derive(Drop)]
@@ -49,13 +49,7 @@ impl ArcSink<u128, ()> for CountedArcs {
     }
 
     #[inline(always)]
-    fn put_span(
-        &self,
-        span: &Span<'_>,
-        _there: &mut Vector,
-        arcs: &mut u128,
-        _out: &mut (),
-    ) -> Result<(), Panic> {
+    fn put_span(&self, span: &Span<'_>, arcs: &mut u128, _out: &mut ()) -> Result<(), Panic> {
         count_more(arcs, span.len())
     }
 }

@@ -4,10 +4,7 @@
 pub mod Norms
 -- a displacement has an entry for each dimension
 pub mod DisplacementLengths
-pub mod DisplacementsBefore
-pub mod EarlierSignings
 pub mod EdgesInTurn
-pub mod EarlierVectors
 -- vertices from which no side is near
 mod InsideVertices
 -- their lists, by leaps

@@ -7,8 +7,9 @@ ghost use Rattle.sgb_vec.specs.Limits.{most_dimensions};
 ghost use Rattle.sgb_moves.specs.Limits.{most_piece};
 ghost use Rattle.sgb_moves.specs.Moves.{opposite};
 
-use crate::falling_displacements::FallingDisplacements;
-use sgb_moves::{Displacement, Part, Parts, Step, put_opposite, put_parts_of};
+use sgb_moves::{
+    Displacement, FallingDisplacements, Part, Parts, Step, put_opposite, put_parts_of,
+};
 use std::alloc::Global;
 use std::marker::Model;
 

@@ -7,8 +7,6 @@ mod accepted;
 mod arc_sinks;
 // Displacements that are kept.
 mod displacement_tables;
-// A walk over the displacements of a piece from the last of them on.
-mod falling_displacements;
 // The generators.
 mod generators;
 // Such arcs that are kept in links.

@@ -16,6 +16,12 @@ pub mod NextSignings
 pub mod FirstEntries
 -- a walk over displacements, one after another
 pub mod DisplacementWalk
+-- the vector before another one of the same norm
+pub mod EarlierVectors
+-- the signing before another one
+pub mod EarlierSignings
+-- the displacements before one of them
+pub mod DisplacementsBefore
 -- the bits of `wrap`
 pub mod WrapBits
 -- a place, coordinate by coordinate
@@ -30,8 +36,6 @@ pub mod Riders
 pub mod TurnedMoves
 -- whether displacements lead onward, by the coordinates that they move
 pub mod OnwardParts
--- the last two entries, found together
-pub mod PairCompletions
 -- so many steps of 32 bits together, in 64 bits
 pub mod SignedSteps
 -- what is left of a number by the size of a side

@@ -2,8 +2,10 @@
 //! sgb_gen.
 #![tactic(auto)]
 
-// A walk over the displacements of a piece.
+// Entries of displacements, and numbers that are no sums of squares.
 mod displacements;
+// A walk over the displacements of a piece, from the last on.
+mod falling_displacements;
 // Where a piece moves on a board.
 mod moves;
 // Ranges of the starts of moves.
@@ -13,10 +15,8 @@ mod starts;
 // Displacements with the coordinates that they move.
 mod steps;
 
-pub use displacements::{
-    Displacement, Displacements, EntrySizes, first_entry, is_no_sum, is_out_of_reach, least_tried,
-    put_opposite, put_positive, zeros,
-};
+pub use displacements::{Displacement, EntrySizes, put_opposite};
+pub use falling_displacements::FallingDisplacements;
 pub use moves::{
     destination, entry_bounds, is_inside, leads_onward, part_at, put_parts, put_vector, reach,
     reach_from, steps_on, times_within, wraps,

@@ -28,13 +28,12 @@ mod strides;
 mod turns;
 
 use crate::displacement_tables::DisplacementTable;
-use crate::falling_displacements::FallingDisplacements;
 use crate::params::BoardParams;
 use crate::vector_graphs::{put_coordinates, vector_names};
 pub use board_lists::BoardLists;
 pub use ordered_boards::OrderedBoard;
 use sgb_graph::{Graph, Id, IdWriter, Names};
-use sgb_moves::{Step, entry_bounds};
+use sgb_moves::{FallingDisplacements, Step, entry_bounds};
 use sgb_vec::{BoxFamily, Family, Panic, Shape, Vector, Vectors, board_sizes};
 use std::alloc::Global;
 use std::marker::Model;

@@ -16,7 +16,7 @@ IsSmall t = All (λ e. nat_abs e ≤ most_piece) t
 
 pub loop-t-init : goal.loop-t-init
 loop-t-init g c =
-    let left = c.falling_displacements-left in (
+    let left = c.displacements-left in (
       left.ensures.dimensions,
       left.ensures.small,
       so_far_begun (g.met.K.ArcSink.laws c.args.sink.now) _ _ _ _ (search (rules, moves_within, list_of_board)),
