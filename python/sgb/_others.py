@@ -72,9 +72,9 @@ def _lists(arrays: Iterable[Any]) -> Any:
 def _places(tails: Any, tips: Any, lengths: Any) -> Any:
     """The same by arrays of numpy: which arcs `paired` keeps, or None where they are no edges."""
     numpy = _events.numpy
-    kept = tails < tips
+    kept, turned = (tails < tips).nonzero()[0], (tips < tails).nonzero()[0]
     # the arcs there and those back, in order of their ends, and then of their lengths
-    there, back = _sorted(tails, tips, lengths, kept), _sorted(tips, tails, lengths, tips < tails)
+    there, back = _sorted(tails, tips, lengths, kept), _sorted(tips, tails, lengths, turned)
     if len(there[0]) != len(back[0]) or not all((one == other).all() for one, other in zip(there, back)):
         return None
     # of the two arcs of a loop the first one, wherever that is
@@ -84,15 +84,18 @@ def _places(tails: Any, tips: Any, lengths: Any) -> Any:
         first, second = loops[::2], loops[1::2]
         if len(first) != len(second) or (tails[first] != tails[second]).any() or (lengths[first] != lengths[second]).any():
             return None
-        kept[first] = True
-    return kept.nonzero()[0]
+        kept = numpy.sort(numpy.concatenate((kept, first)))
+    return kept
 
 
 def _sorted(small: Any, great: Any, lengths: Any, taken: Any) -> Any:
-    """Ends and lengths of the arcs that are taken, in order."""
-    parts = small[taken], great[taken], lengths[taken]
-    place = _events.numpy.lexsort(parts[::-1])
-    return [part[place] for part in parts]
+    """Ends, each pair in one number, and lengths of the arcs that are taken, in order."""
+    ends, lengths = small[taken].astype("int64") << 32 | great[taken], lengths[taken]
+    if (lengths == lengths[:1]).all():
+        ends.sort()
+        return ends, lengths
+    place = _events.numpy.lexsort((lengths, ends))
+    return ends[place], lengths[place]
 
 
 def to_scipy(graph: Graph) -> scipy.sparse.csr_array:
