@@ -201,7 +201,8 @@ class Book:
         self.names.append([self.call_link(n)[0], self.call_href[n]])
         code = self.render.contract("\n".join(lines[first - 1:last]), one.uses)
         names = [(one.crate, name) for name in (one.name, f"{owner_in(owner)}::{one.name}", owner_in(owner))]
-        promises = "".join(f"<p class=promise>{said(text, look)}</p>" for name in names for text in self.promises.get(name, ()))
+        texts = dict.fromkeys(text for name in names for text in self.promises.get(name, ()))
+        promises = "".join(f"<p class=promise>{said(text, look)}</p>" for text in texts)
         where = f"{path}:{first}" + (f" · of {esc(owner)}" if owner else "")
         return (f'<section class=call id="{self.call_href[n].partition("#")[2]}" data-source="{path}:{first}-{last}"><p class=says>'
                 f"{said(sources.comment_above(lines, first))}</p>{promises}<pre>{code}</pre><p class=at>{where}</p></section>\n")

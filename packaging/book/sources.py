@@ -24,15 +24,16 @@ Std = collections.namedtuple("Std", "module name")  # a name of the toolchain
 
 def sentence(lines):
     """What lines of comment say, as one text."""
-    return " ".join(re.sub(r"^\s*(?:--|///)", "", line).strip() for line in lines)
+    return " ".join(re.sub(r"^\s*(?:--|///?)", "", line).strip() for line in lines)
 
 
 def comment_above(lines, first):
-    """The documentation above a line of code, as one text."""
+    """The documentation above a line of code, as one text; a ghost member has its own in a plain comment."""
     above = first - 1
-    while above and lines[above - 1].strip().startswith(("///", "#[")):
+    while above and lines[above - 1].strip().startswith(("//", "#[")):
         above -= 1
-    return sentence(line for line in lines[above:first - 1] if line.strip().startswith("///"))
+    mark = "//" if lines[first - 1].strip().startswith("ghost ") else "///"
+    return sentence(line for line in lines[above:first - 1] if line.strip().startswith(mark))
 
 
 def path_of(crate, module):
