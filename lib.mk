@@ -9,15 +9,14 @@
 #                 where the library is there.
 # make rows       what the arrays of boards and other graphs cost, beside a plain loop that fills them (bench/rows.c)
 
-# of the calls: that of include/sgb.h
-LIB_VERSION = 1.2.0
+VERSION := $(shell cat VERSION)
 
 LIBDIR ?= $(PREFIX)/lib
 INCLUDEDIR ?= $(PREFIX)/include
 PYTHONDIR ?= $(LIBDIR)/python3/dist-packages
 
 # the name that a program keeps of the shared library: another one where a program of the first numbers runs no more
-SONAME = libsgb.so.$(firstword $(subst ., ,$(LIB_VERSION)))
+SONAME = libsgb.so.$(firstword $(subst ., ,$(VERSION)))
 
 # the kit's object with malloc, realloc and free
 KIT_HEAP = $(dir $(shell rt doc))c/liblibc_c.a
@@ -55,7 +54,7 @@ PYTHON_FILES = $(sort $(wildcard python/sgb/*.py)) python/sgb/py.typed
 comma = ,
 # a file of pkg-config: its name, what it is, and the two lines of flags
 pc = printf '%s\n' 'prefix=$(PREFIX)' 'libdir=$(subst $(PREFIX)/,$${prefix}/,$(LIBDIR))' \
-  'includedir=$(subst $(PREFIX)/,$${prefix}/,$(INCLUDEDIR))' '' 'Name: $(1)' 'Description: $(2)' 'Version: $(LIB_VERSION)' \
+  'includedir=$(subst $(PREFIX)/,$${prefix}/,$(INCLUDEDIR))' '' 'Name: $(1)' 'Description: $(2)' 'Version: $(VERSION)' \
   'Libs: -L"$${libdir}" $(3)' 'Cflags: -I"$${includedir}$(4)"' > "$(DESTDIR)$(LIBDIR)/pkgconfig/$(1).pc"
 
 install-lib:

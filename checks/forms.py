@@ -1,13 +1,16 @@
 #!/usr/bin/env python3
-"""Finds the places that name each form of expressions, and fails where one lacks a form: checks/forms.py [FORM ..]
+"""Finds the places that name each form of expressions, and fails where one lacks a form, or another version stands:
+checks/forms.py [FORM ..]
 
 At the repository's top. The forms are those that `name_opening` gives (crates/sgb_expr/specs/Names.antt); each is of one sort:
 a generator, a short name, an operation, one on numbers alone, or `stdin`. PLACES has what each sort is named in: a file, and what
 stands there for it. So who adds a form adds its name, and is told what else it wants. Where FORMs are given their places are
 printed, too.
 
-A place that no form is found in has lost its text: that fails as well. The last line is `N passed, M failed`; the status is 1
-where one failed.
+The version is that of the file VERSION, and NUMBERS has where it stands, too.
+
+A place that no form or no version is found in has lost its text: that fails as well. The last line is `N passed, M failed`;
+the status is 1 where one failed.
 """
 
 import re
@@ -72,6 +75,21 @@ PLACES = [
     ("gso", "docs/COOKBOOK.md", r"\bNAME\b"),
 ]
 
+# @ is the number, which the library's code has as one integer
+NUMBERS = [
+    ("crates/sgb_c/src/lib.rt", "^const VERSION: u64 = @;$"),
+    ("crates/sgb_c/src/lib.rt", "^// The version of the library, @:"),
+    ("include/sgb.h", '^#define SGB_VERSION "@"$'),
+    ("python/sgb/_library.py", '^VERSION = "@"$'),
+    ("examples/rust/Cargo.toml", '^version = "@"$'),
+    ("web/package.json", '^  "version": "@",$'),
+    ("web/README.md", r"\bsgb-@"),
+    ("docs/INSTALL.md", r"\bsgb[-_](?:page-|book-)?@"),
+    ("man/sgb.1", "^[.]Os sgb @$"),
+    ("CHANGELOG.md", r"\bsgb @"),
+    ("CHANGELOG.md", r"\A(?:.*\n)*?## @$"),  # the newest
+]
+
 
 def read(path):
     with open(path, encoding="utf-8") as file:
@@ -103,6 +121,20 @@ def stands(pattern, name, variant, text):
     return re.search(pattern.replace("NAME", re.escape(name)).replace("VARIANT", variant), text, re.M)
 
 
+def other_numbers():
+    """What is wrong of each place of the version, or nothing."""
+    wanted = read("VERSION").strip()
+    integer = "{}_{:03}_{:03}".format(*map(int, wanted.split(".")))
+    for path, pattern in NUMBERS:
+        text = read(path)
+        found = list(re.finditer(pattern.replace("@", r"(\d+[._]\d+[._]\d+)"), text, re.M))
+        if not found:
+            yield f"{path} has no version, where {pattern} is looked for"
+        for one in found:
+            place = f"{path}:{text.count(chr(10), 0, one.start(1)) + 1}"
+            yield None if one[1] in (wanted, integer) else f"{place} has the version {one[1]}, and VERSION has {wanted}"
+
+
 def main():
     found = forms()
     if not {"g", "s", "o", "on", "i"} <= {sort for _, sort in found.values()}:
@@ -124,6 +156,10 @@ def main():
             else:
                 failed += 1
                 print(f"{name} is not in {path}, where {pattern} is looked for")
+    for fault in other_numbers():
+        passed, failed = (passed, failed + 1) if fault else (passed + 1, failed)
+        if fault:
+            print(fault)
     print(f"{passed} passed, {failed} failed")
     sys.exit(1 if failed else 0)
 

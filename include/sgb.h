@@ -66,7 +66,7 @@
 extern "C" {
 #endif
 
-/* The version of these calls: a program may compare it with sgb_version(). */
+/* The version of this header: a program may compare it with sgb_version(). */
 #define SGB_VERSION "1.2.0"
 
 /* Answers. */
@@ -263,7 +263,7 @@ void sgb_draws(int64_t start, uint64_t skip, uint32_t *out, size_t out_len);
 uint64_t sgb_uniform_draws(int64_t start, uint64_t skip, uint32_t m, uint32_t *out, size_t out_len);
 
 /* The version of the library that runs: 1000000 for its first number, 1000 for its second, 1 for its third, so that
- * 1.2.0 is 1002000. */
+ * 1.2.3 is 1002003. */
 uint64_t sgb_version(void);
 
 /* The union of two open graphs, which may be one and the same. */

@@ -10,6 +10,8 @@ import sys
 
 HERE = os.path.dirname(os.path.abspath(__file__))
 TOP = os.path.dirname(HERE)
+with open(os.path.join(TOP, "VERSION"), encoding="utf-8") as file:
+    VERSION = file.read().strip()
 sys.path.insert(0, os.path.join(TOP, "checks"))
 
 from archive import below, uses  # noqa: E402  (the folder is put on the path above)
@@ -161,17 +163,10 @@ def library(machine, room):
     exports = os.path.join(room, "sgb.map")
     with open(exports, "w", encoding="utf-8") as file:
         file.write("{ global: sgb_*; local: *; };\n")
-    name = "libsgb.so." + calls_version().partition(".")[0]
+    name = "libsgb.so." + VERSION.partition(".")[0]
     ran([machine.cc, "-shared", "-o", shared, "-Wl,-soname," + name, "-Wl,--version-script=" + exports, "-Wl,--whole-archive",
          archive, "-Wl,--no-whole-archive"])
     return {**own, "libsgb.a": archive, "libsgb.so": shared}
-
-
-def calls_version():
-    """The version of the library's calls, which lib.mk has."""
-    with open(os.path.join(TOP, "lib.mk"), encoding="utf-8") as lines:
-        line = next(line for line in lines if line.startswith("LIB_VERSION = "))
-    return line.split()[-1]
 
 
 def soname(shared):

@@ -21,7 +21,6 @@ not work.
 import hashlib
 import importlib.util
 import os
-import re
 import shutil
 import subprocess
 import sys
@@ -31,21 +30,13 @@ import built
 import packed
 import tried
 import windows
-from built import MACHINES, NATIVE, ROOM, TOP, Failed, ran
+from built import MACHINES, NATIVE, ROOM, TOP, VERSION, Failed, ran
 
 DIST = os.path.join(TOP, "dist")
 SUMS = os.path.join(DIST, "SHA256SUMS")
 OLDEST = (2, 17)  # the glibc that wheels name
 COMMIT = os.path.join(ROOM, "commit")  # that of the files that were made here
 WORDS = ["make", "windows", "page", "sums", "try", "windows-try", "commands"]
-
-
-def version():
-    """The newest version of CHANGELOG.md."""
-    found = re.search(r"^## (\d+\.\d+\.\d+)$", packed.read(TOP, "CHANGELOG.md").decode(), re.MULTILINE)
-    if not found:
-        raise Failed("CHANGELOG.md names no version")
-    return found[1]
 
 
 def moment():
@@ -59,23 +50,23 @@ def moment():
 def names(machine):
     """What is made for a processor: the paths of the tarball, the Debian package and the wheel."""
     tag = f"py3-none-manylinux_{OLDEST[0]}_{OLDEST[1]}_{machine.name}"
-    made = [f"sgb-{version()}-{machine.name}-linux.tar.gz", f"sgb_{version()}_{machine.debian}.deb", f"sgb-{built.calls_version()}-{tag}.whl"]
+    made = [f"sgb-{VERSION}-{machine.name}-linux.tar.gz", f"sgb_{VERSION}_{machine.debian}.deb", f"sgb-{VERSION}-{tag}.whl"]
     return [os.path.join(DIST, name) for name in made]
 
 
 def package():
     """The package for Node and browsers, which `make wasm` leaves."""
-    return os.path.join(DIST, f"sgb-{version()}.tgz")
+    return os.path.join(DIST, f"sgb-{VERSION}.tgz")
 
 
 def page():
     """The page as one file."""
-    return os.path.join(DIST, f"sgb-page-{version()}.tar.gz")
+    return os.path.join(DIST, f"sgb-page-{VERSION}.tar.gz")
 
 
 def book():
     """The book of definitions as one file."""
-    return os.path.join(DIST, f"sgb-book-{version()}.tar.gz")
+    return os.path.join(DIST, f"sgb-book-{VERSION}.tar.gz")
 
 
 def left_out(machine):
@@ -131,15 +122,15 @@ def make(machine, when):
     needs = built.glibc(library["libsgb.so"])
     if needs > OLDEST:
         raise Failed(f"libsgb.so for {machine.name} wants glibc {needs[0]}.{needs[1]}")
-    values = {"VERSION": version(), "GLIBC": "{}.{}".format(*OLDEST)}
+    values = {"VERSION": VERSION, "GLIBC": "{}.{}".format(*OLDEST)}
     tarball, deb, wheel = names(machine)
     tree = packed.prefix_tree(programs, library)
     under = ", under " + machine.runner if machine.runner else ""
-    about = packed.filled("README", MACHINE=machine.name, CALLS=built.calls_version(), UNDER=under, **values)
+    about = packed.filled("README", MACHINE=machine.name, UNDER=under, **values)
     tree["share/doc/sgb/README.md"] = about, 0o644
     if not no_deb():
         packed.write_deb(deb, packed.debian_tree(tree), {"ARCHITECTURE": machine.debian, **values}, when, room)
-    packed.write_wheel(wheel, ("libsgb.so", library["libsgb.so"]), built.calls_version(), wheel.split("-", 2)[2][: -len(".whl")], when)
+    packed.write_wheel(wheel, ("libsgb.so", library["libsgb.so"]), wheel.split("-", 2)[2][: -len(".whl")], when)
     tree["README.md"], tree["install.sh"] = (about, 0o644), (packed.read(built.HERE, "install.sh"), 0o755)
     packed.write_tar(tarball, os.path.basename(tarball)[: -len(".tar.gz")], tree, when)
     print(f"  libsgb.so wants glibc {needs[0]}.{needs[1]}, the programs none", flush=True)
@@ -158,7 +149,7 @@ def sums():
 
 def write_sums():
     """Writes the digests. Beside what is made here, all has to be of the same commit."""
-    if any(map(os.path.exists, [*(path for machine in MACHINES for path in names(machine)), *windows.names(DIST, version())])):
+    if any(map(os.path.exists, [*(path for machine in MACHINES for path in names(machine)), *windows.names(DIST)])):
         moment()
         if not os.path.exists(COMMIT) or packed.read(COMMIT).decode() != commit():
             raise Failed("dist/ has files of another commit: make dist makes them anew, and then make wasm page the others")
@@ -231,7 +222,7 @@ def make_windows():
     """Makes what is for Windows. Other files in dist/ stay, where they are of this commit."""
     if not os.path.exists(COMMIT) or packed.read(COMMIT).decode() != commit():
         clear()
-    windows.make(DIST, version(), moment())
+    windows.make(DIST, moment())
 
 
 def make_all(here):
@@ -266,7 +257,7 @@ def main():
             for machine in here:
                 try_all(machine)
         if "windows-try" in words:
-            windows.works(DIST, version(), ROOM, tried)
+            windows.works(DIST, ROOM, tried)
         if "commands" in words:
             reasons += tried.install_works([os.path.join(DIST, name) for name in files()], ROOM, sections())
     except (Failed, OSError) as why:

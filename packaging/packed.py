@@ -14,7 +14,7 @@ import tarfile
 import time
 import zipfile
 
-from built import HERE, TOP, calls_version, ran, soname
+from built import HERE, TOP, VERSION, ran, soname
 
 LEFT_OUT = re.compile(r"examples/tests/|.*\.gitignore$")  # of the examples: what tries them in the repository
 
@@ -44,7 +44,7 @@ def pkg_configs(prefix):
     for name, (what, libraries, folder) in FOUND.items():
         lines = [
             "prefix=" + prefix, "libdir=${prefix}/lib", "includedir=${prefix}/include", "", "Name: " + name,
-            "Description: " + what, "Version: " + calls_version(), "Libs: -L${libdir} " + libraries,
+            "Description: " + what, "Version: " + VERSION, "Libs: -L${libdir} " + libraries,
             "Cflags: -I${includedir}" + folder,
         ]
         yield name + ".pc", ("\n".join(lines).encode() + b"\n", 0o644)
@@ -184,13 +184,13 @@ def write_zip(path, top, tree, moment):
             whole.writestr(zip_entry(f"{top}/{name}", moment, mode), data)
 
 
-def write_wheel(path, library, version, tag, moment):
+def write_wheel(path, library, tag, moment):
     """A wheel, which is a zip file: the package, the library beside it, as name and path, and what pip reads."""
-    about = f"sgb-{version}.dist-info"
+    about = f"sgb-{VERSION}.dist-info"
     files = {
         **{"sgb/" + name: read(TOP, "python/sgb", name) for name in package_files()},
         "sgb/" + library[0]: read(library[1]),
-        about + "/METADATA": filled("METADATA", VERSION=version),
+        about + "/METADATA": filled("METADATA", VERSION=VERSION),
         about + "/WHEEL": f"Wheel-Version: 1.0\nGenerator: sgb dist\nRoot-Is-Purelib: false\nTag: {tag}\n".encode(),
     }
     record = []

@@ -10,7 +10,7 @@ import sys
 
 import built
 import packed
-from built import HERE, TOP, Failed, ran
+from built import HERE, TOP, VERSION, Failed, ran
 
 NAME = "x86_64-windows"
 CC, DLLTOOL, RUNNER = "x86_64-w64-mingw32-gcc", "x86_64-w64-mingw32-dlltool", "wine"
@@ -43,10 +43,9 @@ def left_out():
     return f"all for Windows: there is no {', no '.join(lacking)}" if lacking else None
 
 
-def names(folder, version):
+def names(folder):
     """What is made: the paths of the zip file and the wheel."""
-    return [os.path.join(folder, f"sgb-{version}-{NAME}.zip"),
-            os.path.join(folder, f"sgb-{built.calls_version()}-py3-none-win_amd64.whl")]
+    return [os.path.join(folder, f"sgb-{VERSION}-{name}") for name in (NAME + ".zip", "py3-none-win_amd64.whl")]
 
 
 def shadow(kept, room):
@@ -140,7 +139,7 @@ def programs(room):
         yield name + ".exe", path
 
 
-def make(folder, version, moment):
+def make(folder, moment):
     """Makes the zip file and the wheel."""
     print("Windows:", flush=True)
     room = os.path.join(built.ROOM, NAME)
@@ -154,9 +153,9 @@ def make(folder, version, moment):
     for name in packed.package_files():
         packed.add_file(tree, "python/sgb/" + name, "python/sgb/" + name)
     tree["python/sgb/sgb.dll"] = tree["sgb.dll"]
-    zipped, wheel = names(folder, version)
+    zipped, wheel = names(folder)
     packed.write_zip(zipped, os.path.basename(zipped)[: -len(".zip")], tree, moment)
-    packed.write_wheel(wheel, ("sgb.dll", made["sgb.dll"]), built.calls_version(), "py3-none-win_amd64", moment)
+    packed.write_wheel(wheel, ("sgb.dll", made["sgb.dll"]), "py3-none-win_amd64", moment)
 
 
 def asked(draw):
@@ -193,12 +192,12 @@ def answered_alike(program, requests):
         raise Failed(f"Windows: on a full device sgb.exe gave {got.returncode} and {got.stderr}")
 
 
-def works(folder, version, room, tried):
+def works(folder, room, tried):
     """Tries both under wine: the programs and a C program with the library against the whole table, and what else they do."""
     room = tried.fresh(room, NAME + "_tried")
     environment = {"WINEPREFIX": os.path.join(room, "wine"), "WINEDEBUG": "-all", "WINEDLLOVERRIDES": "mscoree,mshtml="}
     os.environ.update(environment)
-    zipped, wheel = names(folder, version)
+    zipped, wheel = names(folder)
     shutil.unpack_archive(zipped, room, "zip")
     top = os.path.join(room, os.path.basename(zipped)[: -len(".zip")])
     os.makedirs(environment["WINEPREFIX"])

@@ -20,7 +20,6 @@ other files.
 import argparse
 import gzip
 import io
-import json
 import os
 import re
 import shutil
@@ -34,6 +33,8 @@ TOP = os.path.dirname(HERE)
 PLACE = os.path.join(TOP, "out/web")
 PACKAGE = os.path.join(PLACE, "package")
 MODULE = os.path.join(PLACE, "module.bc")
+with open(os.path.join(TOP, "VERSION"), encoding="utf-8") as file:
+    VERSION = file.read().strip()
 FILES = ["README.md", "package.json", "sgb.d.ts", "sgb.js"]
 
 # what has to be installed: a command, and the Debian package that has it
@@ -92,17 +93,6 @@ def toolchain():
     """The folder of the toolchain."""
     page = subprocess.run(["rt", "doc"], capture_output=True, text=True, check=True).stdout.strip()
     return os.path.dirname(page)
-
-
-def version():
-    """The version, which the change log and the package have to have in common."""
-    with open(os.path.join(HERE, "package.json"), encoding="utf-8") as file:
-        said = json.load(file)["version"]
-    with open(os.path.join(TOP, "CHANGELOG.md"), encoding="utf-8") as file:
-        newest = re.search(r"^## (\S+)$", file.read(), re.MULTILINE)
-    if not newest or newest[1] != said:
-        stop(f"web/package.json has version {said}, and CHANGELOG.md begins with {newest and newest[1]}")
-    return said
 
 
 def try_heap():
@@ -212,7 +202,7 @@ def main():
     missing = [package for command, package in WANTED.items() if not shutil.which(command)]
     if missing:
         stop(f"these Debian packages are wanted: apt-get install {' '.join(missing)}")
-    name = f"sgb-{version()}.tgz"
+    name = f"sgb-{VERSION}.tgz"
     packed, path = os.path.join(PLACE, name), os.path.join(TOP, "dist", name)
     for folder in PLACE, os.path.dirname(path):
         os.makedirs(folder, exist_ok=True)

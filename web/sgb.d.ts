@@ -160,7 +160,7 @@ export class Sgb {
   wheel(n: number | bigint, n1?: number | bigint, choice?: { directed?: boolean }): Graph;
   /** The wheel with a graph in its middle. */
   wheelAround(middle: Graph, n: number | bigint, choice?: { directed?: boolean }): Graph;
-  /** The version of the calls, as "1.0.0". */
+  /** The version: three numbers with points between them. */
   readonly version: string;
   /** Random numbers of GB_FLIP: started from `start`, `skip` draws left out, then `count` of them, 1 if it is not said.
    * With a bound m from 1 to 2^31 they are uniform draws below m. */

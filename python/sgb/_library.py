@@ -34,8 +34,9 @@ ANSWERS = {
     107: "a name or an id is no text",
     108: "more vertices or arcs than a graph may have",
 }
-# of the library's calls: another number means other calls
-MAJOR = 1
+VERSION = "1.2.0"
+# another first number means other calls
+MAJOR = int(VERSION.partition(".")[0])
 
 
 class GraphError(ValueError):

@@ -299,7 +299,7 @@ pub fn uniform_draws(start: i64, skip: u64, m: u32, count: usize) -> Result<Vec<
     Ok(out)
 }
 
-/// The version of the library's calls: 1,000,000 times the first number, 1,000 times the second, and the third.
+/// The version of the library: 1,000,000 times the first number, 1,000 times the second, and the third.
 pub fn version() -> u64 {
     unsafe { sgb_version() }
 }
