@@ -1,15 +1,16 @@
 #!/usr/bin/env python3
-"""Finds the places that name each form of expressions, and fails where one lacks a form, or another version stands:
-checks/forms.py [FORM ..]
+"""Finds the places that name each form of expressions, and fails where one lacks a form, or another version or other words of an
+answer stand: checks/forms.py [FORM ..]
 
 At the repository's top. The forms are those that `name_opening` gives (crates/sgb_expr/specs/Names.antt); each is of one sort:
 a generator, a short name, an operation, one on numbers alone, or `stdin`. PLACES has what each sort is named in: a file, and what
 stands there for it. So who adds a form adds its name, and is told what else it wants. Where FORMs are given their places are
 printed, too.
 
-The version is that of the file VERSION, and NUMBERS has where it stands, too.
+The version is that of the file VERSION, and NUMBERS has where it stands, too. The numbers of the answers and their words are
+those of include/sgb.h, and LANGUAGES has the tables of others.
 
-A place that no form or no version is found in has lost its text: that fails as well. The last line is `N passed, M failed`;
+A place that no form, version or answer is found in has lost its text: that fails as well. The last line is `N passed, M failed`;
 the status is 1 where one failed.
 """
 
@@ -89,6 +90,8 @@ NUMBERS = [
     ("CHANGELOG.md", r"\bsgb @"),
     ("CHANGELOG.md", r"\A(?:.*\n)*?## @$"),  # the newest
 ]
+HEADER = "include/sgb.h"
+LANGUAGES = ["python/sgb/_library.py", "examples/rust/src/errors.rs", "web/sgb.js"]
 
 
 def read(path):
@@ -135,6 +138,24 @@ def other_numbers():
             yield None if one[1] in (wanted, integer) else f"{place} has the version {one[1]}, and VERSION has {wanted}"
 
 
+def other_words():
+    """What is wrong of each answer in each language, or nothing: of its words, and of its number by its name."""
+    header = read(HEADER)
+    numbers = dict(re.findall(r"^#define SGB_([A-Z_]+) ([0-9]+)\b", header, re.M))
+    said = {numbers[name]: words for name, words in re.findall(r'^    case SGB_([A-Z_]+): return "(.*)";$', header, re.M)}
+    yield from (f"{HEADER} has no words of the answer {number}" for number in {*numbers.values()} - {*said, "1000"})
+    said.pop("0", None)
+    for path in LANGUAGES:
+        text = read(path)
+        found = dict(re.findall(r'^ *\(?([0-9]+)[:,] "(.*)"\)?,$', text, re.M))
+        for number in sorted({*said, *found}, key=int):
+            words, wanted = found.get(number), said.get(number)
+            yield None if words == wanted else f"{path} has {words!r} for the answer {number}, and {HEADER} {wanted!r}"
+        for name, number in re.findall(r"^(?:const )?([A-Z_]+)(?:: u64)? = ([0-9]+);?$", text, re.M):
+            is_right = numbers.get(name, number) == number
+            yield None if is_right else f"{path} has {name} = {number}, and {HEADER} {numbers[name]}"
+
+
 def main():
     found = forms()
     if not {"g", "s", "o", "on", "i"} <= {sort for _, sort in found.values()}:
@@ -156,7 +177,7 @@ def main():
             else:
                 failed += 1
                 print(f"{name} is not in {path}, where {pattern} is looked for")
-    for fault in other_numbers():
+    for fault in [*other_numbers(), *other_words()]:
         passed, failed = (passed, failed + 1) if fault else (passed + 1, failed)
         if fault:
             print(fault)

@@ -286,16 +286,11 @@ class Python(unittest.TestCase):
         number = _library.lib.sgb_version()
         self.assertEqual(sgb.__version__, f"{number // 1_000_000}.{number // 1_000 % 1_000}.{number % 1_000}")
 
-    def test_words(self):
-        """The words of the answers are those of the header, and the calls are its calls."""
+    def test_calls(self):
+        """The calls are those of the header."""
         with open(os.path.join(os.path.dirname(HERE), "include/sgb.h"), encoding="utf-8") as file:
             header = file.read()
         self.assertEqual(set(re.findall(r"^(?:uint64_t|void) +(sgb_\w+)\(", header, re.M)), set(_library.CALLS))
-        if "sgb_words" not in header:
-            self.skipTest("the header says no words")
-        codes = dict(re.findall(r"^#define (SGB_\w+) (\d+)\b", header, re.M))
-        said = re.findall(r'^ +case (SGB_\w+): return "(.*)";$', header, re.M)
-        self.assertEqual({int(codes[name]): words for name, words in said}, {0: "done", **_library.ANSWERS})
 
     def test_help(self):
         text = pydoc.plain(pydoc.render_doc(sgb))

@@ -373,13 +373,6 @@ const tests = {
 
   async errors() {
     const sgb = await load();
-    // the words are those of the header
-    const header = await readFile(new URL("../include/sgb.h", here), "ascii");
-    const codes = new Map([...header.matchAll(/^#define (SGB_\w+) (\d+)\b/gm)].map(([, name, code]) => [name, Number(code)]));
-    const found = [...header.matchAll(/^ +case (SGB_\w+): return "(.*)";$/gm)].slice(1);
-    const said = found.map(([, name]) => codes.get(name)).map((code) => (code === 1 ? new MemoryError() : new GraphError(code)));
-    same(said.map(({ words }) => words), found.map(([, , words]) => words), "the words of the answers");
-    check(found.length > 10 || !header.includes("sgb_words"), "the header has fewer answers");
     refused(() => sgb.graph("x".repeat(65_536)), 1000, "a long text");
     refused(() => sgb.graph("x".repeat(65_537)), 100, "a longer text");
     refused(() => sgb.graph("petersen() "), 1010, "a space behind");

@@ -420,23 +420,6 @@ def headers(runs, tally):
         tally.check(status != 0 and b"sgb.hpp needs C++20" in err, "sgb.hpp in C++17 gave", (status, err))
 
 
-def words(runs, tally):
-    """The answers have the words of sgb.h in every language."""
-    with open(os.path.join(TOP, "include/sgb.h"), encoding="utf-8") as file:
-        text = file.read()
-    numbers = {name: int(number) for name, number in re.findall(r"^#define (SGB_[A-Z_]+) ([0-9]+)\b", text, re.M)}
-    said = {numbers[name]: words for name, words in re.findall(r'case (SGB_[A-Z_]+): return "(.*)";', text)}
-    tally.same("answers with words", sorted(said), sorted(set(numbers.values()) - {1000}))
-    for folder, end in ("python/sgb", ".py"), ("examples/rust/src", ".rs"), ("web", ".js"):
-        found = {}
-        for name in os.listdir(os.path.join(TOP, folder)):
-            if name.endswith(end):
-                with open(os.path.join(TOP, folder, name), encoding="utf-8") as file:
-                    pairs = re.findall(r'^ *\(?([0-9]+)[:,] "(.*)"\)?,$', file.read(), re.M)
-                found.update((int(number), words) for number, words in pairs)
-        tally.same(f"the words of answers in {folder}", found, {number: said[number] for number in said if number})
-
-
 def all_checks(program, document):
     if os.environ.get("OUTSIDE_WITHOUT_LIBRARY") == "1":
         print("  skipped, as OUTSIDE_WITHOUT_LIBRARY says: the library for C")
@@ -447,7 +430,6 @@ def all_checks(program, document):
     yield "library memory", memory
     yield "library exports", exports
     yield "library headers", headers
-    yield "library words", words
     yield "library structures", structures(program)
     yield "library python", python_package(program)
     yield "library C++", class_of_cpp

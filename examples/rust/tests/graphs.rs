@@ -1,6 +1,5 @@
-use std::collections::HashMap;
 
-use sgb::{draws, uniform_draws, version, Arc, Entry, Error, Field, Graph, Product, Rows, ANSWERS};
+use sgb::{draws, uniform_draws, version, Arc, Entry, Error, Field, Graph, Product, Rows};
 
 const FILE: &[u8] = b"* GraphBase graph (util_types ZZZZZZZZZZZZZZ,2V,2A)\n\"two\",2,2\n* Vertices\n\"left\",A0\n\"right\",A1\n\
                       * Arcs\nV1,0,7\nV0,0,-3\n* Checksum -1\n";
@@ -109,26 +108,6 @@ fn a_refusal_is_said_in_words() {
     assert_eq!(said("simplex(-1,0,0,0,0,0,0)"), "parameters that make no sense (code 30)");
     assert_eq!((Error::Expression(8).code(), Error::Code(30).code()), (Some(1008), Some(30)));
     assert_eq!((Error::Code(30).words(), Error::Code(77).words()), ("parameters that make no sense", "something went wrong"));
-}
-
-/// The name and the number of a line `#define SGB_NAME number`.
-fn defined(line: &str) -> Option<(&str, u64)> {
-    let mut words = line.strip_prefix("#define ")?.split_whitespace();
-    Some((words.next()?, words.next()?.parse().ok()?))
-}
-
-/// The name and the words of a line `case SGB_NAME: return "words";`.
-fn said(line: &str) -> Option<(&str, &str)> {
-    line.trim().strip_prefix("case ")?.strip_suffix("\";")?.split_once(": return \"")
-}
-
-#[test]
-fn the_words_are_those_of_the_header() {
-    let header = include_str!("../../../include/sgb.h");
-    let numbers: HashMap<_, _> = header.lines().filter_map(defined).collect();
-    let found: Vec<_> = header.lines().filter_map(said).map(|(name, words)| (numbers[name], words)).collect();
-    // a header without the function sgb_words says none
-    assert!(!header.contains("sgb_words") || found[1..] == ANSWERS, "{found:?}");
 }
 
 #[test]
