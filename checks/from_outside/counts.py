@@ -36,7 +36,7 @@ ROWS = [
     Row("vectors found by their places", ("names", "simplex(60,-3,0,0,0,0,0)", "--skip", "39000"), None, False, 750_000, 20, 1),
     Row("events that are told apart", ("list", UNION), None, False, 8_100_000, 45, 7),
     Row("common arcs of short lists, with no table", ("list", COMMON), None, False, 6_500_000, 55, 4),
-    Row("short lines of arcs", ("save", "board(30,30,0,0,1,0,0)"), None, False, 3_500_000, 10, 8),
+    Row("short lines of arcs", ("save", "board(30,30,0,0,1,0,0)"), None, False, 3_500_000, 20, 8),
     Row("short lines of vertices", ("save", "board(40,40,0,0,7,0,0)"), None, False, 2_250_000, 10, 7),
     Row("pages of 32 KB", ("list", "board(100,100,0,0,1,0,0)"), None, False, 20_000_000, 15, 34),
 ]
