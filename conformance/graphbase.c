@@ -16,6 +16,10 @@
 #include <stdio.h>
 #include <stdlib.h>
 #include <string.h>
+#ifdef _WIN32
+#include <fcntl.h>
+#include <io.h>
+#endif
 
 #include "gb_graph.h"
 #include "gb_basic.h"
@@ -147,6 +151,24 @@ static Graph *expression(void);
 
 /* restore_graph and save_graph want the name of a file: that by which Linux opens one that is open and has no other. */
 static FILE *file;
+#ifdef _WIN32
+static char file_name[L_tmpnam];
+
+static void remove_file(void)
+{
+  if (file) fclose(file);
+  remove(file_name);
+}
+
+static FILE *new_file(void)
+{
+  if (!file && (!tmpnam(file_name) || atexit(remove_file) != 0)) fail(3, "no temporary file");
+  if (file) fclose(file);
+  file = fopen(file_name, "w+b");
+  if (!file) fail(3, "no temporary file");
+  return file;
+}
+#else
 static char file_name[32];
 
 static FILE *new_file(void)
@@ -157,6 +179,7 @@ static FILE *new_file(void)
   sprintf(file_name, "/dev/fd/%d", fileno(file));
   return file;
 }
+#endif
 
 static void copy(FILE *in, FILE *out)
 {
@@ -613,7 +636,7 @@ static void write_library_file(Graph *g)
   FILE *in;
   new_file();
   anomalies = save_graph(g, file_name);
-  in = fopen(file_name, "r");
+  in = fopen(file_name, "rb");
   if (!in) fail(3, "no temporary file");
   copy(in, stdout);
   fclose(in);
@@ -624,7 +647,8 @@ static void write_library_file(Graph *g)
 
 static void write_numbers(const char *text)
 {
-  long start, skip, count, m;
+  long start, skip, count;
+  long long m;
   at = text;
   expect("flip(");
   start = number();
@@ -632,11 +656,11 @@ static void write_numbers(const char *text)
   count = comma_number();
   m = last_comma_number();
   if (*at) bad();
-  if (skip < 0 || count < 0 || m < 0 || m > 0x7fffffffL + 1) cannot("numbers of flip that are out of range");
+  if (skip < 0 || count < 0 || m < 0 || m > 0x80000000LL) cannot("numbers of flip that are out of range");
   if (reason) return;
   gb_init_rand(start);
   while (skip-- > 0) (void)gb_next_rand();
-  while (count-- > 0) printf("%ld\n", m ? gb_unif_rand(m) : gb_next_rand());
+  while (count-- > 0) printf("%ld\n", m ? gb_unif_rand((long)m) : gb_next_rand());
 }
 
 static void write_graph(const char *command, const char *text)
@@ -669,6 +693,12 @@ static int is_command(const char *word)
 
 int main(int count, char *words[])
 {
+#ifdef _WIN32
+  /* no newline is turned into two bytes, and none back */
+  _setmode(0, _O_BINARY);
+  _setmode(1, _O_BINARY);
+  _setmode(2, _O_BINARY);
+#endif
   if (count != 3 || !is_command(words[1])) fail(2, "usage: graphbase names|list|save|unhashed|file|flip TEXT");
   if (strcmp(words[1], "flip") == 0) write_numbers(words[2]);
   else write_graph(words[1], words[2]);

@@ -55,6 +55,7 @@ NUMBERS = [
 # What the program says where the library has no such call, with the rule that it is.
 REASONS = {
     "size_bits wider than a long": "size_bits of more bits than a long",
+    "a number wider than a long": "numbers that a long does not have",
     "a negative number where it has an unsigned one": "negative numbers that GraphBase takes as unsigned",
     "an entry of a billion or more, which stands for a graph": "entries of a billion or more",
     "a list of too few or too many entries": "a list of entries, one for each vertex",

@@ -5,7 +5,7 @@
 
 #include "handed.h"
 
-#define MOST_WRITTEN 999999999999999999L /* that an expression can have: 18 digits */
+#define MOST_WRITTEN 999999999999999999LL /* that an expression can have: 18 digits */
 #define DESCRIPTION_BYTES 64             /* of a description that an id has room for */
 
 static Graph *refused(long code) {
@@ -21,45 +21,45 @@ static Graph *named(const char *name) {
 }
 
 /* What is greater than an expression can have is refused as the greatest that it can. */
-static long written(long number) {
+static long long written(long long number) {
     return number > MOST_WRITTEN ? MOST_WRITTEN : number < -MOST_WRITTEN ? -MOST_WRITTEN : number;
 }
 
-static long written_count(unsigned long number) {
-    return number > (unsigned long)MOST_WRITTEN ? MOST_WRITTEN : (long)number;
+static long long written_count(unsigned long long number) {
+    return number > (unsigned long long)MOST_WRITTEN ? MOST_WRITTEN : (long long)number;
 }
 
 Graph *board(long n1, long n2, long n3, long n4, long piece, long wrap, long directed) {
     char name[200];
     if (written(wrap) != wrap) return refused(very_bad_specs);
-    sprintf(name, "board(%ld,%ld,%ld,%ld,%ld,%ld,%d)", written(n1), written(n2), written(n3), written(n4),
-            written(piece), wrap, directed != 0);
+    sprintf(name, "board(%lld,%lld,%lld,%lld,%lld,%lld,%d)", written(n1), written(n2), written(n3), written(n4),
+            written(piece), written(wrap), directed != 0);
     return named(name);
 }
 
 Graph *simplex(unsigned long n, long n0, long n1, long n2, long n3, long n4, long directed) {
     char name[200];
-    sprintf(name, "simplex(%ld,%ld,%ld,%ld,%ld,%ld,%d)", written_count(n), written(n0), written(n1), written(n2),
+    sprintf(name, "simplex(%lld,%lld,%lld,%lld,%lld,%lld,%d)", written_count(n), written(n0), written(n1), written(n2),
             written(n3), written(n4), directed != 0);
     return named(name);
 }
 
 Graph *subsets(unsigned long n, long n0, long n1, long n2, long n3, long n4, unsigned long size_bits, long directed) {
     char name[200];
-    sprintf(name, "subsets(%ld,%ld,%ld,%ld,%ld,%ld,0x%lx,%d)", written_count(n), written(n0), written(n1), written(n2),
+    sprintf(name, "subsets(%lld,%lld,%lld,%lld,%lld,%lld,0x%lx,%d)", written_count(n), written(n0), written(n1), written(n2),
             written(n3), written(n4), size_bits, directed != 0);
     return named(name);
 }
 
 Graph *bi_complete(unsigned long n1, unsigned long n2, long directed) {
     char name[100];
-    sprintf(name, "bi_complete(%ld,%ld,%d)", written_count(n1), written_count(n2), directed != 0);
+    sprintf(name, "bi_complete(%lld,%lld,%d)", written_count(n1), written_count(n2), directed != 0);
     return named(name);
 }
 
 Graph *wheel(unsigned long n, unsigned long n1, long directed) {
     char name[100];
-    sprintf(name, "wheel(%ld,%ld,%d)", written_count(n), written_count(n1), directed != 0);
+    sprintf(name, "wheel(%lld,%lld,%d)", written_count(n), written_count(n1), directed != 0);
     return named(name);
 }
 

@@ -65,13 +65,12 @@ static void begin_anew(Graph *g) {
 
 static Vertex *new_vertices(long n, Area s) {
     Vertex *vertices, *v;
-    long count = n + extra_n;
     if (n < 0 || n > LONG_MAX / (long)sizeof(Vertex) - extra_n) {
         gb_trouble_code |= 2;
         return NULL;
     }
-    vertices = gb_typed_alloc((size_t)count, Vertex, s);
-    for (v = vertices; vertices && v < vertices + count; v++) v->name = null_string;
+    vertices = gb_typed_alloc((size_t)(n + extra_n), Vertex, s);
+    for (v = vertices; vertices && v < vertices + n + extra_n; v++) v->name = null_string;
     return vertices;
 }
 
@@ -197,7 +196,7 @@ char *gb_save_string(char *s) {
     char *copy;
     if (!next_byte || length > (size_t)(end_of_bytes - next_byte)) {
         size_t size = length > BYTES_IN_A_BLOCK ? length : BYTES_IN_A_BLOCK;
-        char *block = gb_alloc((long)size, current->data);
+        char *block = size > LONG_MAX ? NULL : gb_alloc((long)size, current->data);
         if (!block) return null_string;
         next_byte = block;
         end_of_bytes = block + size;

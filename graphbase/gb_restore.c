@@ -17,7 +17,7 @@ typedef struct {
     long sum;
     Graph *graph;
     Arc *arcs;
-    long vertices_count, arcs_count;
+    long long vertices_count, arcs_count;
     char *strings, *strings_end; /* what is left of the block for strings */
     long code;                   /* why there is no graph */
 } reader;
@@ -55,7 +55,7 @@ static int is_line(reader *r, const char *word) {
 static int is_digit(char byte) { return byte >= '0' && byte <= '9'; }
 
 /* A number of the file's own: 1 to 18 digits. */
-static int count(reader *r, long *value) {
+static int count(reader *r, long long *value) {
     int digits = 0;
     *value = 0;
     while (r->here < r->stop && is_digit(*r->here) && digits < MOST_DIGITS) {
@@ -63,6 +63,14 @@ static int count(reader *r, long *value) {
         digits++;
     }
     return digits > 0 && !(r->here < r->stop && is_digit(*r->here));
+}
+
+/* The same where a long has it. */
+static int long_count(reader *r, long *value) {
+    long long wide;
+    if (!count(r, &wide) || wide > LONG_MAX) return 0;
+    *value = (long)wide;
+    return 1;
 }
 
 /* A field's number: 1 to 20 digits, of a value that a long has. */
@@ -118,8 +126,8 @@ static long quoted(reader *r, char *to, long most) {
 static char *string_room(reader *r, long size) {
     char *found;
     if (r->strings_end - r->strings < size) {
-        long left = r->end - r->at;
-        long block = left > 65536 ? 65536 : left > 1016 ? left : 1016;
+        long long left = r->end - r->at;
+        long block = left > 65536 ? 65536 : left > 1016 ? (long)left : 1016;
         if (block < size) block = size;
         r->strings = gb_alloc(block, r->graph->data);
         if (!r->strings) {
@@ -148,7 +156,7 @@ static int string(reader *r, char **value) {
 }
 
 static int vertex(reader *r, Vertex **value) {
-    long number;
+    long long number;
     if (is_there(r, "V")) {
         if (!count(r, &number) || number >= r->vertices_count) return 0;
         *value = r->graph->vertices + number;
@@ -159,7 +167,7 @@ static int vertex(reader *r, Vertex **value) {
 }
 
 static int arc(reader *r, Arc **value) {
-    long number;
+    long long number;
     *value = NULL;
     if (!is_there(r, "A")) return is_there(r, "0");
     if (!count(r, &number) || number >= r->arcs_count) return 0;
@@ -195,8 +203,8 @@ static int arc_record(reader *r, Arc *a) {
 static int graph_record(reader *r) {
     Graph *g = r->graph;
     const char *types = g->util_types;
-    return begin_record(r) && begin_field(r) && quoted(r, g->id, ID_BYTES) >= 0 && begin_field(r) && count(r, &g->n)
-        && g->n <= r->vertices_count && begin_field(r) && count(r, &g->m) && utility(r, types[8], &g->uu)
+    return begin_record(r) && begin_field(r) && quoted(r, g->id, ID_BYTES) >= 0 && begin_field(r) && long_count(r, &g->n)
+        && g->n <= r->vertices_count && begin_field(r) && long_count(r, &g->m) && utility(r, types[8], &g->uu)
         && utility(r, types[9], &g->vv) && utility(r, types[10], &g->ww) && utility(r, types[11], &g->xx)
         && utility(r, types[12], &g->yy) && utility(r, types[13], &g->zz) && end_record(r);
 }
@@ -229,20 +237,21 @@ static int head(reader *r, char types[15]) {
 
 /* Room for all records; a file that is too short for them has not all of them. */
 static int room_for_records(reader *r, const char *types) {
-    long left = r->end - r->at;
+    long long left = r->end - r->at;
     if (r->vertices_count > left / 5 || r->arcs_count > left / 6) return is_wrong(r, syntax_error);
-    r->graph = gb_new_graph(r->vertices_count);
+    r->graph = gb_new_graph((long)r->vertices_count);
     if (!r->graph) return is_wrong(r, no_room);
     memcpy(r->graph->util_types, types, 15);
     if (r->arcs_count > 0) {
-        r->arcs = gb_typed_alloc((size_t)r->arcs_count, Arc, r->graph->data);
+        int is_too_large = r->arcs_count > LONG_MAX / (long)sizeof(Arc);
+        r->arcs = is_too_large ? NULL : gb_typed_alloc((size_t)r->arcs_count, Arc, r->graph->data);
         if (!r->arcs) return is_wrong(r, no_room);
     }
     return 1;
 }
 
 static int records(reader *r) {
-    long k;
+    long long k;
     if (!graph_record(r) || !is_line(r, "* Vertices")) return is_wrong(r, syntax_error);
     for (k = 0; k < r->vertices_count; k++)
         if (!vertex_record(r, r->graph->vertices + k)) return is_wrong(r, syntax_error);
@@ -254,12 +263,12 @@ static int records(reader *r) {
 
 /* The line with the checksum; one below 0 is not compared. */
 static int checksum(reader *r) {
-    long sum = r->sum, said;
+    long long said;
     int is_minus;
     if (!next_line(r) || !is_there(r, "* Checksum ")) return is_wrong(r, late_data_fault);
     is_minus = is_there(r, "-");
     if (!count(r, &said)) return is_wrong(r, late_data_fault);
-    return (is_minus && said > 0) || said == sum || is_wrong(r, late_data_fault);
+    return (is_minus && said > 0) || said == r->sum || is_wrong(r, late_data_fault);
 }
 
 enum { UNSEEN, UNDER_WAY, ENDS, LISTED };
@@ -276,7 +285,7 @@ static int chain_ends(reader *r, Arc *begin, unsigned char *marks) {
 static int lists_are_sound(reader *r) {
     unsigned char *marks = calloc((size_t)r->arcs_count + 1, 1);
     int is_sound = marks != NULL;
-    long k;
+    long long k;
     Arc *a;
     if (!marks) return is_wrong(r, no_room);
     for (k = 0; k < r->arcs_count && is_sound; k++) is_sound = chain_ends(r, r->arcs + k, marks);
@@ -307,7 +316,7 @@ Graph *sgb_read_graph(const char *bytes, size_t length, long *code) {
 
 /* All bytes of a file; NULL where there is no such file, or no memory, which *code tells. */
 static char *bytes_of_file(const char *name, size_t *length, long *code) {
-    FILE *file = fopen(name, "r");
+    FILE *file = fopen(name, "rb");
     size_t room = 1 << 16, got;
     char *bytes = file ? malloc(room) : NULL, *more;
     *code = file ? no_room : early_data_fault;

@@ -13,18 +13,18 @@ enum { UNKNOWN, VERTICES, ARCS, MIXED };
 /* A block of the data, and which records it has: those before `used` are written, from the number `offset` on. */
 typedef struct {
     char *first, *end;
-    long age; /* the smaller, the sooner it was taken; 0 is the block of the graph's vertices */
+    long long age; /* the smaller, the sooner it was taken; 0 is the block of the graph's vertices */
     int kind;
-    long used, explored, offset;
+    long long used, explored, offset;
 } block;
 
 typedef struct {
     Graph *g;
     char types[15];
     block *blocks; /* by their addresses */
-    long count;
+    long long count;
     block *own; /* that of g->vertices */
-    long numbered[MIXED]; /* how many records of vertices and of arcs there are */
+    long long numbered[MIXED]; /* how many records of vertices and of arcs there are */
     long anomalies;
     sgb_writer w;
 } saving;
@@ -46,9 +46,9 @@ static int by_age(const void *one, const void *other) {
 /* The block in which an address lies, or NULL. */
 static block *block_of(const saving *s, const void *address) {
     const char *at = address;
-    long low = 0, high = s->count;
+    long long low = 0, high = s->count;
     while (low < high) {
-        long middle = low + (high - low) / 2;
+        long long middle = low + (high - low) / 2;
         if (s->blocks[middle].first <= at) low = middle + 1;
         else high = middle;
     }
@@ -60,7 +60,7 @@ static block *block_of(const saving *s, const void *address) {
 static int find_blocks(saving *s) {
     struct area_pointers *p;
     Graph *g = s->g;
-    long age = 0;
+    long long age = 0;
     for (p = *g->data; p; p = p->next) s->count++;
     s->blocks = calloc((size_t)s->count + 1, sizeof *s->blocks);
     if (!s->blocks) return 0;
@@ -85,20 +85,20 @@ static int find_blocks(saving *s) {
     return 1;
 }
 
-static long capacity(const block *b) { return (long)((size_t)(b->end - b->first) / sizes[b->kind]); }
+static long long capacity(const block *b) { return (long long)((size_t)(b->end - b->first) / sizes[b->kind]); }
 
 /* The place of a record in its block, or -1 where none begins there. */
-static long place_in(const block *b, const void *address) {
+static long long place_in(const block *b, const void *address) {
     size_t offset = (size_t)((const char *)address - b->first);
-    return offset % sizes[b->kind] == 0 && (long)(offset / sizes[b->kind]) < capacity(b)
-        ? (long)(offset / sizes[b->kind]) : -1;
+    return offset % sizes[b->kind] == 0 && (long long)(offset / sizes[b->kind]) < capacity(b)
+        ? (long long)(offset / sizes[b->kind]) : -1;
 }
 
 /* Which blocks are of vertices, and which of arcs */
 
 static void meet(saving *s, int kind, const void *address) {
     block *b = address ? block_of(s, address) : NULL;
-    long place;
+    long long place;
     if (!b || b->kind == MIXED) return;
     if (b->kind == UNKNOWN) b->kind = kind;
     place = b->kind == kind ? place_in(b, address) : -1;
@@ -141,7 +141,7 @@ static void fields_of_graph(const Graph *g, util values[6]) {
     values[5] = g->zz;
 }
 
-static void explore_record(saving *s, block *b, long place) {
+static void explore_record(saving *s, block *b, long long place) {
     util values[6];
     if (b->kind == VERTICES) {
         const Vertex *v = (const Vertex *)(const void *)b->first + place;
@@ -171,7 +171,7 @@ static int explore_block(saving *s, block *b) {
 static void explore(saving *s) {
     util values[6];
     int is_new;
-    long k;
+    long long k;
     fields_of_graph(s->g, values);
     meet_fields(s, s->types + 8, values, 6);
     do
@@ -181,15 +181,16 @@ static void explore(saving *s) {
 
 /* Numbers of records */
 
+/* A pointer is no narrower than a long. */
 static int is_zero(const util *values, int count) {
     int k;
     for (k = 0; k < count; k++)
-        if (values[k].I != 0) return 0;
+        if (values[k].S) return 0;
     return 1;
 }
 
 /* A record that nothing was put into. */
-static int is_blank(const block *b, long place) {
+static int is_blank(const block *b, long long place) {
     util values[6];
     if (b->kind == VERTICES) {
         const Vertex *v = (const Vertex *)(const void *)b->first + place;
@@ -205,7 +206,7 @@ static int is_blank(const block *b, long place) {
 /* Up to which record a block is written: an odd number of arcs gets one more, so that the pairs of a later block are pairs
  * still. */
 static void number_block(saving *s, block *b, int is_last) {
-    long used = b == s->own ? b->used : capacity(b);
+    long long used = b == s->own ? b->used : capacity(b);
     while (used > b->used && is_blank(b, used - 1)) used--;
     if (b->kind == ARCS && !is_last) used += used % 2;
     b->used = used;
@@ -218,7 +219,7 @@ static int is_written(const block *b) { return b->kind == VERTICES || b->kind ==
 /* The blocks in their order: the graph's own vertices, and then as they were taken. */
 static block **blocks_in_order(const saving *s) {
     block **order = calloc((size_t)s->count + 1, sizeof *order);
-    long k, found = 0;
+    long long k, found = 0;
     if (!order) return NULL;
     for (k = 0; k < s->count; k++)
         if (is_written(&s->blocks[k])) order[found++] = &s->blocks[k];
@@ -228,7 +229,7 @@ static block **blocks_in_order(const saving *s) {
 
 static void number_blocks(saving *s, block **order) {
     block *last = NULL;
-    long k;
+    long long k;
     for (k = 0; order[k]; k++)
         if (order[k]->kind == ARCS) last = order[k];
     for (k = 0; order[k]; k++) number_block(s, order[k], order[k] == last);
@@ -259,7 +260,7 @@ static void write_field(saving *s, char type, const util *value) {
     case 'V': write_vertex_address(s, value->V); break;
     case 'A': write_address(s, ARCS, value->A); break;
     default:
-        if (value->I != 0) s->anomalies |= ignored_data;
+        if (value->S) s->anomalies |= ignored_data;
     }
 }
 
@@ -288,14 +289,14 @@ static void write_arc(saving *s, const Arc *a) {
 
 static void write_block(saving *s, const block *b) {
     static const Arc no_arc;
-    long place;
+    long long place;
     for (place = 0; place < b->used; place++)
         if (b->kind == VERTICES) write_vertex(s, (const Vertex *)(const void *)b->first + place);
         else write_arc(s, place < capacity(b) ? (const Arc *)(const void *)b->first + place : &no_arc);
 }
 
 static void write_blocks(saving *s, block **order, int kind) {
-    long k;
+    long long k;
     for (k = 0; order[k]; k++)
         if (order[k]->kind == kind) write_block(s, order[k]);
 }
@@ -303,7 +304,7 @@ static void write_blocks(saving *s, block **order, int kind) {
 static void write_head(saving *s) {
     char line[100];
     util values[6];
-    sprintf(line, "* GraphBase graph (util_types %s,%ldV,%ldA)", s->types, s->numbered[VERTICES], s->numbered[ARCS]);
+    sprintf(line, "* GraphBase graph (util_types %s,%lldV,%lldA)", s->types, s->numbered[VERTICES], s->numbered[ARCS]);
     sgb_write_line(&s->w, line);
     s->anomalies |= sgb_write_string(&s->w, s->g->id, ID_BYTES);
     sgb_write_number(&s->w, s->g->n);
@@ -345,7 +346,7 @@ static int write_graph(saving *s) {
 }
 
 static int put_file(const char *name, const char *bytes, size_t length) {
-    FILE *file = fopen(name, "w");
+    FILE *file = fopen(name, "wb");
     int is_put;
     if (!file) return 0;
     is_put = fwrite(bytes, 1, length, file) == length;

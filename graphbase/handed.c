@@ -9,12 +9,12 @@
 
 #include "inside.h"
 
-#define MOST_ARCS_COUNTED 999999999999999999L
+#define MOST_ARCS_COUNTED 999999999999999999LL
 
 /* Arcs of lists that lie side by side, and the number of the first of them. */
 typedef struct {
     const Arc *first;
-    long count, number;
+    long long count, number;
 } stretch;
 
 /* A block of the graph's memory. */
@@ -25,20 +25,20 @@ typedef struct {
 typedef struct {
     const Graph *g;
     const Arc **arcs; /* of all lists, each once, by their addresses */
-    long count;
+    long long count;
     stretch *stretches;
-    long stretches_count;
+    long long stretches_count;
     block *blocks; /* by their addresses */
-    long blocks_count;
+    long long blocks_count;
 } lists;
 
 static int is_vertex_of(const Graph *g, const Vertex *v) { return v >= g->vertices && v < g->vertices + g->n; }
 
 /* How many arcs a list has, or -1: it does not end, or leads out of the graph. `seen` is an arc of the list that moves on
  * whenever the steps since have doubled, so that a list which comes back meets it. */
-static long length_of_list(const Graph *g, const Vertex *v) {
+static long long length_of_list(const Graph *g, const Vertex *v) {
     const Arc *a, *seen = NULL;
-    long length = 0, limit = 1;
+    long long length = 0, limit = 1;
     for (a = v->arcs; a; a = a->next) {
         if (a == seen || !is_vertex_of(g, a->tip)) return -1;
         if (++length == limit) {
@@ -59,9 +59,9 @@ static long find_arcs(lists *l) {
     const Graph *g = l->g;
     const Vertex *v;
     const Arc *a;
-    long total = 0, k, apart;
+    long long total = 0, k, apart;
     for (v = g->vertices; v < g->vertices + g->n; v++) {
-        long length = length_of_list(g, v);
+        long long length = length_of_list(g, v);
         if (length < 0) return invalid_operand;
         total += length;
     }
@@ -76,10 +76,10 @@ static long find_arcs(lists *l) {
     return 0;
 }
 
-static int begins_stretch(const lists *l, long k) { return k == 0 || l->arcs[k] != l->arcs[k - 1] + 1; }
+static int begins_stretch(const lists *l, long long k) { return k == 0 || l->arcs[k] != l->arcs[k - 1] + 1; }
 
 static long find_stretches(lists *l) {
-    long k, found = 0;
+    long long k, found = 0;
     for (k = 0; k < l->count; k++) found += begins_stretch(l, k);
     l->stretches = malloc(((size_t)found + 1) * sizeof *l->stretches);
     if (!l->stretches) return no_room;
@@ -95,10 +95,10 @@ static long find_stretches(lists *l) {
     return 0;
 }
 
-static long number_of(const lists *l, const Arc *a) {
-    long low = 0, high = l->stretches_count;
+static long long number_of(const lists *l, const Arc *a) {
+    long long low = 0, high = l->stretches_count;
     while (high - low > 1) {
-        long middle = low + (high - low) / 2;
+        long long middle = low + (high - low) / 2;
         if (l->stretches[middle].first <= a) low = middle;
         else high = middle;
     }
@@ -136,9 +136,9 @@ static long find_blocks(lists *l) {
 /* The record behind one, where the same block has room for it; else NULL, and nobody can know what is there. */
 static const Arc *behind(const lists *l, const Arc *a) {
     const char *at = (const char *)a;
-    long low = 0, high = l->blocks_count;
+    long long low = 0, high = l->blocks_count;
     while (low < high) {
-        long middle = low + (high - low) / 2;
+        long long middle = low + (high - low) / 2;
         if (l->blocks[middle].first <= at) low = middle + 1;
         else high = middle;
     }
@@ -162,7 +162,7 @@ static void write_record(const lists *l, sgb_writer *w, const Vertex *tip, const
 }
 
 static void write_arcs(const lists *l, sgb_writer *w) {
-    long k;
+    long long k;
     for (k = 0; k < l->count; k++) {
         const Arc *a = l->arcs[k], *last;
         write_record(l, w, a->tip, a->next, a->len);
@@ -189,11 +189,12 @@ static int write_vertices(const lists *l, sgb_writer *w) {
 static long write_file(const lists *l, sgb_writer *w) {
     const Graph *g = l->g;
     char line[100];
-    sprintf(line, "* GraphBase graph (util_types ZZZZZZZZZZZZZZ,%ldV,%ldA)", g->n, l->count + l->stretches_count);
+    long long m = g->m;
+    sprintf(line, "* GraphBase graph (util_types ZZZZZZZZZZZZZZ,%ldV,%lldA)", g->n, l->count + l->stretches_count);
     sgb_write_line(w, line);
     sgb_write_string(w, "g", ID_BYTES);
     sgb_write_number(w, g->n);
-    sgb_write_number(w, g->m < 0 || g->m > MOST_ARCS_COUNTED ? 0 : g->m);
+    sgb_write_number(w, m < 0 || m > MOST_ARCS_COUNTED ? 0 : m);
     sgb_write_end(w);
     sgb_write_line(w, "* Vertices");
     if (!write_vertices(l, w)) return invalid_operand;

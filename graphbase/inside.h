@@ -1,4 +1,5 @@
-/* What the sources of libgb share. Their names begin with sgb_, as no program's of GraphBase does. */
+/* What the sources of libgb share. Their names begin with sgb_, as no program's of GraphBase does. A long has 32 bits on some
+ * systems: so what counts bytes, records or digits is a long long. */
 #ifndef SGB_GRAPHBASE_INSIDE_H
 #define SGB_GRAPHBASE_INSIDE_H
 
@@ -39,9 +40,9 @@ typedef struct {
 void sgb_write_begin(sgb_writer *w);
 /* A line by itself, which no checksum counts. */
 void sgb_write_line(sgb_writer *w, const char *line);
-void sgb_write_number(sgb_writer *w, long value);
+void sgb_write_number(sgb_writer *w, long long value);
 /* A letter and a number: a vertex, or an arc. */
-void sgb_write_place(sgb_writer *w, char letter, long number);
+void sgb_write_place(sgb_writer *w, char letter, long long number);
 /* A string as a file can hold it; the anomalies of save_graph. */
 long sgb_write_string(sgb_writer *w, const char *string, size_t most);
 void sgb_write_end(sgb_writer *w); /* of a record */

@@ -13,10 +13,10 @@ void sgb_order_init(sgb_order *order) {
 }
 
 static long added(long sum, long place) {
-    sum = 2 * sum + place;
+    unsigned long next = 2 * (unsigned long)sum + (unsigned long)place;
     /* twice at most, and sooner than by a division */
-    while (sum >= CHECKSUM_PRIME) sum -= CHECKSUM_PRIME;
-    return sum;
+    while (next >= CHECKSUM_PRIME) next -= CHECKSUM_PRIME;
+    return (long)next;
 }
 
 long sgb_checksum(const sgb_order *order, long sum, const char *line, size_t length) {
@@ -98,10 +98,10 @@ void sgb_write_end(sgb_writer *w) {
 }
 
 /* The digits of a number, and sooner than by printf. */
-static size_t put_digits(char *to, long value) {
+static size_t put_digits(char *to, long long value) {
     char digits[24];
     size_t count = 0, length = 0;
-    unsigned long left = value < 0 ? 0UL - (unsigned long)value : (unsigned long)value;
+    unsigned long long left = value < 0 ? 0ULL - (unsigned long long)value : (unsigned long long)value;
     do digits[count++] = (char)('0' + left % 10);
     while (left /= 10);
     if (value < 0) to[length++] = '-';
@@ -109,12 +109,12 @@ static size_t put_digits(char *to, long value) {
     return length;
 }
 
-void sgb_write_number(sgb_writer *w, long value) {
+void sgb_write_number(sgb_writer *w, long long value) {
     char *piece = new_piece(w);
     w->piece_length = put_digits(piece, value);
 }
 
-void sgb_write_place(sgb_writer *w, char letter, long number) {
+void sgb_write_place(sgb_writer *w, char letter, long long number) {
     char *piece = new_piece(w);
     piece[0] = letter;
     w->piece_length = 1 + put_digits(piece + 1, number);
