@@ -8,6 +8,7 @@ import pathlib
 import pickle
 import pydoc
 import re
+import shutil
 import subprocess
 import sys
 import tempfile
@@ -34,6 +35,24 @@ graph = sgb.from_arrays([0], (1,), n=2)
 graph = sgb.from_edges(numpy.array([[0, 1]]))
 graph = sgb.from_arrays(0, ends)  # wrong
 graph = sgb.from_csr(ends, None)  # wrong
+"""
+
+# what of Windows' Python the package sees: its name, no fork, and a loader, which hands out another library here
+ON_WINDOWS = """\
+import ctypes, os, sys, threading
+try:
+    import numpy
+except ImportError:
+    pass
+del os.fork, os.register_at_fork
+folder, library = sys.argv[1:]
+real = ctypes.CDLL(library)
+ctypes.CDLL = lambda path: print(os.path.relpath(path, folder) if os.sep in path else path) or real
+os.name, sys.path[:0] = "nt", [folder]
+import sgb
+graph = sgb.from_edges([(0, 1), (1, 2, 7)])
+print(graph.m, *sgb.graph("petersen()")[0], *sgb.graph("stdin", graph.save()).edges()[1], end="")
+del graph
 """
 
 
@@ -317,6 +336,17 @@ class Python(unittest.TestCase):
             names = call.__code__.co_varnames[: call.__code__.co_argcount]
             wanted = {name for name in names if name != "self"} | {"return"}
             self.assertEqual(wanted - set(call.__annotations__), set(), call)
+
+    def test_windows(self):
+        """Where Python is Windows' own, sgb.dll is loaded: that of the package's folder, or else that which the system finds."""
+        with tempfile.TemporaryDirectory() as folder:
+            place = os.path.join(folder, "sgb")
+            shutil.copytree(os.path.dirname(sgb.__file__), place, ignore=shutil.ignore_patterns("*.so*", "__pycache__"))
+            for name in "sgb.dll", "sgb/sgb.dll":
+                words = [sys.executable, "-c", ON_WINDOWS, folder, os.path.abspath(_library.lib._name)]
+                got = subprocess.run(words, capture_output=True, check=False, cwd=folder, env={**os.environ, "SGB_LIBRARY": ""})
+                self.assertEqual((got.stdout, got.stderr), (name.encode() + b"\n4 9 8 5 1 2 7", b""))
+                open(os.path.join(place, "sgb.dll"), "wb").close()
 
     @unittest.skipUnless(numpy and installed("mypy"), "without mypy and numpy")
     def test_checked(self):

@@ -262,7 +262,9 @@ def _renew_locks() -> None:
         held.lock = threading.RLock()
 
 
-os.register_at_fork(after_in_child=_renew_locks)
+# Windows has no fork
+if hasattr(os, "register_at_fork"):
+    os.register_at_fork(after_in_child=_renew_locks)
 
 
 def made_of(operands: Sequence[Held], name: str, *words: Any) -> Held:
