@@ -72,6 +72,7 @@ PLACES = [
     ("gsoi", "completions/sgb.bash", r"\bNAME\b"),
     ("gsoi", "completions/_sgb", r"\bNAME\b"),
     ("gsoi", "completions/sgb.fish", r"\bNAME\b"),
+    ("gsoi", "completions/sgb.ps1", r"\bNAME\b"),
     ("gso", "docs/DEFINITIONS.md", r"NAME(_of)?\b|VARIANT"),
     ("gso", "docs/COOKBOOK.md", r"\bNAME\b"),
 ]

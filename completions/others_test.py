@@ -1,10 +1,12 @@
 #!/usr/bin/env python3
-"""What _sgb does in a terminal of zsh, and what sgb.fish offers in fish: completions/others_test.py [FOLDER]
+"""What _sgb does in a terminal of zsh, and what sgb.fish and sgb.ps1 offer in fish and PowerShell: completions/others_test.py [FOLDER]
 
-FOLDER has the two files; it is that of this script where none is named. A line tells which shell is not there.
+FOLDER has the files; it is that of this script where none is named. A line tells which shell is not there. Of sgb.ps1 the words
+are compared with those of sgb.bash without a shell.
 """
 
 import os
+import re
 import shutil
 import subprocess
 import sys
@@ -127,9 +129,35 @@ def in_fish():
         yield text, (sorted(got.stdout.decode().split()), got.stderr), (sorted(offered), b"")
 
 
+def in_powershell():
+    """What PowerShell offers for each line for which fish offers something; it takes no backslash for its own."""
+    for text, offered in [(text, offered) for text, offered in IN_FISH if offered and "\\" not in text]:
+        line = text.replace("'", "''")
+        script = f". '{FOLDER}/sgb.ps1'; (TabExpansion2 '{line}' {len(text)}).CompletionMatches.ListItemText"
+        got = subprocess.run(["pwsh", "-NoProfile", "-Command", script], stdin=subprocess.DEVNULL, capture_output=True, check=False)
+        # a form without arguments is offered once, with no comma
+        yield text, (sorted(got.stdout.decode().split()), got.stderr), (sorted(one for one in offered if one[-2:] != "),"), b"")
+
+
+def words_of(name):
+    """The words that a completion offers: commands, options and forms."""
+    with open(os.path.join(FOLDER, name), encoding="utf-8") as file:
+        text = file.read()
+    of_bash = re.findall(r'_sgb_offer "\$word" (.*?)(?: ;;)?$', text, re.M)
+    of_others = re.findall(r"\$found = ('[-a-z', ]*')", text)
+    forms_there = re.findall(r"(?<=[ ]')(?:stdin|[a-z_]+\([^'()]*\))(?=')", text)
+    return sorted(" ".join(of_bash + of_others).replace("'", " ").replace(",", " ").split()) + sorted(forms_there)
+
+
 def main():
     passed, failed = 0, 0
-    for shell, tried in ("zsh", in_zsh), ("fish", in_fish):
+    seen, wanted = words_of("sgb.ps1"), words_of("sgb.bash")
+    if seen == wanted:
+        passed += 1
+    else:
+        failed += 1
+        print(f"sgb.ps1 has not the words of sgb.bash: {' '.join(sorted(set(seen) ^ set(wanted)))}")
+    for shell, tried in ("zsh", in_zsh), ("fish", in_fish), ("pwsh", in_powershell):
         if not shutil.which(shell):
             print(f"  skipped, without {shell}: completion for {shell}")
             continue

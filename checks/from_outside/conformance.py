@@ -173,9 +173,9 @@ def carets(runs, tally):
 def completion(runs, tally):
     """The scripts that try the completions; their forms are those of the manual page, with the same arguments in each."""
     offered = {}
-    for name in "sgb.bash", "_sgb", "sgb.fish":
+    for name in "sgb.bash", "_sgb", "sgb.fish", "sgb.ps1":
         with open(os.path.join(TOP, "completions", name), encoding="utf-8") as file:
-            offered[name] = re.findall(r"^    '([a-z_]+(?:\(.*\))?)'(?: \\)?$", file.read(), re.M)
+            offered[name] = re.findall(r"(?<=[ ]')(?!flip)(?:stdin|[a-z_]+\([^'()]*\))(?=')", file.read())
     with open(os.path.join(TOP, "man", "sgb.1"), encoding="utf-8") as file:
         page = file.read().partition(".Sh EXPRESSIONS")[2].partition(".Ss ")[0]
     forms = [name for line in re.findall("^\\.It Li (.*)$", page, re.M) for name in re.findall(r"([a-z_]+)(?:\(|$)", line)]
