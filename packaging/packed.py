@@ -184,6 +184,12 @@ def write_zip(path, top, tree, moment):
             whole.writestr(zip_entry(f"{top}/{name}", moment, mode), data)
 
 
+def record_of(name, data):
+    """What a wheel tells of a file."""
+    digest = base64.urlsafe_b64encode(hashlib.sha256(data).digest()).rstrip(b"=").decode()
+    return f"{name},sha256={digest},{len(data)}\n"
+
+
 def write_wheel(path, library, tag, moment):
     """A wheel, which is a zip file: the package, the library beside it, as name and path, and what pip reads."""
     about = f"sgb-{VERSION}.dist-info"
@@ -193,10 +199,7 @@ def write_wheel(path, library, tag, moment):
         about + "/METADATA": filled("METADATA", VERSION=VERSION),
         about + "/WHEEL": f"Wheel-Version: 1.0\nGenerator: sgb dist\nRoot-Is-Purelib: false\nTag: {tag}\n".encode(),
     }
-    record = []
-    for name, data in files.items():
-        digest = base64.urlsafe_b64encode(hashlib.sha256(data).digest()).rstrip(b"=").decode()
-        record.append(f"{name},sha256={digest},{len(data)}\n")
+    record = [record_of(name, data) for name, data in files.items()]
     files[about + "/RECORD"] = "".join(record + [f"{about}/RECORD,,\n"]).encode()
     with zipfile.ZipFile(path, "w", zipfile.ZIP_DEFLATED, compresslevel=9) as packed:
         for name, data in files.items():

@@ -1,20 +1,24 @@
 """What runs on Windows, of what was proved: for packaging/dist.py. The modules are those that LLVM is handed for Linux on x86-64,
 with the names of the other system in them; no proof speaks of what is made of them here."""
 
+import importlib.util
 import os
 import random
 import re
 import shutil
 import subprocess
 import sys
+import zipfile
 
 import built
 import packed
 from built import HERE, TOP, VERSION, Failed, ran
 
 NAME = "x86_64-windows"
-CC, DLLTOOL, RUNNER = "x86_64-w64-mingw32-gcc", "x86_64-w64-mingw32-dlltool", "wine"
-built.PACKAGES.update({CC: "gcc-mingw-w64-x86-64", DLLTOOL: "binutils-mingw-w64-x86-64", RUNNER: "wine with wine64"})
+CC, AR, DLLTOOL, RUNNER = *(f"x86_64-w64-mingw32-{tool}" for tool in ("gcc", "ar", "dlltool")), "wine"
+MACHINE = built.Machine(NAME, None, None, CC, AR, RUNNER)
+OF_BINUTILS = "binutils-mingw-w64-x86-64"
+built.PACKAGES.update({CC: "gcc-mingw-w64-x86-64", AR: OF_BINUTILS, DLLTOOL: OF_BINUTILS, RUNNER: "wine with wine64"})
 TARGET = ["--target=x86_64-w64-windows-gnu", "--no-default-config", "-no-canonical-prefixes", "-Wno-override-module"]
 OPTIONS = ["-march=x86-64", "-O2", "-ffunction-sections", "-fdata-sections", "-mllvm", "-no-trap-after-noreturn",
            "-mllvm", "-trap-unreachable", "-c", "-x", "ir"]
@@ -39,7 +43,7 @@ os.execv({clang!r}, [{clang!r}, *sys.argv[1:]])
 
 def left_out():
     """Why nothing is made for Windows, or nothing."""
-    lacking = built.missing(CC, DLLTOOL, RUNNER)
+    lacking = built.missing(CC, AR, DLLTOOL, RUNNER)
     return f"all for Windows: there is no {', no '.join(lacking)}" if lacking else None
 
 
@@ -119,7 +123,7 @@ def calls():
 
 
 def library(room):
-    """The library, what a linker of MinGW takes for it, and what Microsoft's makes one of."""
+    """The library, what a linker of MinGW takes for it, and what Microsoft's makes one of; and GraphBase's own calls."""
     exports, made = os.path.join(room, "sgb.def"), os.path.join(room, "sgb.dll")
     with open(exports, "w", encoding="ascii") as file:
         file.write("\n".join(["LIBRARY sgb.dll", "EXPORTS", *("    " + name for name in calls()), ""]))
@@ -127,7 +131,8 @@ def library(room):
     ran([CC, "-shared", *LINK, "-o", "sgb.dll", compiled(built.LIBRARY, room), heap(room), "sgb.def"], room)
     imports = "libsgb.dll.a"
     ran([DLLTOOL, "--temp-prefix", "sgb", "-d", "sgb.def", "-l", imports], room)
-    return {"sgb.dll": made, "lib/sgb.def": exports, "lib/" + imports: os.path.join(room, imports)}
+    return {"sgb.dll": made, "lib/sgb.def": exports, "lib/" + imports: os.path.join(room, imports),
+            "lib/libgb.a": built.graphbase(MACHINE, room)}
 
 
 def programs(room):
@@ -146,9 +151,10 @@ def make(folder, moment):
     os.makedirs(room, exist_ok=True)
     made = {**dict(programs(room)), **library(room)}
     tree = {name: (packed.read(path), 0o644) for name, path in made.items()}
-    for path in ["include/sgb.h", "include/sgb.hpp", *packed.tracked("conformance")]:
+    for path in ["include/sgb.h", "include/sgb.hpp", *packed.tracked("include/graphbase"), *packed.tracked("conformance")]:
         packed.add_file(tree, path, path)
-    for name in "INSTALL.md", "CALLING_FROM_C.md", "COOKBOOK.md", "RECIPES.md", "ERRORS.md":
+    packed.add_file(tree, "sgb.ps1", "completions/sgb.ps1")
+    for name in "INSTALL.md", "CALLING_FROM_C.md", "GRAPHBASE.md", "COOKBOOK.md", "RECIPES.md", "ERRORS.md":
         packed.add_file(tree, "doc/" + name, "docs/" + name)
     for name in packed.package_files():
         packed.add_file(tree, "python/sgb/" + name, "python/sgb/" + name)
@@ -186,10 +192,59 @@ def answered_alike(program, requests):
         if (one.returncode, one.stdout, one.stderr) != (other.returncode, other.stdout, other.stderr):
             raise Failed(f"Windows: sgb.exe {words} gave {other.returncode} and {other.stderr[:200]}, here {one.returncode}")
     print(f"  Windows, sgb.exe: {len(pairs)} requests are answered as on Linux, with a file of {len(great)} bytes", flush=True)
-    with open("/dev/full", "wb") as full:
-        got = subprocess.run([program, "names", "board(300,300,0,0,1,0,0)"], stdout=full, stderr=subprocess.PIPE, check=False)
-    if (got.returncode, got.stderr) != (3, b"sgb: write fault\n"):
-        raise Failed(f"Windows: on a full device sgb.exe gave {got.returncode} and {got.stderr}")
+
+
+def fails_alike(program):
+    """A full device, a pipe that nobody reads, and refused memory: of wine's process here, since wine's jobs limit none."""
+    here, (read_end, unread), great = built.left_by_make("crates/sgb_cli/out/sgb_cli"), os.pipe(), "board(1500,1500,0,0,1,0,0)"
+    os.close(read_end)
+    with open("/dev/full", "wb") as full, open(unread, "wb", closefd=True) as pipe:
+        for out, limit, text, wanted in [(full, "unlimited", "board(300,300,0,0,1,0,0)", (3, b"sgb: write fault\n")),
+                                         (pipe, "unlimited", "board(300,300,0,0,1,0,0)", None),
+                                         (pipe, "200000", f"gunion({great},{great},0,0)", (1, b"Something went wrong (panic code 1)!\n"))]:
+            seen = []
+            for own in here, program:
+                words = ["sh", "-c", f'ulimit -d {limit} && exec "$0" "$@"', own, "names", text]
+                got = subprocess.run(words, stdin=subprocess.DEVNULL, stdout=out, stderr=subprocess.PIPE, check=False)
+                seen.append((got.returncode, got.stderr))
+            if seen[0] != seen[1] or wanted not in (None, seen[0]):
+                raise Failed(f"Windows: sgb.exe {text} into {out.name} with memory {limit} ended so, here and there: {seen}")
+    print("  Windows, sgb.exe: a full device, a pipe that nobody reads and refused memory end it as on Linux", flush=True)
+
+
+def old_programs_work(top, room, tried):
+    """Programs over GraphBase's own calls, as they stand: those of the examples, and that of conformance/ with the whole table."""
+    def made(source):
+        path = os.path.join(top, os.path.basename(source)[:-2] + ".exe")
+        ran([CC, "-std=gnu99", "-O2", f"-I{top}/include/graphbase", source, f"{top}/lib/libgb.a", f"{top}/lib/libsgb.dll.a", "-o", path])
+        return path
+
+    sources = [path for path in packed.tracked("examples/graphbase") if path.endswith(".c")]
+    for source in sources:
+        if ran([RUNNER, made(source)], room).encode() != packed.read(TOP, source[:-2] + ".out"):
+            raise Failed(f"Windows: {source} over libgb.a writes something else")
+    program = tried.script(os.path.join(room, "run_over_libgb"), f"exec {RUNNER} '{made('conformance/graphbase.c')}' \"$@\"")
+    told = ran(["conformance/graphbase.py", built.left_by_make("crates/sgb_cli/out/sgb_cli"), program]).splitlines()[-1]
+    print(f"  Windows, libgb.a: {len(sources)} programs of GraphBase; and the table by it: {told}", flush=True)
+
+
+def wheel_is_whole(wheel, dll, room):
+    """The wheel has the package and the library of the zip file, for Windows alone, as pip finds where it is there."""
+    with zipfile.ZipFile(wheel) as packed_files:
+        found = {name: packed_files.read(name) for name in packed_files.namelist()}
+    about = f"sgb-{built.calls_version()}.dist-info/"
+    wanted = {"sgb/" + name: packed.read(TOP, "python/sgb", name) for name in packed.package_files()}
+    wanted["sgb/sgb.dll"] = packed.read(dll)
+    tags = re.findall(rb"^(?:Tag|Root-Is-Purelib): (.*)$", found[about + "WHEEL"], re.MULTILINE)
+    sums = {name: packed.record_of(name, data) for name, data in found.items() if name != about + "RECORD"}
+    told = found[about + "RECORD"].decode().splitlines(keepends=True)
+    if ({name: data for name, data in found.items() if not name.startswith(about)} != wanted or tags != [b"false", b"py3-none-win_amd64"]
+            or sorted(told) != sorted([*sums.values(), about + "RECORD,,\n"])):
+        raise Failed(f"{wheel} does not have what it should have: {' '.join(found)}")
+    words = [sys.executable, "-m", "pip", "install", "--no-index", "--no-deps", "--disable-pip-version-check", "--only-binary=:all:"]
+    if importlib.util.find_spec("pip"):
+        ran([*words, "--platform", "win_amd64", "--target", os.path.join(room, "wheel"), wheel])
+    print(f"  {os.path.basename(wheel)}: its files and sums hold; there is no Python for Windows here", flush=True)
 
 
 def works(folder, room, tried):
@@ -211,6 +266,7 @@ def works(folder, room, tried):
         levels = tried.script(os.path.join(room, "run_levels"), f"exec {RUNNER} '{top}/sgb_levels.exe' \"$@\"")
         tried.distances_hold("Windows", levels)
         answered_alike(program, 2000)
+        fails_alike(program)
         for name in "caller", "many":
             ran([CC, "-std=gnu11", "-O2", "-Wall", "-Wextra", "-Werror", f"-I{top}/include", os.path.join(HERE, name + ".c"),
                  f"{top}/lib/libsgb.dll.a", "-o", os.path.join(top, name + ".exe")])
@@ -219,8 +275,7 @@ def works(folder, room, tried):
         caller = os.path.join(top, "caller.exe")
         called = tried.script(os.path.join(room, "run_caller"), f"exec {RUNNER} '{caller}' \"$@\"")
         tried.conforms(called, "Windows, a C program with sgb.dll under wine", **LONGEST)
+        old_programs_work(top, room, tried)
     finally:
         subprocess.run(["wineserver", "-k"], check=False)
-    shutil.unpack_archive(wheel, os.path.join(room, "wheel"), "zip")
-    ran(["cmp", os.path.join(room, "wheel/sgb/sgb.dll"), os.path.join(top, "sgb.dll")])
-    print(f"  {os.path.basename(wheel)}: its library is that of the zip file; no Python for Windows is here", flush=True)
+    wheel_is_whole(wheel, os.path.join(top, "sgb.dll"), room)
