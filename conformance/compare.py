@@ -45,7 +45,8 @@ def rows(path=ROWS):
             if row.expression in seen:
                 raise ValueError(f"{path}, line {number}: an expression that stands above")
             seen.add(row.expression)
-            found.append(row)
+            if not LONGEST or len(row.expression) <= LONGEST:
+                found.append(row)
     return found
 
 
@@ -145,8 +146,6 @@ def main():
     except (OSError, ValueError) as fault:
         sys.exit(f"compare.py: {fault}")
     for row in table:
-        if LONGEST and len(row.expression) > LONGEST:
-            continue
         for name, difference in compared(program, row, words):
             if difference is None:
                 passed += 1

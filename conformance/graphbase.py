@@ -363,7 +363,7 @@ def held_row(programs, row):
 def held_numbers(programs, text):
     ours, theirs = programs.ours("flip", text), programs.theirs("flip", text)
     is_same = ours == theirs and ours.status == 0 and bool(ours.out)
-    yield "flip", is_same or told(ours, theirs)
+    yield "flip", is_same or why_refused(programs, text, ours, theirs) or told(ours, theirs)
 
 
 def all_held(programs, words):

@@ -154,7 +154,7 @@ int64_t write(int number, const void *at, uint64_t size) {
     if (size == 0) return 0;
     if (WriteFile(stream(number), at, part(size), &written, NULL) && written) return written;
     DWORD why = GetLastError();
-    if (why == ERROR_NO_DATA || why == ERROR_BROKEN_PIPE) {
+    if (why == ERROR_NO_DATA || why == ERROR_BROKEN_PIPE || why == ERROR_PIPE_NOT_CONNECTED) {
         error_number = NO_READER;
     } else {
         error_number = why == ERROR_INVALID_HANDLE ? NO_SUCH_STREAM : NO_ROOM_LEFT;

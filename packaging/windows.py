@@ -32,6 +32,9 @@ TURNED = [(' "probe-stack"="inline-asm"', ""), ('target datalayout = "e-m:e-', '
 # of a command line there are 32,767 characters at most
 LONGEST = {"CONFORMANCE_LONGEST": "32000"}
 
+# of a process, in kilobytes, where memory is refused
+LIMIT = "200000"
+
 # clang, for rattle: it keeps the module
 KEEPING = """#!{python}
 import os, shutil, sys
@@ -170,7 +173,9 @@ def asked(draw):
     of = [f"board({','.join(few)},0)", f"simplex({','.join(few)},0)", f"subsets({','.join(few)},0x5,0)", "petersen()", "stdin",
           f"circuit({few[1]})", f"wheel({few[0]},{few[1]},0)", f"bi_complete({few[2]},{few[3]},1)"]
     text = draw.choice(of)
-    text = draw.choice([text, text, f"lines({text},0)", f"gunion({text},{draw.choice(of)},1,0)", text[:-1] + '" é\\'])
+    # what a command line writes in a way of its own stands in the middle, where less of it would be another expression
+    place, odd = draw.randrange(len(text)), draw.choice(["\\", '"', '\\"', "\\\\", '\\\\"', " ", "\t", "é", "", '"" '])
+    text = draw.choice([text, text, f"lines({text},0)", f"gunion({text},{draw.choice(of)},1,0)", text[:place] + odd + text[place:]])
     more = draw.choice([[], [], ["--after", "0.0"], ["--skip", few[4]], ["x y"]])
     return [draw.choice(["names", "list", "save"]), text, *more], draw.choice([b"", b"\r\n\x1a", None])
 
@@ -182,7 +187,8 @@ def answered_alike(program, requests):
     def run(own, words, given):
         return subprocess.run([own, *words], input=given, capture_output=True, check=False)
 
-    draw, file = random.Random(1), run(here, ["save", "petersen()"], b"").stdout
+    # a line in front of a file may have the byte that ends texts there
+    draw, file = random.Random(1), b"* \x1a\r\n" + run(here, ["save", "petersen()"], b"").stdout
     great = run(here, ["save", "board(800,800,0,0,1,0,0)"], b"").stdout
     pairs = [(["save", "board(800,800,0,0,1,0,0)"], b""), (["save", "stdin"], great)]
     pairs += [asked(draw) for _ in range(requests)]
@@ -194,21 +200,23 @@ def answered_alike(program, requests):
     print(f"  Windows, sgb.exe: {len(pairs)} requests are answered as on Linux, with a file of {len(great)} bytes", flush=True)
 
 
+def limited(kilobytes, *words):
+    """A command whose process has so much memory of its own."""
+    return ["sh", "-c", f'ulimit -d {kilobytes} && exec "$0" "$@"', *words]
+
+
 def fails_alike(program):
     """A full device, a pipe that nobody reads, and refused memory: of wine's process here, since wine's jobs limit none."""
     here, (read_end, unread), great = built.left_by_make("crates/sgb_cli/out/sgb_cli"), os.pipe(), "board(1500,1500,0,0,1,0,0)"
     os.close(read_end)
-    with open("/dev/full", "wb") as full, open(unread, "wb", closefd=True) as pipe:
-        for out, limit, text, wanted in [(full, "unlimited", "board(300,300,0,0,1,0,0)", (3, b"sgb: write fault\n")),
-                                         (pipe, "unlimited", "board(300,300,0,0,1,0,0)", None),
-                                         (pipe, "200000", f"gunion({great},{great},0,0)", (1, b"Something went wrong (panic code 1)!\n"))]:
-            seen = []
+    fault, refused = (3, b"sgb: write fault\n"), (1, b"Something went wrong (panic code 1)!\n")
+    with open("/dev/full", "wb") as full, open(unread, "wb") as pipe:
+        for out, limit, text, wanted in [(full, "unlimited", great, fault), (pipe, "unlimited", great, fault),
+                                         (pipe, LIMIT, f"gunion({great},{great},0,0)", refused)]:
             for own in here, program:
-                words = ["sh", "-c", f'ulimit -d {limit} && exec "$0" "$@"', own, "names", text]
-                got = subprocess.run(words, stdin=subprocess.DEVNULL, stdout=out, stderr=subprocess.PIPE, check=False)
-                seen.append((got.returncode, got.stderr))
-            if seen[0] != seen[1] or wanted not in (None, seen[0]):
-                raise Failed(f"Windows: sgb.exe {text} into {out.name} with memory {limit} ended so, here and there: {seen}")
+                got = subprocess.run(limited(limit, own, "names", text), stdin=subprocess.DEVNULL, stdout=out, stderr=subprocess.PIPE, check=False)
+                if (got.returncode, got.stderr) != wanted:
+                    raise Failed(f"Windows: {own} {text} into {out.name}, with {limit} KB, gave {got.returncode} and {got.stderr}")
     print("  Windows, sgb.exe: a full device, a pipe that nobody reads and refused memory end it as on Linux", flush=True)
 
 
@@ -224,7 +232,8 @@ def old_programs_work(top, room, tried):
         if ran([RUNNER, made(source)], room).encode() != packed.read(TOP, source[:-2] + ".out"):
             raise Failed(f"Windows: {source} over libgb.a writes something else")
     program = tried.script(os.path.join(room, "run_over_libgb"), f"exec {RUNNER} '{made('conformance/graphbase.c')}' \"$@\"")
-    told = ran(["conformance/graphbase.py", built.left_by_make("crates/sgb_cli/out/sgb_cli"), program]).splitlines()[-1]
+    words = ["conformance/graphbase.py", built.left_by_make("crates/sgb_cli/out/sgb_cli"), program]
+    told = ran(words, env={**os.environ, **LONGEST, "CONFORMANCE_SECONDS": "300"}).splitlines()[-1]
     print(f"  Windows, libgb.a: {len(sources)} programs of GraphBase; and the table by it: {told}", flush=True)
 
 
@@ -270,7 +279,8 @@ def works(folder, room, tried):
         for name in "caller", "many":
             ran([CC, "-std=gnu11", "-O2", "-Wall", "-Wextra", "-Werror", f"-I{top}/include", os.path.join(HERE, name + ".c"),
                  f"{top}/lib/libsgb.dll.a", "-o", os.path.join(top, name + ".exe")])
-        if ran([RUNNER, os.path.join(top, "many.exe")]).split() != ["done"]:
+        # what is not given back, of so many, has no room
+        if ran(limited(LIMIT, RUNNER, os.path.join(top, "many.exe"))).split() != ["done"]:
             raise Failed("Windows: 100,000 openings and closings, and operations, do not end well")
         caller = os.path.join(top, "caller.exe")
         called = tried.script(os.path.join(room, "run_caller"), f"exec {RUNNER} '{caller}' \"$@\"")
