@@ -11,7 +11,7 @@ use Rattle.sgb.specs.declared.writing.flips.Draws.{Draws}
 use Rattle.sgb_requests.specs.declared.faults.Fault.{Fault}
 use Rattle.sgb_requests.specs.declared.faults.Fault.TheVariants as fault
 
--- so many draws may be thrown away, and so many numbers written
+-- at most so many draws may be thrown away, and at most so many numbers asked for
 abbrev pub most_draws : ℕ
 most_draws = 1_000_000_000
 

@@ -29,7 +29,8 @@ left_out names resume.Whole = Ok 0
 left_out names (resume.Skip k) = Ok k
 left_out names (resume.After name) = ok_or (option_map suc (position (λ other. pointwise nat_eq other name) names)) fault.NoVertex
 
--- the answer of a command `names`, of names
+-- the answer of a command `names`, of vertices with these names: those that are not left out, one a line; or
+-- no vertex has the name
 abbrev pub names_answer : List (List ℕ) → Resume → Result (List ℕ) Fault
 names_answer names resume = result_map_both (name_lines names) (λ f. f) (left_out names resume)
 
@@ -38,7 +39,8 @@ abbrev pub head_for : Resume → List ℕ → List ℕ
 head_for resume.Whole text = text
 head_for _ text = []
 
--- the answer of a command `list`, of a graph
+-- the answer of a command `list`, of a graph: its head, unless the listing is resumed, and the blocks that
+-- are not left out; or no vertex has the name
 abbrev pub list_answer : GraphData → Resume → Result (List ℕ) Fault
 list_answer g resume = result_map_both (λ k. head_for resume (head g) ++ blocks g k) (λ f. f) (left_out (names_of g) resume)
 
@@ -47,7 +49,7 @@ abbrev pub answer_from : Result GraphData Panic → (GraphData → Result (List 
 answer_from (Ok g) answer = answer g
 answer_from (Err p) answer = Err (fault.Panic p)
 
--- the moves of a piece on a board of three rows and four columns
+-- the board of three rows and four columns for the piece of this number: -1 is a rook, -2 a bishop
 abbrev pub moves_of : ℤ → Generator
 moves_of step = generator.Board (record { n1 = pos 3; n2 = pos 4; n3 = pos 0; n4 = pos 0; piece = step; wrap = pos 0; directed = false })
 

@@ -10,7 +10,7 @@ use Rattle.sgb_graph.specs.Vertices.{names_of}
 abbrev pub name_line : List ℕ → List ℕ
 name_line name = name ++ 10 ∷ []
 
--- the lines of the vertices from vertex k on
+-- the lines of the vertices that have these names, from vertex k on
 unfoldable pub name_lines : List (List ℕ) → ℕ → List ℕ
 name_lines names k = flat_map name_line (drop k names)
 

@@ -32,7 +32,7 @@ pub record Effect (S : Type 0) : Type 0 where
   pub new : S
   pub told : Change
 
--- that of a sink that was old where it is new, by what it tells and whether it has failed
+-- what was done to a sink that was old and is new, by what tells its bytes and whether it has failed
 abbrev pub effect : {S : Type 0} → (S → Option (List ℕ)) → (S → Bool) → S → S → Effect S
 effect written has_failed old new = record { old = old; new = new; told = change written has_failed old new }
 
@@ -48,6 +48,7 @@ IsEnded (Ok text) out r = IsWritten text out.told r
 IsEnded (Err g) out (Ok x) = ⊥
 IsEnded (Err g) out (Err f) = ((f ≡ g) ⊎ (f ≡ fault.Panic NoRoom)) × IsUntouched out
 
--- so a request ended, where reading standard input failed with the sink untouched, or did not
+-- how the answer to a request ended: where reading standard input failed, with a read fault and the sink
+-- untouched; else by the answer itself
 abbrev pub IsEndedFrom : {T S : Type 0} → Bool → Result (List ℕ) Fault → Effect S → Result T Fault → Type 0
 IsEndedFrom failed answer out r = MatchBool failed (IsUntouched out × (r ≡ Err fault.Read)) (IsEnded answer out r)

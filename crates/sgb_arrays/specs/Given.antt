@@ -11,7 +11,7 @@ use Rattle.sgb_arrays.specs.Lists.{part_by_starts}
 use Rattle.sgb_arrays.specs.declared.given.Unmade.{Unmade}
 use Rattle.sgb_arrays.specs.declared.given.Unmade.TheVariants as unmade
 
--- the names: each is what stands from its start up to the next one
+-- the names among these bytes: each is what stands from its start up to the next one
 abbrev pub names_given : List ℕ → List ℕ → List (List ℕ)
 names_given starts bytes = map (part_by_starts bytes starts) (range_with_len 0 (length starts - 1))
 

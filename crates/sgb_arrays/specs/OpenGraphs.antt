@@ -11,12 +11,12 @@ use Rattle.sgb_arrays.specs.declared.operands.Operand.TheVariants.{Lent, Made}
 use Rattle.sgb_arrays.specs.declared.refusals.Wrong.{Wrong}
 use Rattle.sgb_arrays.specs.declared.refusals.Wrong.TheVariants as wrong
 
--- the graph
+-- the graph that is open: the one that is built, or the one of accepted parameters
 abbrev pub graph_open : OpenGraph → GraphData
 graph_open (Built g) = g
 graph_open (Listed l) = graph_described (described l)
 
--- it is not built: a call on it may take memory
+-- the graph that is open is not built: a call on it may take memory
 abbrev pub IsListed : OpenGraph → Type 0
 IsListed (Built g) = ⊥
 IsListed (Listed l) = Unit {0}
@@ -26,7 +26,8 @@ abbrev pub graph_of_operand : Operand → GraphData
 graph_of_operand (Lent g) = g.now
 graph_of_operand (Made g) = g
 
--- why its file is not put into an array of so many places, where this takes memory
+-- why the file of a graph is not put into an array: it has not as many places as the file has bytes; or want
+-- of memory, where this takes some
 abbrev pub IsFileRefusal : GraphData → ℕ → (memory : Type 0) → Wrong → Type 0
 IsFileRefusal g places memory wrong.Length = places ≡ length (text_of_graph g) → ⊥
 IsFileRefusal g places memory wrong.NoRoom = memory

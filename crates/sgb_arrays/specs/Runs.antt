@@ -16,7 +16,7 @@ IsThere g first count = first + count ≤ length g.vertices
 unfoldable pub parts_of : {X : Type 0} → (ℕ → List X) → ℕ → ℕ → List X
 parts_of parts first count = flat_map parts (range_with_len first count)
 
--- where that of each vertex starts in it, and then where the last one ends
+-- where the part of each vertex starts among what a graph has for a run, and then where the last one ends
 unfoldable pub part_starts : {X : Type 0} → (ℕ → List X) → ℕ → ℕ → List ℕ
 part_starts parts first count = starts_from 0 (map (λ v. length (parts v)) (range_with_len first count))
 
@@ -63,6 +63,7 @@ IsFillRefusal g first count fits memory wrong.Length = IsThere g first count × 
 IsFillRefusal g first count fits memory wrong.NoRoom = IsThere g first count × memory
 IsFillRefusal g first count fits memory _ = ⊥
 
--- why the size of a run is not told: as arrays of which none can misfit are not filled
+-- why the size of a run is not told: vertices that are none of the graph; else want of memory, where this
+-- takes some
 abbrev pub IsSizeRefusal : GraphData → ℕ → ℕ → (memory : Type 0) → Wrong → Type 0
 IsSizeRefusal g first count = IsFillRefusal g first count (Unit {0})

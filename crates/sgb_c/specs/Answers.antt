@@ -70,7 +70,7 @@ answer_of_unmade unmade.Vertices = answer.Vertices
 answer_of_unmade unmade.Text = answer.Text
 answer_of_unmade unmade.NoRoom = answer.Panic NoRoom
 
--- this is the answer for one of these causes
+-- this is the answer where an array is not filled, or a number not told, for one of these causes
 abbrev pub IsAnswerFor : (Wrong → Type 0) → Answer → Type 0
 IsAnswerFor Cause why = (cause : Wrong) × Cause cause × (why ≡ answer_of_wrong cause)
 

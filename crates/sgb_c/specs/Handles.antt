@@ -12,7 +12,7 @@ use Rattle.sgb_c.specs.declared.handles.GraphHandle.{GraphHandle}
 abbrev pub graph_in : GraphHandle → Option GraphData
 graph_in handle = option_map (λ h. graph_open h.graph) handle.held.value
 
--- it is held and not built, so a call on it may take memory
+-- the graph that a handle holds is not built, so that a call on it may take memory
 abbrev pub IsListedIn : GraphHandle → Type 0
 IsListedIn handle = IsSomeAnd handle.held.value (λ h. IsListed h.graph)
 

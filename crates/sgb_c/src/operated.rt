@@ -34,7 +34,7 @@ pub(crate) enum OnGraph {
     },
 }
 
-/// An operation on two.
+/// An operation on two graphs.
 #[derive(Clone, Copy)]
 pub(crate) enum OnGraphs {
     /// The union.

@@ -42,13 +42,13 @@ mutual
     NoEntries : Entries
     EntryThen : (entry : Entry) → (others : Entries) → Entries
 
--- the entries of an induced graph, of a list of them
+-- a list of entries, as the entries of an induced graph
 abbrev pub entries_of : List Entry → Entries
 entries_of [] = NoEntries
 entries_of (entry ∷ others) = EntryThen entry (entries_of others)
 
 abbrev mutual
-  -- the expression that a value of the code holds
+  -- the expression that a value of the code holds; p, q and shape say how that stands in memory alone
   pub expression_of : Expr → Expression
   expression_of (expr.Generator f) = Generated f
   expression_of (expr.Complement' p graph copy self_loops directed) = OfGraph (Complement copy self_loops directed) (expression_of graph)
@@ -62,11 +62,12 @@ abbrev mutual
   expression_of (expr.Wheel n n1 directed) = OfNumbers (Wheel n n1 directed)
   expression_of expr.Stdin = Stdin
 
+  -- the entry that a value of the code holds
   pub entry_of : EntryExpr → Entry
   entry_of (entry.Number n) = Number n
   entry_of (entry.Graph' p e) = Graph (expression_of e)
 
-  -- those of a `Vec`
+  -- the entries that a `Vec` of the code holds, in order
   pub row_entries : {n : _} → Row_of-EntryExpr n → Entries
   row_entries end_of-EntryExpr = NoEntries
   row_entries (more_of-EntryExpr e others) = EntryThen (entry_of e) (row_entries others)

@@ -6,12 +6,12 @@ use Rattle.sgb_text.specs.Languages.{After, As}
 use Rattle.sgb_expr.specs.declared.expressions.Unread.{Unread}
 use Rattle.sgb_expr.specs.declared.flips.FlipParams.{FlipParams}
 
--- start, skip, count and m, in this order
+-- the parameters of a flip, of four integers: start, skip, count and m, in this order
 abbrev pub flip_of : List ℤ → FlipParams
 flip_of numbers = let nth = nth_number numbers in
     record { start = nth 0; skip = nth 1; count = nth 2; m = nth 3 }
 
--- the text asks for these
+-- the text is `flip(`, four integers and a `)`, and asks for the numbers of these parameters
 abbrev pub IsFlip : List ℕ → FlipParams → Type 0
 IsFlip = After (codes "flip(") (As flip_of (AreArguments [] 4))
 

@@ -25,22 +25,22 @@ nth_number numbers k = slice_index_or numbers k (pos 0)
 abbrev pub flag_at : List ℤ → ℕ → Bool
 flag_at numbers k = flag_of (nth_number numbers k)
 
--- board(n1,n2,n3,n4,piece,wrap,directed)
+-- the parameters of board(n1,n2,n3,n4,piece,wrap,directed), of these integers in their order
 abbrev pub board_params : List ℤ → BoardParams
 board_params numbers = let nth = nth_number numbers in
     record { n1 = nth 0; n2 = nth 1; n3 = nth 2; n4 = nth 3; piece = nth 4; wrap = nth 5; directed = flag_of (nth 6) }
 
--- simplex(n,n0,n1,n2,n3,n4,directed)
+-- the parameters of simplex(n,n0,n1,n2,n3,n4,directed), of these integers in their order
 abbrev pub simplex_params : List ℤ → SimplexParams
 simplex_params numbers = let nth = nth_number numbers in
     record { n = nth 0; n0 = nth 1; n1 = nth 2; n2 = nth 3; n3 = nth 4; n4 = nth 5; directed = flag_of (nth 6) }
 
--- subsets(n,n0,n1,n2,n3,n4,size_bits,directed)
+-- the parameters of subsets(n,n0,n1,n2,n3,n4,size_bits,directed), of six integers, the bits and the flag
 abbrev pub subsets_params : List ℤ → ℕ → ℤ → SubsetsParams
 subsets_params numbers size_bits directed = let nth = nth_number numbers in
     record { n = nth 0; n0 = nth 1; n1 = nth 2; n2 = nth 3; n3 = nth 4; n4 = nth 5; size_bits = size_bits; directed = flag_of directed }
 
--- n words of a language, each after a separator, which is `,` from the second on, and then this end
+-- n words of a language, the first after this separator and each other after a comma, and then this end
 abbrev pub AreSeparated : {V : Type 0} → (List ℕ → V → Type 0) → List ℕ → ℕ → List ℕ → List ℕ → List V → Type 0
 AreSeparated Word separator zero end = Fixed [] end
 AreSeparated Word separator (suc n) end = After separator (Cons Word (AreSeparated Word (codes ",") n end))

@@ -15,7 +15,7 @@ AreNumbers make = As (λ numbers. Expression.OfNumbers (make numbers)) (AreArgum
 abbrev pub AreOperand : (List ℕ → Expression → Type 0) → (List ℤ → OnGraph) → ℕ → List ℕ → Expression → Type 0
 AreOperand Inner make n = Then Inner (λ graph. As (λ numbers. Expression.OfGraph (make numbers) graph) (AreArguments (codes ",") n))
 
--- two graphs and two integers, to a `)`, as the operation that is made of them
+-- two graphs, whose texts Inner tells, and two integers, to a `)`, as the operation that is made of them
 abbrev pub AreOperands : (List ℕ → Expression → Type 0) → (List ℤ → OnGraphs) → List ℕ → Expression → Type 0
 AreOperands Inner make = Then Inner (λ first. After (codes ",") (Then Inner (λ second.
     As (λ numbers. Expression.OfGraphs (make numbers) first second) (AreArguments (codes ",") 2))))

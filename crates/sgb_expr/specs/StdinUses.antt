@@ -12,12 +12,12 @@ abbrev mutual
   has_stdin (Induced graph entries self_loops multi directed) = has_stdin graph || entries_have_stdin entries
   has_stdin Stdin = true
 
-  -- or in an entry
+  -- whether `stdin` stands anywhere in an entry
   pub entry_has_stdin : Entry → Bool
   entry_has_stdin (Number n) = false
   entry_has_stdin (Graph e) = has_stdin e
 
-  -- or in one of some entries
+  -- whether `stdin` stands anywhere in one of some entries
   pub entries_have_stdin : Entries → Bool
   entries_have_stdin NoEntries = false
   entries_have_stdin (EntryThen entry others) = entry_has_stdin entry || entries_have_stdin others

@@ -17,7 +17,7 @@ most_number_digits = 18
 abbrev pub IsNumberText : List ℕ → ℕ → Type 0
 IsNumberText = IsNumber 10 most_number_digits
 
--- the same, where the number is below a limit
+-- the text of a number of the file's own that is below a limit
 abbrev pub IsNumberBelow : ℕ → List ℕ → ℕ → Type 0
 IsNumberBelow limit text k = IsNumberText text k × (k < limit)
 

@@ -24,12 +24,12 @@ ValueCanBeSaved (VertexField r) = ⊤
 ValueCanBeSaved (Str s) = IsText s
 ValueCanBeSaved (Chain first) = ⊤
 
--- a vertex's name and fields
+-- a vertex whose name and fields a file can hold
 pub record VertexCanBeSaved (v : Vertex) : Type 0 where
   pub name : IsText v.name
   pub util : All ValueCanBeSaved v.util
 
--- an arc record's length and fields
+-- an arc record whose length and fields a file can hold
 pub record ArcCanBeSaved (r : ArcRec) : Type 0 where
   pub len : FitsSigned w64 r.len
   pub a : ValueCanBeSaved r.a
@@ -45,13 +45,14 @@ pub record IsWritable (g : GraphData) : Type 0 where
   pub vertices : All VertexCanBeSaved g.vertices
   pub records : All ArcCanBeSaved g.records
 
--- such parts whose fields fit their kinds; their lists need not be sound
+-- parts that a file can hold, of not too many vertices, whose fields fit their kinds; their lists need not be
+-- sound
 pub record CanBeChecked (g : GraphData) : Type 0 where
   pub vertices_fit : IsTrue (nat_le (length g.vertices) most_vertices)
   pub fields : IsTrue (fields_fit g)
   pub writable : IsWritable g
 
--- such parts that make up a graph
+-- parts that make up a graph, and that a file can hold
 pub record CanBeSaved (g : GraphData) : Type 0 where
   pub graph : IsGraph g
   pub writable : IsWritable g

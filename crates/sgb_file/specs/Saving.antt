@@ -19,13 +19,13 @@ most_file_line_bytes = 79
 abbrev pub quoted : List ℕ → List ℕ
 quoted bytes = 34 ∷ (bytes ++ 34 ∷ [])
 
--- the text of a vertex
+-- the text of a field that leads to a vertex, V and its number; or to none, 0 or 1
 abbrev pub ref_text : Ref → List ℕ
 ref_text Null = codes "0"
 ref_text One = codes "1"
 ref_text (At v) = codes "V" ++ decimal v
 
--- the text of an arc record's number
+-- the text of an arc record's number: A and it, or 0 where there is none
 abbrev pub record_number_text : Option ℕ → List ℕ
 record_number_text None = codes "0"
 record_number_text (Some k) = codes "A" ++ decimal k

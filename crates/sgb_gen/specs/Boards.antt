@@ -33,15 +33,15 @@ accepted_board p = and_then (board_of p.n1 p.n2 p.n3 p.n4) (λ shape.
     and_then (piece_of p.piece) (λ piece.
     Ok (record { params = shape.params; sizes = sizes; piece = piece; wrap = p.wrap; directed = p.directed }))))
 
--- its id: board(n1,n2,n3,n4,piece,wrap,directed)
+-- the id of an accepted board: board(n1,n2,n3,n4,piece,wrap,directed)
 unfoldable pub board_id : BoardData → List ℕ
 board_id b = call_text (codes "board") (map signed_decimal (b.params ++ (b.piece ∷ b.wrap ∷ [])) ++ flag_text b.directed ∷ [])
 
--- its moves, from one vertex to another
+-- the moves on an accepted board, from one vertex to another
 abbrev pub moves_of_board : BoardData → List Move
 moves_of_board b = board_moves (sides_of b.sizes b.wrap) b.piece (box b.sizes) (length b.sizes)
 
--- its graph, as one of vectors: its vertices are those of the box of its sizes
+-- the graph of an accepted board: its vertices are the vectors of the box of its sizes
 abbrev pub board_vector_graph : BoardData → VectorGraph
 board_vector_graph b = record { id = board_id b; directed = b.directed; vectors = box b.sizes; moves = moves_of_board b }
 

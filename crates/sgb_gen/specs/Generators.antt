@@ -27,7 +27,8 @@ generator_value (generator.Subsets p) = subsets p
 abbrev pub made : Result Description Panic → Result GraphData Panic
 made value = and_then value (λ d. Ok (graph_described d))
 
--- a generator is refused with this code by what needs no memory: a board for whatever refuses it, others for all but counts
+-- a generator is refused with this code by what needs no memory: a board for whatever refuses it, others for
+-- all but that they have too many vectors
 abbrev pub IsGeneratorRefused : Generator → Panic → Type 0
 IsGeneratorRefused (generator.Board p) code = board p ≡ Err code
 IsGeneratorRefused (generator.Simplex p) code = simplex_of p.n p.n0 p.n1 p.n2 p.n3 p.n4 ≡ Err code
@@ -57,15 +58,15 @@ sort_made (generator.Board p) = of_board
 sort_made (generator.Simplex p) = of_simplex
 sort_made (generator.Subsets p) = of_subsets
 
--- the graph of accepted parameters
+-- the description of the graph of accepted parameters
 abbrev pub described : Local → Description
 described l = described_by (vector_graph_of l)
 
--- the vectors that are its vertices
+-- the vectors that are the vertices of the graph of accepted parameters
 abbrev pub vectors_of : Local → List (List ℕ)
 vectors_of l = (vector_graph_of l).vectors
 
--- the accepted parameters of a graph, or its refusal, or out of memory
+-- the result is accepted parameters whose graph is the one described, or its refusal, or out of memory
 abbrev pub IsLocalOf : Result Description Panic → Result Local Panic → Type 0
 IsLocalOf value (Ok l) = value ≡ Ok (described l)
 IsLocalOf value (Err p) = (value ≡ Err p) ⊎ (p ≡ NoRoom)

@@ -4,7 +4,7 @@ use Rattle.std.specs.Prelude.{ℤ, pos, negsuc, ◌-ℤ◌, Bool, true, false}
 use Rattle.sgb_gen.specs.declared.params.BoardParams.{BoardParams}
 use Rattle.sgb_gen.specs.declared.params.SubsetsParams.{SubsetsParams}
 
--- a board of one dimension
+-- a board of one dimension, with n places
 abbrev pub line : ℤ → ℤ → ℤ → Bool → BoardParams
 line n piece wrap directed = record { n1 = n; n2 = pos 0; n3 = pos 0; n4 = pos 0; piece = piece; wrap = wrap; directed = directed }
 

@@ -47,19 +47,19 @@ moves_to bounds v =
     map (λ at. record { from = unit_moved v at.lower at.higher; to = v; len = 1 })
     (filter (λ at. can_move_unit bounds v at.lower at.higher) (pairs_of_places (length v)))
 
--- its id: simplex(n,n0,n1,n2,n3,n4,directed)
+-- the id of an accepted simplex: simplex(n,n0,n1,n2,n3,n4,directed)
 unfoldable pub simplex_id : SimplexData → List ℕ
 simplex_id s = call_text (codes "simplex") (map signed_decimal s.params ++ flag_text s.directed ∷ [])
 
--- its vertices: the vectors of the bounded sum
+-- the vertices of an accepted simplex: the vectors of its bounded sum
 abbrev pub simplex_vectors : SimplexData → List (List ℕ)
 simplex_vectors s = bounded_sums s.sum.total s.sum.bounds
 
--- its moves, for each vertex in order those to it
+-- the moves of an accepted simplex: for each vertex in order those to it
 unfoldable pub moves_of_simplex : SimplexData → List Move
 moves_of_simplex s = flat_map (moves_to s.sum.bounds) (simplex_vectors s)
 
--- its graph, as one of vectors
+-- the graph of an accepted simplex, whose vertices are vectors
 abbrev pub simplex_vector_graph : SimplexData → VectorGraph
 simplex_vector_graph s = record { id = simplex_id s; directed = s.directed; vectors = simplex_vectors s; moves = moves_of_simplex s }
 

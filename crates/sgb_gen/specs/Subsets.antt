@@ -19,7 +19,8 @@ pub record SubsetsData : Type 0 where
   pub size_bits : ℕ
   pub directed : Bool
 
--- the subsets of these parameters, or why they are refused: as a simplex is
+-- the subsets of these parameters; or, in order, a negative n, too many dimensions, n above 1,000,000,000,
+-- too many vectors
 abbrev pub accepted_subsets : SubsetsParams → Result SubsetsData Panic
 accepted_subsets p = and_then (simplex_of p.n p.n0 p.n1 p.n2 p.n3 p.n4) (λ shape.
     and_then (sum_of p.n shape.sizes) (λ s.
@@ -40,20 +41,20 @@ moves_to_place size_bits vectors i = let v = slice_index_or vectors i [] in
     map (λ u. record { from = u; to = v; len = 1 })
     (filter (λ u. is_wanted_size size_bits (common_size u v)) (take (i + 1) vectors))
 
--- their id: subsets(n,n0,n1,n2,n3,n4,0xH,directed)
+-- the id of accepted subsets: subsets(n,n0,n1,n2,n3,n4,0xH,directed), where 0xH is size_bits
 unfoldable pub subsets_id : SubsetsData → List ℕ
 subsets_id s = call_text (codes "subsets") (map signed_decimal s.params ++ (hexadecimal_text s.size_bits ∷ flag_text s.directed ∷ []))
 
--- their vertices: the vectors of the bounded sum
+-- the vertices of accepted subsets: the vectors of their bounded sum
 abbrev pub subsets_vectors : SubsetsData → List (List ℕ)
 subsets_vectors s = bounded_sums s.sum.total s.sum.bounds
 
--- their moves, for each vertex in order those to it
+-- the moves of accepted subsets: for each vertex in order those to it
 unfoldable pub moves_of_subsets : SubsetsData → List Move
 moves_of_subsets s = let vectors = subsets_vectors s in
     flat_map (moves_to_place s.size_bits vectors) (range_with_len 0 (length vectors))
 
--- their graph, as one of vectors
+-- the graph of accepted subsets, whose vertices are vectors
 abbrev pub subsets_vector_graph : SubsetsData → VectorGraph
 subsets_vector_graph s = record { id = subsets_id s; directed = s.directed; vectors = subsets_vectors s; moves = moves_of_subsets s }
 

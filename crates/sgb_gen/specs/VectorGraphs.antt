@@ -59,6 +59,6 @@ family_graph id directed vectors moves = record {
   fields = map fields_of_vector vectors;
 }
 
--- a graph of vectors as a graph
+-- the description of a graph whose vertices are vectors
 abbrev pub described_by : VectorGraph → Description
 described_by g = family_graph g.id g.directed g.vectors g.moves

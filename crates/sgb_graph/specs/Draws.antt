@@ -31,11 +31,11 @@ unfoldable pub back_to_first : ℕ → ℕ → List ℕ
 back_to_first seed zero = map (λ i. y_number seed (21 * i % 55)) (reverse (range_with_len 1 55))
 back_to_first seed (suc k) = let xs = back_to_first seed k in difference (slice_index xs 54) (slice_index xs 23) ∷ xs
 
--- X(n) for n from 1 on
+-- X(n) for n from 1 on, by this seed
 abbrev pub x_number : ℕ → ℕ → ℕ
 x_number seed n = slice_index (back_to_first seed (n - 55)) (55 - n)
 
--- draw number t, from 0
+-- draw number t, from 0: of each 55 numbers the last is drawn first, from X(276) to X(330) on, without X(330)
 abbrev pub draw : ℕ → ℕ → ℕ
 draw seed t = x_number seed (55 * (5 + (t + 1) / 55) + 55 - (t + 1) % 55)
 

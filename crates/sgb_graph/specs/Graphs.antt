@@ -21,15 +21,15 @@ pub record GraphData : Type 0 where
   pub vertices : List Vertex
   pub records : List ArcRec
 
--- the fields of an arc record hold nothing
+-- the utility fields a and b of an arc record hold nothing
 abbrev pub HasNoFields : ArcRec → Type 0
 HasNoFields r = (r.a ≡ Nothing) × (r.b ≡ Nothing)
 
--- a record that leads to v, before the one given, with no utility fields
+-- a record that leads to v, with this length and no utility fields, and the record after it, if any
 abbrev pub arc_record : ℕ → Option ℕ → ℤ → ArcRec
 arc_record v after far = record { tip = At v; next = after; len = far; a = Nothing; b = Nothing }
 
--- the numbers of the records from the first one on by next; at most as many as the fuel says
+-- the numbers of the records from the first one on by next; fuel is how many at most, so that this ends
 unfoldable pub numbers_from : ℕ → List ArcRec → Option ℕ → List ℕ
 numbers_from zero records first = []
 numbers_from (suc fuel) records first =
@@ -49,12 +49,12 @@ numbers_of records first = numbers_from (length records) records first
 abbrev pub ends_of : List ArcRec → Option ℕ → Bool
 ends_of records first = ends_from (length records) records first
 
--- the vertex of a tip
+-- the vertex that a tip leads to, or 0 where it leads to none
 abbrev pub vertex_of : Ref → ℕ
 vertex_of (At v) = v
 vertex_of _ = 0
 
--- the arc of the record of this number
+-- the arc of the record of this number, or none where there is no such record
 abbrev pub link_of : List ArcRec → ℕ → List Link
 link_of records k = option_map_or (λ r. record { number = k; tip = vertex_of r.tip; len = r.len } ∷ []) (slice_get records k) []
 

@@ -84,7 +84,7 @@ abbrev pub with_event : Bool → GraphData → Event → GraphData
 with_event true g e = with_arc g e.from e.to e.len
 with_event false g e = with_edge g e.from e.to e.len
 
--- with these events, one after another
+-- the graph with these events more, one after another
 abbrev pub with_events : Bool → GraphData → List Event → GraphData
 with_events directed g events = fold (with_event directed) g events
 

@@ -17,15 +17,15 @@ use Rattle.sgb_graph.specs.declared.fields.ArcRec.{ArcRec}
 abbrev pub vertex_kinds : List Kind → List Kind
 vertex_kinds kinds = take 6 kinds
 
--- those of an arc's fields a b
+-- of the fourteen kinds, those of an arc's fields a b
 abbrev pub arc_kinds : List Kind → List Kind
 arc_kinds kinds = slice_range kinds 6 8
 
--- those of the graph's own fields uu vv ww xx yy zz
+-- of the fourteen kinds, those of the graph's own fields uu vv ww xx yy zz
 abbrev pub graph_kinds : List Kind → List Kind
 graph_kinds kinds = drop 8 kinds
 
--- this is a vertex
+-- this leads to a vertex
 abbrev pub is_vertex : Ref → Bool
 is_vertex (At v) = true
 is_vertex _ = false
@@ -40,12 +40,12 @@ is_sound g =
     list_all (λ k. ends_of g.records (Some k)) (range_with_len 0 (length g.records))
     && list_all (λ v. list_all (leads_to_vertex g.records) (numbers_of g.records v.arcs)) g.vertices
 
--- one of n vertices, or none
+-- this leads to one of n vertices, or to none
 abbrev pub ref_fits : ℕ → Ref → Bool
 ref_fits n (At v) = nat_lt v n
 ref_fits n _ = true
 
--- one of m arc records, or none
+-- this is the number of one of m arc records, or none
 abbrev pub chain_fits : ℕ → Option ℕ → Bool
 chain_fits m first = option_map_or (λ k. nat_lt k m) first true
 
@@ -64,13 +64,13 @@ utils_fit n m [] [] = true
 utils_fit n m (kind ∷ kinds) (util ∷ utils) = util_fits n m kind util && utils_fit n m kinds utils
 utils_fit n m _ _ = false
 
--- a vertex's fields fit
+-- a vertex's first arc record is there, if it has one, and its utility fields fit their kinds
 abbrev pub vertex_fits : GraphData → Vertex → Bool
 vertex_fits g v =
     chain_fits (length g.records) v.arcs
     && utils_fit (length g.vertices) (length g.records) (vertex_kinds g.kinds) v.util
 
--- an arc record's fields fit
+-- where an arc record leads and the record after it are there, if any, and its utility fields fit
 abbrev pub record_fits : GraphData → ArcRec → Bool
 record_fits g r =
     ref_fits (length g.vertices) r.tip && chain_fits (length g.records) r.next

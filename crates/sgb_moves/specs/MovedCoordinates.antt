@@ -17,7 +17,7 @@ abbrev pub part_at : List ℕ → ℤ → List ℕ → ℕ → ℕ × ℤ → Op
 part_at sizes wrap x l p =
     coordinate_on (record { size = get_or sizes p.0 0; wraps = is_bit_set wrap p.0 }) (pos (get_or x p.0 0) +ℤ pos l *ℤ p.1)
 
--- a vector in which they stand where they lead
+-- the vector `there` with each moved coordinate put where it leads at length l from x
 abbrev pub parts_put : List ℕ → ℤ → List ℕ → ℕ → List (ℕ × ℤ) → List ℕ → List ℕ
 parts_put sizes wrap x l [] there = there
 parts_put sizes wrap x l (p ∷ parts) there = parts_put sizes wrap x l parts (set there p.0 (unwrap_or (part_at sizes wrap x l p) 0))

@@ -16,7 +16,7 @@ use Rattle.sgb_gen.specs.Shorthands.{line}
 use Rattle.sgb_graph.specs.Made.{graph_described}
 use Rattle.sgb_ops.specs.Boards.{pair_of_vertices}
 
--- the entry of that many vertices in the middle, or why they are refused: a negative number; then too many
+-- the entry of n1 vertices in the middle of a wheel, or why they are refused: n1 is negative; then too great
 abbrev pub accepted_middle : ℤ → Result Entry Panic
 accepted_middle (negsuc n1) = Err Bad
 accepted_middle (pos n1) = if nat_lt most_vertices n1 then Err VeryBad else Ok (entry.Copies n1)

@@ -27,6 +27,6 @@ pub record Enters (words : List Text) (command : Text) (rows : List Row) : Type 
   pub taken : fault_of command_line words ≡ []
   pub entered : subcommand_of command_line words ≡ Some (command, rows)
 
--- the same, and its expression is this text
+-- clap takes the words, which enter this command with these matches, and its EXPR is this text
 abbrev pub Asks : List Text → Text → List Row → Text → Type 0
 Asks words command rows text = Enters words command rows × (first_of (codes "EXPR") rows ≡ Some text)

@@ -29,7 +29,7 @@ fault_line NoVertex = codes "sgb: no such vertex\n"
 fault_line Read = codes "sgb: read fault\n"
 fault_line Write = codes "sgb: write fault\n"
 
--- the fault for an error of clap's of this kind
+-- the fault for an error of clap's of this kind: out of memory, else an invalid command line
 abbrev pub fault_of_kind : ErrorKind → Fault
 fault_of_kind OutOfMemory = Panic NoRoom
 fault_of_kind _ = Usage

@@ -30,12 +30,13 @@ abbrev pub IsReadBy : (Expr → Request) → List ℕ → Result Request Fault �
 IsReadBy make text (Ok r) = (e : Expr) × IsReadAs text (Ok e) × (r ≡ make e)
 IsReadBy make text (Err f) = IsReadAs text (Err f) ⊎ (f ≡ fault.Panic NoRoom)
 
--- the same of the text of a flip
+-- what the words are read as, where one of them is the text of a flip: the request for its numbers, or the
+-- refusal of the text; out of memory words are refused before it is read
 abbrev pub IsFlipReadBy : List ℕ → Result Request Fault → Type 0
 IsFlipReadBy text (Ok r) = (p : FlipParams) × IsFlipReadAs text (Ok p) × (r ≡ request.Flip p)
 IsFlipReadBy text (Err f) = IsFlipReadAs text (Err f) ⊎ (f ≡ fault.Panic NoRoom)
 
--- the same where no text is read: the words are refused out of memory alone
+-- what the word `queen` is read as: its request; out of memory the words are refused, and for nothing else
 abbrev pub IsQueenRead : Result Request Fault → Type 0
 IsQueenRead (Ok r) = r ≡ request.Queen
 IsQueenRead (Err f) = f ≡ fault.Panic NoRoom

@@ -13,10 +13,10 @@ abbrev pub IsReadOrRefused : {T : Type 0} → (Result T Unread → Type 0) → R
 IsReadOrRefused IsRead (Ok x) = IsRead (Ok x)
 IsReadOrRefused IsRead (Err f) = (cause : Unread) × IsRead (Err cause) × (f ≡ fault_of_unread cause)
 
--- the text is read as this expression, or refused so
+-- the text is read as this expression, or refused with this fault
 abbrev pub IsReadAs : List ℕ → Result Expr Fault → Type 0
 IsReadAs text = IsReadOrRefused (IsExpressionRead text)
 
--- the text is read as this flip, or refused so
+-- the text is read as this flip, or refused with this fault
 abbrev pub IsFlipReadAs : List ℕ → Result FlipParams Fault → Type 0
 IsFlipReadAs text = IsReadOrRefused (IsFlipRead text)

@@ -75,7 +75,7 @@ abbrev mutual
   values_of stdin NoEntries = Ok []
   values_of stdin (EntryThen first others) = and_then (both (entry_value stdin first) (values_of stdin others)) (λ p. Ok (p.0 ∷ p.1))
 
--- what comes of the value of `stdin` where standard input has these bytes
+-- x is what f makes of the value of `stdin`, where standard input has these bytes
 abbrev pub IsOn : {T : Type 0} → (Result GraphData Panic → T) → List ℕ → T → Type 0
 IsOn f input x = (stdin : Result GraphData Panic) × IsStdinValue input stdin × (x ≡ f stdin)
 

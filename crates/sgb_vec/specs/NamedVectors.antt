@@ -11,7 +11,7 @@ pub record IsVector (x : List ℕ) : Type 0 where
   pub short : length x ≤ most_dimensions + 1
   pub small : All (λ entry. entry ≤ most_entry) x
 
--- the same as a test
+-- whether a name may stand for this vector
 abbrev pub is_vector : List ℕ → Bool
 is_vector x = nat_le (length x) (most_dimensions + 1) && list_all (λ entry. nat_le entry most_entry) x
 

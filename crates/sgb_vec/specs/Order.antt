@@ -13,7 +13,7 @@ IsNext vectors v w = (i : ℕ) → slice_get vectors i ≡ Some v → slice_get 
 abbrev pub IsLast : List (List ℕ) → List ℕ → Type 0
 IsLast vectors v = (i : ℕ) → slice_get vectors i ≡ Some v → length vectors ≡ i + 1
 
--- v is the one at the end
+-- v is the vector at the end of the list
 abbrev pub IsFinal : List (List ℕ) → List ℕ → Type 0
 IsFinal vectors v = slice_get vectors (length vectors - 1) ≡ Some v
 
