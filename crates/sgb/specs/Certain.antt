@@ -39,8 +39,7 @@ IsListedAtOnce (generator.Board p) resume = (g : GraphData) → made (board p) �
 IsListedAtOnce (generator.Simplex p) resume = IsAcceptedAtOnce (generator.Simplex p)
 IsListedAtOnce (generator.Subsets p) resume = IsAcceptedAtOnce (generator.Subsets p)
 
--- answering the request takes no memory: random numbers, the names of a generator's graph that is accepted
--- without memory, the listings of IsListedAtOnce, and what is refused at once
+-- answering takes no memory: random numbers, names of a graph accepted without any, listings of IsListedAtOnce, refusals
 abbrev pub NeedsNoMemory : Request → Type 0
 NeedsNoMemory (request.Names e resume) = ((f : Generator) × (e ≡ expr.Generator f) × IsAcceptedAtOnce f) ⊎ IsRefusedAtOnce (expression_of e)
 NeedsNoMemory (request.List e resume) = ((f : Generator) × (e ≡ expr.Generator f) × IsListedAtOnce f resume) ⊎ IsRefusedAtOnce (expression_of e)

@@ -10,13 +10,11 @@ use Rattle.sgb.specs.Writing.{IsEndedBy}
 abbrev pub LosesAtMost : ℕ → Option (List ℕ) → Option (List ℕ) → Type 0
 LosesAtMost most old new = (bs : List ℕ) × (length bs ≤ most) × Consumes old new bs
 
--- reading a source, which then has failed or not, ended: well where it is sound, else with a read fault, or
--- out of memory
+-- reading a source, which then has failed or not, ended: well where it is sound, else with a read fault, or out of memory
 abbrev pub IsReadFrom : {T : Type 0} → Bool → Result T Fault → Type 0
 IsReadFrom failed (Ok x) = failed ≡ false
 IsReadFrom failed (Err f) = IsEndedBy fault.Read failed f
 
--- what is kept of standard input: the bytes that it tells, up to the first that is too many; any bytes where
--- it tells none
+-- what is kept of standard input: the bytes that it tells, up to the first that is too many; any bytes where it tells none
 abbrev pub IsKeptOfInput : Option (List ℕ) → List ℕ → Type 0
 IsKeptOfInput told kept = IfSome told (λ input. kept ≡ take (most_input + 1) input)

@@ -29,8 +29,7 @@ left_out names resume.Whole = Ok 0
 left_out names (resume.Skip k) = Ok k
 left_out names (resume.After name) = ok_or (option_map suc (position (λ other. pointwise nat_eq other name) names)) fault.NoVertex
 
--- the answer of a command `names`, of vertices with these names: those that are not left out, one a line; or
--- no vertex has the name
+-- the answer of a command `names`, of vertices with these names: those not left out, one a line; or no vertex has the name
 abbrev pub names_answer : List (List ℕ) → Resume → Result (List ℕ) Fault
 names_answer names resume = result_map_both (name_lines names) (λ f. f) (left_out names resume)
 
@@ -39,8 +38,7 @@ abbrev pub head_for : Resume → List ℕ → List ℕ
 head_for resume.Whole text = text
 head_for _ text = []
 
--- the answer of a command `list`, of a graph: its head, unless the listing is resumed, and the blocks that
--- are not left out; or no vertex has the name
+-- the answer of a command `list`, of a graph: its head, unless it is resumed, and the blocks not left out; or no such vertex
 abbrev pub list_answer : GraphData → Resume → Result (List ℕ) Fault
 list_answer g resume = result_map_both (λ k. head_for resume (head g) ++ blocks g k) (λ f. f) (left_out (names_of g) resume)
 

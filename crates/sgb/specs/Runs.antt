@@ -46,9 +46,8 @@ pub record IsReportedAs {S : Type 0} (text : List ℕ) (code : ℕ) (l : Left S)
 abbrev pub IsReported : {S : Type 0} → Fault → Left S → Type 0
 IsReported f l = IsReportedAs (fault_line f) (status_of f) l
 
--- a run leaves this, by whether the input that it read failed and by its answer: a read fault that was
--- reported, and nothing else; or the answer, given or stopped, and where that is a refusal the output sink is
--- as it was, also out of memory
+-- a run leaves this, by whether the input that it read failed and by its answer: a read fault that was reported, and nothing
+-- else; or the answer, given or stopped, and where that is a refusal the output sink is as it was, also out of memory
 abbrev pub IsRunFrom : {S : Type 0} → Bool → Result (List ℕ) Fault → Left S → Type 0
 IsRunFrom failed answer l = MatchBool failed
     (IsReported fault.Read l) (IsRunOf (outcome_of answer) l × IfErr answer (λ f. l.out.new ≡ l.out.old))
@@ -58,25 +57,21 @@ pub record Input : Type 0 where
   pub bytes : Option (List ℕ)
   pub failed : Bool
 
--- a run that answers this request leaves this: standard input holds a text, the one that it tells if it tells
--- one, and a run leaves this by the answer on it (one that reads none is answered alike on every text:
--- input_unread_law)
+-- a run that answers this request leaves this: standard input holds a text, the one that it tells if it tells one, and a run
+-- leaves this by the answer on it (one that reads none is answered alike on every text: input_unread_law)
 abbrev pub IsRunOn : {S : Type 0} → Request → Input → Left S → Type 0
 IsRunOn r source l = (held : List ℕ) × IfSome source.bytes (λ bytes. held ≡ bytes)
     × (answer : Result (List ℕ) Fault) × IsAnswered r held answer × IsRunFrom (reads_input r && source.failed) answer l
 
--- these bytes count for an answer that reads standard input or not: those that are kept of what it tells, or
--- none
+-- these bytes count for an answer that reads standard input or not: those that are kept of what it tells, or none
 abbrev pub AreUsed : Bool → Option (List ℕ) → List ℕ → Type 0
 AreUsed reads told used = (reads ≡ true → IsKeptOfInput told used) × (reads ≡ false → used ≡ [])
 
--- a program leaves this that reads standard input or not, and has these answers on bytes: some bytes count,
--- and by each answer on them a run leaves this
+-- a program that reads standard input or not, with these answers on bytes, leaves this: each answer on the bytes that count
 abbrev pub IsAnswerRun : {S : Type 0} → Bool → (List ℕ → Result (List ℕ) Fault → Type 0) → Input → Left S → Type 0
 IsAnswerRun reads answers source l = (used : List ℕ) × AreUsed reads source.bytes used
     × ((a : Result (List ℕ) Fault) → answers used a → IsRunFrom (reads && source.failed) a l)
 
--- a program that reads no input leaves this: where the output sink is sound, each answer on no bytes was
--- given in full
+-- a program that reads no input leaves this: where the output sink is sound, each answer on no bytes was given in full
 abbrev pub IsAnswerGiven : {S : Type 0} → (List ℕ → Result (List ℕ) Fault → Type 0) → Left S → Type 0
 IsAnswerGiven answers l = l.out.told.failed ≡ false → (a : Result (List ℕ) Fault) → answers [] a → IsGiven (outcome_of a) l

@@ -48,7 +48,6 @@ IsEnded (Ok text) out r = IsWritten text out.told r
 IsEnded (Err g) out (Ok x) = ⊥
 IsEnded (Err g) out (Err f) = ((f ≡ g) ⊎ (f ≡ fault.Panic NoRoom)) × IsUntouched out
 
--- how the answer to a request ended: where reading standard input failed, with a read fault and the sink
--- untouched; else by the answer itself
+-- how the answer to a request ended: where reading failed, with a read fault and the sink untouched; else by the answer itself
 abbrev pub IsEndedFrom : {T S : Type 0} → Bool → Result (List ℕ) Fault → Effect S → Result T Fault → Type 0
 IsEndedFrom failed answer out r = MatchBool failed (IsUntouched out × (r ≡ Err fault.Read)) (IsEnded answer out r)

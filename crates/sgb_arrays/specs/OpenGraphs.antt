@@ -26,8 +26,7 @@ abbrev pub graph_of_operand : Operand → GraphData
 graph_of_operand (Lent g) = g.now
 graph_of_operand (Made g) = g
 
--- why the file of a graph is not put into an array: it has not as many places as the file has bytes; or want
--- of memory, where this takes some
+-- why a graph's file is not put into an array: it has not as many places as the file has bytes; or out of memory, where it may
 abbrev pub IsFileRefusal : GraphData → ℕ → (memory : Type 0) → Wrong → Type 0
 IsFileRefusal g places memory wrong.Length = places ≡ length (text_of_graph g) → ⊥
 IsFileRefusal g places memory wrong.NoRoom = memory

@@ -63,7 +63,6 @@ IsFillRefusal g first count fits memory wrong.Length = IsThere g first count × 
 IsFillRefusal g first count fits memory wrong.NoRoom = IsThere g first count × memory
 IsFillRefusal g first count fits memory _ = ⊥
 
--- why the size of a run is not told: vertices that are none of the graph; else want of memory, where this
--- takes some
+-- why the size of a run is not told: vertices that are none of the graph; else want of memory, where this takes some
 abbrev pub IsSizeRefusal : GraphData → ℕ → ℕ → (memory : Type 0) → Wrong → Type 0
 IsSizeRefusal g first count = IsFillRefusal g first count (Unit {0})

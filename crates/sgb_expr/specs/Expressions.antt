@@ -27,9 +27,8 @@ abbrev pub IsTooLarge : List ℕ → Type 0
 IsTooLarge text = (65_536 < length text)
     ⊎ ((k : ℕ) × (k ≤ length text) × (count_by (λ byte. byte == 41) (take k text) + 64 < count_by (λ byte. byte == 40) (take k text)))
 
--- what reading a text of a language gives: something that stands for the value of which the text is a word;
--- or why it is not read: too large before all else; no word, with the length of the longest prefix that
--- begins one; or out of memory, where reading takes some
+-- what reading a text gives: something that stands for the value of which it is a word; or why it is not read: too large,
+-- before all else; no word, with the length of the longest prefix that begins one; or out of memory, where reading takes some
 abbrev pub IsTextRead : {V T : Type 0} → (List ℕ → V → Type 0) → (memory : Type 0) → (T → V) → List ℕ → Result T Unread → Type 0
 IsTextRead Word memory stands_for text (Ok x) = (IsTooLarge text → ⊥) × Word text (stands_for x)
 IsTextRead Word memory stands_for text (Err unread.TooLarge) = IsTooLarge text

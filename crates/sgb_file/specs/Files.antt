@@ -74,8 +74,7 @@ IsFirstLine kinds n m line = (vertices arcs anything : List ℕ) × IsNumberText
 abbrev pub IsComment : List ℕ → Type 0
 IsComment line = IsTrue (has_star line) × ((kinds : List Kind) (n m : ℕ) → IsFirstLine kinds n m line → ⊥)
 
--- a line with a checksum: this one; or one with a minus, of any number but 0, or of 0 where this one is 0.
--- Then anything but a digit
+-- a line with a checksum: this one; or one with a minus, of any number but 0, or of 0 where this one is 0; then no digit
 abbrev pub IsChecksumLine : ℕ → List ℕ → Type 0
 IsChecksumLine sum line =
     (digits anything : List ℕ) × (k : ℕ) × IsNumberText digits k × IsFalse (is_ascii_digit (slice_index anything 0))

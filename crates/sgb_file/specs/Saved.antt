@@ -45,8 +45,7 @@ pub record IsWritable (g : GraphData) : Type 0 where
   pub vertices : All VertexCanBeSaved g.vertices
   pub records : All ArcCanBeSaved g.records
 
--- parts that a file can hold, of not too many vertices, whose fields fit their kinds; their lists need not be
--- sound
+-- parts that a file can hold, of not too many vertices, whose fields fit their kinds; their lists need not be sound
 pub record CanBeChecked (g : GraphData) : Type 0 where
   pub vertices_fit : IsTrue (nat_le (length g.vertices) most_vertices)
   pub fields : IsTrue (fields_fit g)

@@ -27,8 +27,7 @@ generator_value (generator.Subsets p) = subsets p
 abbrev pub made : Result Description Panic → Result GraphData Panic
 made value = and_then value (λ d. Ok (graph_described d))
 
--- a generator is refused with this code by what needs no memory: a board for whatever refuses it, others for
--- all but that they have too many vectors
+-- a generator is refused with this code by what needs no memory: a board for whatever it is, others for all but their counts
 abbrev pub IsGeneratorRefused : Generator → Panic → Type 0
 IsGeneratorRefused (generator.Board p) code = board p ≡ Err code
 IsGeneratorRefused (generator.Simplex p) code = simplex_of p.n p.n0 p.n1 p.n2 p.n3 p.n4 ≡ Err code

@@ -19,8 +19,7 @@ pub record SubsetsData : Type 0 where
   pub size_bits : ℕ
   pub directed : Bool
 
--- the subsets of these parameters; or, in order, a negative n, too many dimensions, n above 1,000,000,000,
--- too many vectors
+-- the subsets of these parameters; or, in order, a negative n, too many dimensions, n above 1,000,000,000, too many vectors
 abbrev pub accepted_subsets : SubsetsParams → Result SubsetsData Panic
 accepted_subsets p = and_then (simplex_of p.n p.n0 p.n1 p.n2 p.n3 p.n4) (λ shape.
     and_then (sum_of p.n shape.sizes) (λ s.

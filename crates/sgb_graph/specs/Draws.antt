@@ -35,7 +35,7 @@ back_to_first seed (suc k) = let xs = back_to_first seed k in difference (slice_
 abbrev pub x_number : ℕ → ℕ → ℕ
 x_number seed n = slice_index (back_to_first seed (n - 55)) (55 - n)
 
--- draw number t, from 0: of each 55 numbers the last is drawn first, from X(276) to X(330) on, without X(330)
+-- draw number t, from 0: X(329) down to X(276), then X(385) down to X(331), and so on, of each 55 numbers the last one first
 abbrev pub draw : ℕ → ℕ → ℕ
 draw seed t = x_number seed (55 * (5 + (t + 1) / 55) + 55 - (t + 1) % 55)
 

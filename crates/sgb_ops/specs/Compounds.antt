@@ -10,7 +10,6 @@ closing parameters = flat_map (λ text. 44 ∷ text) parameters ++ codes ")"
 abbrev pub line_name : Bool → List ℕ → List ℕ → List ℕ
 line_name directed a b = take 2_046 a ++ (if directed then codes "->" else codes "--") ++ take 2_047 b
 
--- the name of a and b with a sign between: of a pair a comma [product]; of b of a graph in the place of a a
--- colon [induced]
+-- the name of a and b with a sign between: of a pair a comma [product]; of b of a graph in the place of a a colon [induced]
 abbrev pub joined_name : List ℕ → List ℕ → List ℕ → List ℕ
 joined_name a sign b = take 2_047 a ++ sign ++ take 2_047 b

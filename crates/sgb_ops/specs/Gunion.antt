@@ -12,8 +12,7 @@ use Rattle.sgb_ops.specs.Merged.{merged_unless}
 use Rattle.sgb_graph.specs.IdTexts.{flag_text}
 use Rattle.sgb_ops.specs.Compounds.{closing}
 
--- the events of all vertices, with parallel ones: for each v the arcs taken of it in g, and then, where h has
--- vertex v too, those taken of it in h whose tip is a vertex of g
+-- the events of all vertices, with parallel ones: of each v the arcs taken in g, then those taken in h whose tip is in g
 abbrev pub union_events : GraphData → GraphData → Bool → List Event
 union_events g h directed = flat_map (λ v.
     map (λ l. record { from = v; to = l.tip; len = l.len })

@@ -28,8 +28,8 @@ abbrev pub common_count : Bool → ℕ → List Link → List Link → ℕ
 common_count true u gs hs = min (count_to u gs) (count_to u hs)
 common_count false u gs hs = min 1 (min (count_to u gs) (count_to u hs))
 
--- the length of the common arc that l of hs stands for: where parallel ones are wanted the greater of the
--- least length in gs and its own; else the greater of the least lengths in gs and in hs, of arcs to its tip
+-- the length of the common arc that l of hs stands for: where parallel ones are wanted the greater of the least length in gs
+-- and its own; else the greater of the least lengths in gs and in hs, of arcs to its tip
 abbrev pub common_length : Bool → List Link → List Link → Link → ℤ
 common_length true gs hs l = int_max (least_to l.tip gs) l.len
 common_length false gs hs l = int_max (least_to l.tip gs) (least_to l.tip hs)

@@ -42,15 +42,13 @@ abbrev pub meets : Bool → Line → Line → Bool
 meets true a b = b.from == a.to
 meets false a b = (a.from == b.from) || (a.from == b.to) || (a.to == b.from) || (a.to == b.to)
 
--- the events, each of length 1: from each line in order to each in order that it meets, of all lines, or
--- where undirected of the earlier ones
+-- the events, of length 1: from each line in order to each in order that it meets, of all lines, or undirected of earlier ones
 abbrev pub line_events : Bool → List Line → List Event
 line_events directed lines = flat_map (λ p.
     map (λ q. record { from = p.0; to = q.0; len = pos 1 })
     (filter (λ q. meets directed p.1 q.1) (enumerate_from 0 (if directed then lines else take p.0 lines)))) (enumerate_from 0 lines)
 
--- lines(g, directed): its vertices are the lines of g, and lines that meet have an event; or why it is
--- refused
+-- lines(g, directed): its vertices are the lines of g, and lines that meet have an event; or why it is refused
 abbrev pub line_graph_of : GraphData → Bool → Result Description Panic
 line_graph_of g directed = and_then (accepted_lines g directed (lines_of_graph g directed)) (λ lines.
     Ok (plain directed (line_events directed lines)

@@ -30,8 +30,7 @@ abbrev pub IsReadBy : (Expr → Request) → List ℕ → Result Request Fault �
 IsReadBy make text (Ok r) = (e : Expr) × IsReadAs text (Ok e) × (r ≡ make e)
 IsReadBy make text (Err f) = IsReadAs text (Err f) ⊎ (f ≡ fault.Panic NoRoom)
 
--- what the words are read as, where one of them is the text of a flip: the request for its numbers, or the
--- refusal of the text; out of memory words are refused before it is read
+-- what the words are read as, where one is the text of a flip: its request or refusal; out of memory none of it is read
 abbrev pub IsFlipReadBy : List ℕ → Result Request Fault → Type 0
 IsFlipReadBy text (Ok r) = (p : FlipParams) × IsFlipReadAs text (Ok p) × (r ≡ request.Flip p)
 IsFlipReadBy text (Err f) = IsFlipReadAs text (Err f) ⊎ (f ≡ fault.Panic NoRoom)

@@ -6,9 +6,8 @@ use Rattle.sgb_graph.specs.Graphs.{GraphData, chain_of}
 use Rattle.sgb_graph.specs.Events.{Event}
 use Rattle.sgb_graph.specs.declared.fields.Link.{Link}
 
--- of the list of v, the arcs whose tip is at least v. After a loop that is taken the next record is left out
--- if it has the next number, as the loop's other record has: whatever its tip is, and no other is left out
--- for it
+-- of the list of v, the arcs whose tip is at least v. After a loop that is taken the next record is left out if it has the
+-- next number, as the loop's other record has: whatever its tip is, and no other is left out for it
 unfoldable pub each_edge_once : ℕ → List Link → List Link
 each_edge_once v [] = []
 each_edge_once v (l ∷ []) = if nat_lt l.tip v then [] else l ∷ []

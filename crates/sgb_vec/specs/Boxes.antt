@@ -5,8 +5,7 @@ use Rattle.sgb_vec.specs.Limits.{most_dimensions, most_vertices}
 use Rattle.sgb_vec.specs.declared.panics.Panic.{Panic}
 use Rattle.sgb_vec.specs.declared.panics.Panic.TheVariants.{Bad, VeryBad}
 
--- the vectors below sizes: of none the empty one; else for each x below the first size those of the others
--- after x
+-- the vectors below sizes: of none the empty one; else for each x below the first size those of the others after x
 unfoldable pub box : List ℕ → List (List ℕ)
 box [] = [] ∷ []
 box (s ∷ sizes) = flat_map (λ x. map (λ v. x ∷ v) (box sizes)) (range_with_len 0 s)

@@ -21,8 +21,7 @@ stop_of (n ∷ rest) = n
 unfoldable pub repeated : List ℕ → ℕ → List ℕ
 repeated s k = map (λ i. slice_index s (i % length s)) (range_with_len 0 k)
 
--- how many sizes (more is 0) or bounds (more is 1): as many as stand before a stop of 0, d + more before one
--- of -d
+-- how many sizes (more is 0) or bounds (more is 1): as many as stand before a stop of 0, d + more before one of -d
 abbrev pub count_by_stop : ℕ → List ℕ → ℤ → ℕ
 count_by_stop more s (pos n) = length s
 count_by_stop more s (negsuc n) = n + 1 + more

@@ -15,8 +15,7 @@ pub record BoundedSum : Type 0 where
 unfoldable pub bounded_sums : ℕ → List ℕ → List (List ℕ)
 bounded_sums n bounds = filter (λ v. sum v == n) (box (map (λ b. b + 1) bounds))
 
--- for some j from 1 to d, of d + 1 bounds, and some k up to n, more vectors (x0, .., xj) within the bounds
--- add to k than a graph can have vertices
+-- for some j from 1 to d and k up to n, more vectors (x0, .., xj) within the bounds add to k than a graph can have vertices
 unfoldable pub has_great_count : ℕ → List ℕ → Bool
 has_great_count n bounds =
     list_any (λ j. list_any (λ k. nat_lt most_vertices (length (bounded_sums k (take (j + 1) bounds)))) (range_with_len 0 (n + 1)))
